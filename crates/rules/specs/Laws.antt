@@ -1,0 +1,10 @@
+-- Laws of the definitions, for the layers above to cite.
+pub mod Choices
+pub mod Outcomes
+pub mod Answers
+pub mod Texts
+pub mod Ahead
+pub mod FromAPlace
+pub mod Lengths
+pub mod Totals
+pub mod Written

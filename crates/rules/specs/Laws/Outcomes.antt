@@ -1,0 +1,94 @@
+-- Laws of outcomes: what holds of whatever an outcome got, and outcomes of which the places are moved. Assumes nothing.
+use mathlib.Core.Path.{_≡_, refl, ap}
+use mathlib.Core.Bool.{Bool, true, false}
+use Prim.Native.Nat.{ℕ, _+_}
+use Rattle.rules.specs.declared.Refusal.{Refusal}
+use Rattle.rules.specs.declared.Refusal.the-variants.{Nothing, SignEnds, DelimiterEnds, FractionOff, FractionEmpty, ExponentOff, ExponentByte, ExponentEnds, ExponentAbove, ExponentBelow, InfinityByte, InfinityEnds, InfinityGoesOn, ConjunctionEnds, ConjunctionGoesOn, NegativeForbidden, NoNumber, Delimiters, Conjunctions, DefaultKind, TableSize, BadRow, TextTooLong, NoRoom, Beyond, Malformed}
+use Rattle.rules.specs.Common.{if_then_else_}
+use Rattle.rules.specs.NumbersHandedBack.{Outcome, got, refused, _>>=_}
+
+-- ---- what holds of whatever is got
+
+pub data All {A : Type 0} (P : A → Type 0) : Outcome A → Type 0 where
+  all-got : {a : A} → P a → All P (got a)
+  all-refused : {cause : Refusal} → All P (refused cause)
+
+module _ {A : Type 0} {P : A → Type 0} where
+  pub of-got : {a : A} → All P (got a) → P a
+  of-got (all-got p) = p
+
+  -- of what was got, once it is known
+  pub all-of : {m : Outcome A} {a : A} → All P m → m ≡ got a → P a
+  all-of h e = of-got (rw e at h)
+
+  pub all-if : {b : Bool} {x y : Outcome A} → (b ≡ true → All P x) → (b ≡ false → All P y) → All P (if b then x else y)
+  unfolding if_then_else_
+  all-if {b} {x} {y} f g = go b f g
+    where
+      go : (c : Bool) → (c ≡ true → All P x) → (c ≡ false → All P y) → All P (if c then x else y)
+      go true f g = f refl
+      go false f g = g refl
+
+pub all-bind : {A B : Type 0} {P : A → Type 0} {Q : B → Type 0} {m : Outcome A} {next : A → Outcome B} → All P m → ((a : A) → P a → All Q (next a)) → All Q (m >>= next)
+unfolding _>>=_
+all-bind (all-got {a = a} p) f = f a p
+all-bind all-refused f = all-refused
+
+pub all-map : {A : Type 0} {P Q : A → Type 0} {m : Outcome A} → All P m → ((a : A) → P a → Q a) → All Q m
+all-map (all-got {a = a} p) f = all-got (f a p)
+all-map all-refused f = all-refused
+
+-- ---- moved by k places
+
+unfoldable pub later : ℕ → Refusal → Refusal
+later k (Nothing p) = Nothing (k + p)
+later k (SignEnds p) = SignEnds (k + p)
+later k (DelimiterEnds p) = DelimiterEnds (k + p)
+later k (FractionOff p) = FractionOff (k + p)
+later k (FractionEmpty p) = FractionEmpty (k + p)
+later k (ExponentOff p) = ExponentOff (k + p)
+later k (ExponentByte p) = ExponentByte (k + p)
+later k (ExponentEnds p) = ExponentEnds (k + p)
+later k (ExponentAbove p) = ExponentAbove (k + p)
+later k (ExponentBelow p) = ExponentBelow (k + p)
+later k (InfinityByte p) = InfinityByte (k + p)
+later k (InfinityEnds p) = InfinityEnds (k + p)
+later k (InfinityGoesOn p) = InfinityGoesOn (k + p)
+later k (ConjunctionEnds p) = ConjunctionEnds (k + p)
+later k (ConjunctionGoesOn p) = ConjunctionGoesOn (k + p)
+later k (NegativeForbidden p) = NegativeForbidden (k + p)
+later k (NoNumber p) = NoNumber (k + p)
+later k Delimiters = Delimiters
+later k Conjunctions = Conjunctions
+later k DefaultKind = DefaultKind
+later k TableSize = TableSize
+later k (BadRow i) = BadRow i
+later k TextTooLong = TextTooLong
+later k (NoRoom p) = NoRoom (k + p)
+later k (Beyond p) = Beyond (k + p)
+later k Malformed = Malformed
+
+-- the second outcome is the first with its places moved
+pub data Moved {A : Type 0} (move : ℕ → A → A) (k : ℕ) : Outcome A → Outcome A → Type 0 where
+  moved-got : {a : A} → Moved move k (got a) (got (move k a))
+  moved-refused : {cause : Refusal} → Moved move k (refused cause) (refused (later k cause))
+
+module _ {A : Type 0} {move : ℕ → A → A} {k : ℕ} where
+  pub moved-to : {a a′ : A} → a′ ≡ move k a → Moved move k (got a) (got a′)
+  moved-to e = rw e moved-got
+
+  pub moved-cause : {c c′ : Refusal} → c′ ≡ later k c → Moved move k (refused c) (refused c′)
+  moved-cause e = rw e moved-refused
+
+  pub moved-if : {b b′ : Bool} {x y x′ y′ : Outcome A} → b ≡ b′ → Moved move k x x′ → Moved move k y y′ → Moved move k (if b then x else y) (if b′ then x′ else y′)
+  unfolding if_then_else_
+  moved-if {b} {b′} {x} {y} {x′} {y′} e f g = rw (← e) (go b)
+    where
+      go : (c : Bool) → Moved move k (if c then x else y) (if c then x′ else y′)
+      go true = f
+      go false = g
+
+  pub moved-bind : {B : Type 0} {moveB : ℕ → B → B} {m m′ : Outcome B} (next next′ : B → Outcome A) → Moved moveB k m m′ → ((b : B) → Moved move k (next b) (next′ (moveB k b))) → Moved move k (m >>= next) (m′ >>= next′)
+  unfolding _>>=_
+  moved-bind next next′ (moved-got {a = b}) f = f b
+  moved-bind next next′ moved-refused f = moved-refused
