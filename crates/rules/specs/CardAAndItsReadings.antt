@@ -13,7 +13,7 @@ use Rattle.rules.specs.declared.Settings.{Settings}
 use Rattle.rules.specs.Common.{ascii, all}
 use Rattle.rules.specs.ThePartOfTheCrateWeTake.{zero-length, largest}
 use Rattle.rules.specs.NumbersHandedBack.{done}
-use Rattle.rules.specs.SettingsAndUnitTable.{name-room, low-bytes, low-first}
+use Rattle.rules.specs.SettingsAndUnitTable.{name-room, coefficient-size, power-size, low-bytes, low-first}
 use Rattle.rules.specs.WhatEveryEntryOwes.{total-answer}
 use Rattle.rules.specs.Computing.{computing}
 
@@ -57,8 +57,8 @@ row-of n kind coefficient power =
     ∷ ascii n
     ++ replicate (name-room - length (ascii n)) 0
     ++ kind
-    ∷ low-bytes 8 coefficient
-    ++ low-bytes 2 power
+    ∷ low-bytes coefficient-size coefficient
+    ++ low-bytes power-size power
     ++ replicate 4 0
 
 unfoldable pub table-A : List ℕ

@@ -136,11 +136,18 @@ kind-at = name-at + name-room
 abbrev pub coefficient-at : ℕ
 coefficient-at = kind-at + 1
 
+-- how many bytes a coefficient and a power have
+abbrev pub coefficient-size : ℕ
+coefficient-size = 8
+
+abbrev pub power-size : ℕ
+power-size = 2
+
 abbrev pub power-at : ℕ
-power-at = coefficient-at + 8
+power-at = coefficient-at + coefficient-size
 
 abbrev pub zeros-at : ℕ
-zeros-at = power-at + 2
+zeros-at = power-at + power-size
 
 abbrev pub row-size : ℕ
 row-size = zeros-at + 4
@@ -169,24 +176,24 @@ low-first [] = 0
 low-first (b ∷ bs) = b + 256 * low-first bs
 
 unfoldable pub coefficient-field : List ℕ → ℕ
-coefficient-field r = low-first (take 8 (drop coefficient-at r))
+coefficient-field r = low-first (take coefficient-size (drop coefficient-at r))
 
 unfoldable pub power-field : List ℕ → ℕ
-power-field r = low-first (take 2 (drop power-at r))
+power-field r = low-first (take power-size (drop power-at r))
 
--- two's complement of `bits` bits: sign, and magnitude
+-- two's complement of so many bytes: sign, and magnitude
 unfoldable pub below-zero : ℕ → ℕ → Bool
-below-zero bits x = leb (2 ^ (bits - 1)) x
+below-zero bytes x = leb (256 ^ bytes / 2) x
 
 unfoldable pub magnitude : ℕ → ℕ → ℕ
-magnitude bits x = if below-zero bits x then 2 ^ bits - x else x
+magnitude bytes x = if below-zero bytes x then 256 ^ bytes - x else x
 
 unfoldable pub row-multiplier : List ℕ → Multiplier
 row-multiplier r = record {
-  negative = below-zero 64 (coefficient-field r);
-  coefficient = magnitude 64 (coefficient-field r);
-  up = if below-zero 16 (power-field r) then 0 else power-field r;
-  down = if below-zero 16 (power-field r) then magnitude 16 (power-field r) else 0;
+  negative = below-zero coefficient-size (coefficient-field r);
+  coefficient = magnitude coefficient-size (coefficient-field r);
+  up = if below-zero power-size (power-field r) then 0 else power-field r;
+  down = if below-zero power-size (power-field r) then magnitude power-size (power-field r) else 0;
 }
 
 -- coefficients multiplied, powers added
