@@ -2,6 +2,7 @@
 pub mod Choices
 pub mod Outcomes
 pub mod Answers
+pub mod Tables
 pub mod Texts
 pub mod Ahead
 pub mod FromAPlace

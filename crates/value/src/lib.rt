@@ -1,0 +1,2 @@
+// From digits to a length: powers, classes and kinds, digit runs, evaluation and the sum.
+pub mod tables;
