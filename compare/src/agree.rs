@@ -1,0 +1,57 @@
+//! Comparing the plain reading with the crate on made requests.
+
+use crate::card_a::same_answer;
+use crate::crate_side::{CrateAnswer, ask};
+use crate::make::Maker;
+use crate::plain;
+use crate::request::Request;
+
+/// So many differing requests are shown in full.
+const MOST_SHOWN: u64 = 10;
+
+/// True if plain and crate agree wherever document 01 lets them be compared.
+pub fn agree(seed: u64, count: u64) -> bool {
+    let (mut compared, mut left_out, mut differing) = (0_u64, 0_u64, 0_u64);
+    for made in Maker::new(seed).take(count as usize) {
+        let Some(request) = through_a_line(&made) else {
+            compared += 1;
+            differing += 1;
+            println!("differs from itself when printed and read: {made}");
+            continue;
+        };
+        let plain_answer = match &request {
+            Request::Total { card, text } => plain::total(card, text),
+            Request::Part { place, card, text } => plain::part(card, text, *place),
+            Request::Shift { .. } | Request::Write { .. } => continue,
+        };
+        let crate_answer = ask(&request);
+        let same = match &crate_answer {
+            CrateAnswer::LeftOut => {
+                left_out += 1;
+                continue;
+            }
+            CrateAnswer::Says(answer) => same_answer(answer, &plain_answer),
+            CrateAnswer::Loud(_) => false,
+        };
+        compared += 1;
+        if same {
+            continue;
+        }
+        differing += 1;
+        if differing <= MOST_SHOWN {
+            println!("differs: {request}");
+            println!("    plain {plain_answer}");
+            println!("    crate {crate_answer}");
+        }
+    }
+    println!("seed {seed}: {compared} compared, {left_out} left out, {differing} differing");
+    differing == 0
+}
+
+/// The request as printed on a line and read from it, if it is still the same;
+/// so the line format is under test as well.
+fn through_a_line(made: &Request) -> Option<Request> {
+    Request::parse(&made.to_string())
+        .ok()
+        .filter(|read| read == made)
+}

@@ -1,0 +1,115 @@
+//! Card A of document 01 and its readings.
+
+use crate::crate_side::{CrateAnswer, ask};
+use crate::request::{Answer, ByteSet, Card, Conjunctions, Length, Request, Switches};
+use crate::table::{Row, table_bytes};
+
+/// All switches on but the one after a sign; both sets hold the space.
+pub fn card_a() -> Card {
+    let rows = [
+        row("ns", 0, 1, 0),
+        row("ms", 2, 1, 0),
+        row("s", 3, 1, 0),
+        row("min", 4, 1, 0),
+        row("turn", 2, 123, -1),
+        row("block", 3, 10_000_000_000, 0),
+    ];
+    Card {
+        switches: Switches {
+            negatives: true,
+            fractions: true,
+            exponents: true,
+            infinity: true,
+            ago: true,
+            sign_delimiter: false,
+            unit_delimiter: true,
+        },
+        inner: ByteSet::of(b" "),
+        outer: ByteSet::of(b" "),
+        conjunctions: Conjunctions::of(&[b"and".to_vec()]),
+        kind: 3,
+        table: table_bytes(&rows),
+    }
+}
+
+pub fn row(name: &str, kind: u8, coefficient: i64, power: i16) -> Row {
+    Row {
+        name: name.as_bytes().to_vec(),
+        kind,
+        coefficient,
+        power,
+    }
+}
+
+/// The table "Card A and its readings" and the line program's example.
+fn readings() -> Vec<(&'static str, Answer)> {
+    vec![
+        ("61.7ms", reads("61.7ms", '+', 0, 61_700_000)),
+        ("", Answer::refusal(1, 0)),
+        (".", Answer::refusal(2, 0)),
+        ("1.", reads("1.", '+', 1, 0)),
+        ("1e-32768", reads("1e-32768", '+', 0, 0)),
+        ("1e32768", Answer::refusal(3, 0)),
+        (
+            "18446744073709551615s",
+            reads("18446744073709551615s", '+', u64::MAX, 0),
+        ),
+        (
+            "18446744073709551616s",
+            reads("18446744073709551616s", '+', u64::MAX, 999_999_999),
+        ),
+        ("1.9e-18block", reads("1.9e-18block", '+', 0, 10)),
+        ("3turn", reads("3turn", '+', 0, 36_900_000)),
+        ("1.5.5", reads("1.5.5", '+', 2, 0)),
+        ("1s and 2ms", reads("1s and 2ms", '+', 1, 2_000_000)),
+        ("1 and 2", Answer::refusal(6, 2)),
+        ("1s android", Answer::refusal(2, 6)),
+        ("1s and", Answer::refusal(2, 3)),
+        ("-2s ago", reads("-2s ago", '+', 2, 0)),
+        ("1s ", Answer::refusal(2, 2)),
+        ("inf+1", Answer::refusal(2, 3)),
+        ("infi", Answer::refusal(2, 0)),
+        ("+1.5-2+0", reads("+1.5-2+0", '-', 0, 500_000_000)),
+        ("2s ago", reads("2s ago", '-', 2, 0)),
+        (" ", Answer::refusal(6, 0)),
+    ]
+}
+
+/// The answer of a total that is read: its position is the text's length.
+fn reads(text: &str, sign: char, seconds: u64, nanos: u64) -> Answer {
+    let length = Length {
+        negative: sign == '-',
+        seconds,
+        nanos,
+    };
+    Answer::success(text.len() as u64, length)
+}
+
+/// Whether the crate's answer is the one wanted; for 1 and 6 the crate gives no
+/// place, so only the number counts there.
+pub fn same_answer(crate_answer: &Answer, wanted: &Answer) -> bool {
+    crate_answer.number == wanted.number
+        && crate_answer.length == wanted.length
+        && (crate_answer.position.is_none() || crate_answer.position == wanted.position)
+}
+
+/// Asks the crate for every reading of card A; true if all are the document's.
+pub fn check() -> bool {
+    let mut all_as_written = true;
+    for (text, wanted) in readings() {
+        let request = Request::Total {
+            card: card_a(),
+            text: text.as_bytes().to_vec(),
+        };
+        let answer = ask(&request);
+        let as_written =
+            matches!(&answer, CrateAnswer::Says(answer) if same_answer(answer, &wanted));
+        if as_written {
+            println!("`{text}` -> {answer} (as document 01)");
+        } else {
+            println!("`{text}` -> {answer} (DIFFERENT: document 01 has {wanted})");
+        }
+        all_as_written &= as_written;
+    }
+    all_as_written
+}

@@ -1,0 +1,807 @@
+//! Cases at the limits, with answers written by hand from document 01: for the
+//! numbers the crate does not have, 7 to 11, and for what a lent record or
+//! buffer holds afterwards. Each limit is tried from both sides.
+
+use std::fmt::Write as _;
+use std::fs;
+
+use crate::card_a::{card_a, row};
+use crate::plain;
+use crate::request::{
+    Answer, ByteSet, Card, Conjunctions, Length, Request, bytes_field, parse_bytes,
+};
+use crate::table::ROW_BYTES;
+
+/// The place of the kind in a row, and of the first of the four zeros.
+const KIND: usize = 17;
+const ZEROS: usize = 28;
+
+/// The seconds of MAX, and its nanoseconds.
+const MOST: u64 = 18_446_744_073_709_551_615;
+const NINES: u64 = 999_999_999;
+
+struct Case {
+    name: String,
+    request: Request,
+    answer: String,
+}
+
+fn case(name: impl Into<String>, request: Request, answer: impl Into<String>) -> Case {
+    Case {
+        name: name.into(),
+        request,
+        answer: answer.into(),
+    }
+}
+
+/// The whole list, each name led by its group's.
+fn cases() -> Vec<Case> {
+    let groups = [
+        ("delimiters", delimiters()),
+        ("conjunctions", conjunctions()),
+        ("default kind", default_kind()),
+        ("table size", table_size()),
+        ("row layout", row_layout()),
+        ("row name", row_names()),
+        ("equal names", equal_names()),
+        ("coefficient", coefficients()),
+        ("power", powers()),
+        ("first bad row", first_bad_row()),
+        ("order", order_of_refusals()),
+        ("text size", text_size()),
+        ("place", places()),
+        ("record", records()),
+        ("buffer", buffers()),
+        ("shift", shifts()),
+        ("refused shift", shifts_refused()),
+    ];
+    let mut list = Vec::new();
+    for (group, cases) in groups {
+        for case in cases {
+            let name = format!("{group}: {}", case.name);
+            list.push(Case { name, ..case });
+        }
+    }
+    list
+}
+
+// The commands.
+
+/// Writes the requests into one file and the answers into another.
+pub fn write_files(requests_path: &str, answers_path: &str) -> Result<bool, String> {
+    let (mut requests, mut answers) = (String::new(), String::new());
+    for case in cases() {
+        let _ = writeln!(requests, "{}", case.request);
+        let _ = writeln!(answers, "{}", case.answer);
+    }
+    for (path, lines) in [(requests_path, requests), (answers_path, answers)] {
+        fs::write(path, lines).map_err(|error| format!("{path}: {error}"))?;
+    }
+    Ok(true)
+}
+
+/// Asks the plain reading for every case; true if it answers all as written
+/// here. It is asked by the printed line, so the line format is under test too.
+pub fn check() -> Result<bool, String> {
+    let cases = cases();
+    let mut same = 0;
+    for case in &cases {
+        let line = case.request.to_string();
+        let plain_answer = plain::answer_line(&Request::parse(&line)?);
+        if outcome(&plain_answer)? == outcome(&case.answer)? {
+            same += 1;
+        } else {
+            println!("differs: {}", case.name);
+            println!("    {line}");
+            println!("    plain {plain_answer}");
+            println!("    limit {}", case.answer);
+        }
+    }
+    let all = cases.len();
+    println!("{all} cases at the limits, {same} answered the same by the plain reading");
+    Ok(same == all)
+}
+
+/// An answer line taken apart: bytes may be folded on one line and not on
+/// another, and are still the same bytes.
+#[derive(PartialEq)]
+struct Outcome {
+    answer: Answer,
+    after: After,
+}
+
+/// What is lent to be changed, as it is afterwards.
+#[derive(PartialEq)]
+enum After {
+    Nothing,
+    Record(Length),
+    Buffer(Vec<u8>),
+}
+
+fn outcome(line: &str) -> Result<Outcome, String> {
+    let taken_apart = || {
+        let fields: Vec<&str> = line.split(' ').collect();
+        let [number, position, sign, seconds, nanos, after @ ..] = fields.as_slice() else {
+            return None;
+        };
+        let answer = Answer {
+            number: number.parse().ok()?,
+            position: Some(position.parse().ok()?),
+            length: length(sign, seconds, nanos)?,
+        };
+        let after = match after {
+            [] => After::Nothing,
+            [buffer] => After::Buffer(parse_bytes(buffer).ok()?),
+            [sign, seconds, nanos] => After::Record(length(sign, seconds, nanos)?),
+            _ => return None,
+        };
+        Some(Outcome { answer, after })
+    };
+    taken_apart().ok_or_else(|| format!("`{line}` is no answer"))
+}
+
+fn length(sign: &str, seconds: &str, nanos: &str) -> Option<Length> {
+    let (seconds, nanos) = (seconds.parse().ok()?, nanos.parse().ok()?);
+    match sign {
+        "+" => Some(plus(seconds, nanos)),
+        "-" => Some(minus(seconds, nanos)),
+        _ => None,
+    }
+}
+
+// Builders.
+
+fn total(card: Card, text: impl AsRef<[u8]>) -> Request {
+    let text = text.as_ref().to_vec();
+    Request::Total { card, text }
+}
+
+fn part(place: u64, card: Card, text: impl AsRef<[u8]>) -> Request {
+    let text = text.as_ref().to_vec();
+    Request::Part { place, card, text }
+}
+
+fn shift(record: Length, card: Card, text: impl AsRef<[u8]>) -> Request {
+    let text = text.as_ref().to_vec();
+    Request::Shift { record, card, text }
+}
+
+fn write(record: Length, place: u64, buffer: impl AsRef<[u8]>) -> Request {
+    let buffer = buffer.as_ref().to_vec();
+    Request::Write {
+        record,
+        place,
+        buffer,
+    }
+}
+
+/// The answer line of a write: the answer, and the buffer afterwards.
+fn wrote(answer: &str, buffer: impl AsRef<[u8]>) -> String {
+    format!("{answer} {}", bytes_field(buffer.as_ref()))
+}
+
+fn plus(seconds: u64, nanos: u64) -> Length {
+    Length {
+        negative: false,
+        seconds,
+        nanos,
+    }
+}
+
+fn minus(seconds: u64, nanos: u64) -> Length {
+    Length {
+        negative: true,
+        seconds,
+        nanos,
+    }
+}
+
+/// A text of so many bytes that reads as one second: zeros and a one.
+fn text(size: usize) -> String {
+    format!("{}1", "0".repeat(size - 1))
+}
+
+/// Card A, in which a case changes one thing.
+fn card() -> Card {
+    card_a()
+}
+
+impl Card {
+    fn with_inner(mut self, bytes: &[u8]) -> Self {
+        self.inner = ByteSet::of(bytes);
+        self
+    }
+
+    fn with_outer(mut self, bytes: &[u8]) -> Self {
+        self.outer = ByteSet::of(bytes);
+        self
+    }
+
+    /// A count of conjunctions, and the first slots by length and letters.
+    fn with_words(mut self, count: u8, words: &[(u8, &[u8])]) -> Self {
+        let mut slots = [(0, [0; 8]); 4];
+        for (slot, (length, letters)) in slots.iter_mut().zip(words) {
+            slot.0 = *length;
+            slot.1[..letters.len()].copy_from_slice(letters);
+        }
+        self.conjunctions = Conjunctions { count, slots };
+        self
+    }
+
+    /// One conjunction, of length 3.
+    fn with_word(self, letters: &[u8; 3]) -> Self {
+        self.with_words(1, &[(3, letters)])
+    }
+
+    fn with_kind(mut self, kind: u8) -> Self {
+        self.kind = kind;
+        self
+    }
+
+    fn with_rows(mut self, rows: &[[u8; ROW_BYTES]]) -> Self {
+        self.table = rows.concat();
+        self
+    }
+
+    /// A table of so many bytes, cut from good rows.
+    fn with_size(mut self, size: usize) -> Self {
+        self.table = rows(size.div_ceil(ROW_BYTES)).concat();
+        self.table.truncate(size);
+        self
+    }
+
+    fn without_negatives(mut self) -> Self {
+        self.switches.negatives = false;
+        self
+    }
+}
+
+/// A row called `x`.
+fn unit(kind: u8, coefficient: i64, power: i16) -> [u8; ROW_BYTES] {
+    row("x", kind, coefficient, power).to_bytes()
+}
+
+/// A second by another name, of 1 to 16 bytes.
+fn named(name: &str) -> [u8; ROW_BYTES] {
+    row(name, 3, 1, 0).to_bytes()
+}
+
+/// The row with some bytes changed, each given by its place.
+fn changed(mut row: [u8; ROW_BYTES], changes: &[(usize, u8)]) -> [u8; ROW_BYTES] {
+    for (place, byte) in changes {
+        row[*place] = *byte;
+    }
+    row
+}
+
+/// So many seconds by different names: `aa`, `ab`, and on to `az`, `ba`.
+fn rows(count: usize) -> Vec<[u8; ROW_BYTES]> {
+    let letter = |number: usize| char::from(b'a' + number as u8);
+    let name = |index: usize| format!("{}{}", letter(index / 26), letter(index % 26));
+    (0..count).map(|index| named(&name(index))).collect()
+}
+
+// The list. It is kept one case a line where that can be, which rustfmt would break.
+
+// 7 at 65: a byte alone in one of the two sets, and a text that uses it there.
+#[rustfmt::skip]
+fn delimiters() -> Vec<Case> {
+    let mut cases = vec![
+        case("no inner", total(card().with_inner(b""), "1s 2s"), "0 5 + 3 0"),
+        case("no outer", total(card().with_outer(b""), "1 s"), "0 3 + 1 0"),
+        case("neither", total(card().with_inner(b"").with_outer(b""), "1s2s"), "0 4 + 3 0"),
+        case("inner, wrong one last", total(card().with_inner(b" ,\x80"), "1"), "7 65 + 0 0"),
+        case("outer, wrong one last", total(card().with_outer(b" ,\x80"), "1"), "7 65 + 0 0"),
+        case("inner, wrong one first", total(card().with_inner(b"+,/"), "1"), "7 65 + 0 0"),
+        case("outer, wrong one first", total(card().with_outer(b"+,/"), "1"), "7 65 + 0 0"),
+        case("inner, part", part(0, card().with_inner(b"\x80"), "1"), "7 65 + 0 0"),
+        case("outer, part", part(0, card().with_outer(b"\x80"), "1"), "7 65 + 0 0"),
+    ];
+    // 0 and 127 are the ends; the others stand beside signs, point, digits and letters.
+    for byte in [0, b'*', b',', b'/', b':', b'@', b'[', b'`', b'{', 127] {
+        let (inner, outer) = (card().with_inner(&[byte]), card().with_outer(&[byte]));
+        let (before_unit, between) = ([b'1', byte, b's'], [b'1', b's', byte, b'2', b's']);
+        cases.push(case(format!("inner {byte}"), total(inner, before_unit), "0 3 + 1 0"));
+        cases.push(case(format!("outer {byte}"), total(outer, between), "0 5 + 3 0"));
+    }
+    for byte in [b'+', b'-', b'.', b'0', b'9', b'A', b'Z', b'a', b'z', 128, 255] {
+        let (inner, outer) = (card().with_inner(&[byte]), card().with_outer(&[byte]));
+        cases.push(case(format!("inner {byte}"), total(inner, "1"), "7 65 + 0 0"));
+        cases.push(case(format!("outer {byte}"), total(outer, "1"), "7 65 + 0 0"));
+    }
+    cases
+}
+
+// 7 at 66: the count, then lengths, then letters, then what is not looked at.
+#[rustfmt::skip]
+fn conjunctions() -> Vec<Case> {
+    let four: [(u8, &[u8]); 4] = [(3, b"and"), (2, b"or"), (4, b"plus"), (4, b"then")];
+    let fourth_wrong: [(u8, &[u8]); 4] = [(3, b"and"), (2, b"or"), (4, b"plus"), (4, b"the!")];
+    let all_wrong: [(u8, &[u8]); 4] = [(0, b""), (9, b"together"), (255, b"and"), (1, b"1")];
+    let mut cases = vec![
+        case("count 0", total(card().with_words(0, &[]), "1s 2s"), "0 5 + 3 0"),
+        case("count 4", total(card().with_words(4, &four), "1s then 2s"), "0 10 + 3 0"),
+        case("count 5", total(card().with_words(5, &four), "1"), "7 66 + 0 0"),
+        case("count 255", total(card().with_words(255, &four), "1"), "7 66 + 0 0"),
+        case("the same twice", total(card().with_words(2, &[(1, b"a"), (1, b"a")]), "1s a 2s"), "0 7 + 3 0"),
+
+        case("length 0", total(card().with_words(1, &[(0, b"")]), "1"), "7 66 + 0 0"),
+        case("length 0, letters", total(card().with_words(1, &[(0, b"and")]), "1"), "7 66 + 0 0"),
+        case("length 1", total(card().with_words(1, &[(1, b"a")]), "1s a 2s"), "0 7 + 3 0"),
+        case("length 8", total(card().with_words(1, &[(8, b"together")]), "1s together 2s"), "0 14 + 3 0"),
+        case("length 9", total(card().with_words(1, &[(9, b"together")]), "1"), "7 66 + 0 0"),
+        case("length 255", total(card().with_words(1, &[(255, b"together")]), "1"), "7 66 + 0 0"),
+        case("second of length 0", total(card().with_words(2, &[(3, b"and"), (0, b"")]), "1"), "7 66 + 0 0"),
+        case("second of length 9", total(card().with_words(2, &[(3, b"and"), (9, b"together")]), "1"), "7 66 + 0 0"),
+
+        case("eighth letter", total(card().with_words(1, &[(8, b"togethe1")]), "1"), "7 66 + 0 0"),
+        case("letter in the middle", total(card().with_word(b"a d"), "1"), "7 66 + 0 0"),
+        case("fourth", total(card().with_words(4, &fourth_wrong), "1"), "7 66 + 0 0"),
+        case("part", part(0, card().with_word(b"an1"), "1"), "7 66 + 0 0"),
+
+        case("past the length", total(card().with_words(1, &[(3, b"and\xff\0@1 ")]), "1s and 2s"), "0 9 + 3 0"),
+        case("just past it", total(card().with_words(1, &[(7, b"togethe1")]), "1s togethe 2s"), "0 13 + 3 0"),
+        case("past a count of 3", total(card().with_words(3, &fourth_wrong), "1s plus 2s"), "0 10 + 3 0"),
+        case("past a count of 0", total(card().with_words(0, &all_wrong), "1s 2s"), "0 5 + 3 0"),
+    ];
+    for letter in [b'A', b'Z', b'a', b'z'] {
+        let (first, last) = ([letter, b'n', b'd'], [b'a', b'n', letter]);
+        let between = |word: [u8; 3]| [*b"1s ", word, *b" 2s"].concat();
+        cases.push(case(format!("first {letter}"), total(card().with_word(&first), between(first)), "0 9 + 3 0"));
+        cases.push(case(format!("last {letter}"), total(card().with_word(&last), between(last)), "0 9 + 3 0"));
+    }
+    for byte in [0, b'0', b'@', b'[', b'`', b'{', 200] {
+        let (first, last) = ([byte, b'n', b'd'], [b'a', b'n', byte]);
+        cases.push(case(format!("first {byte}"), total(card().with_word(&first), "1"), "7 66 + 0 0"));
+        cases.push(case(format!("last {byte}"), total(card().with_word(&last), "1"), "7 66 + 0 0"));
+    }
+    cases
+}
+
+// 7 at 67: the default kind.
+#[rustfmt::skip]
+fn default_kind() -> Vec<Case> {
+    vec![
+        case("default kind 0", total(card().with_kind(0), "1"), "0 1 + 0 1"),
+        case("default kind 7", total(card().with_kind(7), "1"), "0 1 + 604800 0"),
+        case("default kind 8", total(card().with_kind(8), "1"), "7 67 + 0 0"),
+        case("default kind 8, unused", total(card().with_kind(8), "1s"), "7 67 + 0 0"),
+        case("default kind 8, part", part(0, card().with_kind(8), "1"), "7 67 + 0 0"),
+        case("default kind 255", total(card().with_kind(255), "1"), "7 67 + 0 0"),
+    ]
+}
+
+// 7 at 64: the size of the table; `ai` is the row 8, `cl` the row 63.
+#[rustfmt::skip]
+fn table_size() -> Vec<Case> {
+    vec![
+        case("no rows", total(card().with_size(0), "1"), "0 1 + 1 0"),
+        case("no rows, a name", total(card().with_size(0), "1s"), "6 1 + 0 0"),
+        case("1 byte", total(card().with_size(1), "1"), "7 64 + 0 0"),
+        case("31 bytes", total(card().with_size(31), "1"), "7 64 + 0 0"),
+        case("1 row", total(card().with_size(32), "1aa"), "0 3 + 1 0"),
+        case("33 bytes", total(card().with_size(33), "1"), "7 64 + 0 0"),
+        case("9 rows", total(card().with_size(288), "1ai"), "0 3 + 1 0"),
+        case("2047 bytes", total(card().with_size(2047), "1"), "7 64 + 0 0"),
+        case("64 rows", total(card().with_rows(&rows(64)), "1cl"), "0 3 + 1 0"),
+        case("64 rows, part", part(0, card().with_rows(&rows(64)), "1cl"), "0 3 + 1 0"),
+        case("2049 bytes", total(card().with_size(2049), "1"), "7 64 + 0 0"),
+        case("65 rows", total(card().with_rows(&rows(65)), "1"), "7 64 + 0 0"),
+        case("65 rows, part", part(0, card().with_rows(&rows(65)), "1"), "7 64 + 0 0"),
+        case("256 rows", total(card().with_rows(&rows(256)), "1"), "7 64 + 0 0"),
+    ]
+}
+
+// 7 at a row: lengths, bytes that must be zero, kinds; first four rows byte by byte.
+#[rustfmt::skip]
+fn row_layout() -> Vec<Case> {
+    let turn = b"\x04turn\0\0\0\0\0\0\0\0\0\0\0\0\x02\x7b\0\0\0\0\0\0\0\xff\xff\0\0\0\0";
+    let low_first = b"\x01x\0\0\0\0\0\0\0\0\0\0\0\0\0\0\0\x03\x08\x07\x06\x05\x04\x03\x02\x01\0\0\0\0\0\0";
+    let minus_two = b"\x01x\0\0\0\0\0\0\0\0\0\0\0\0\0\0\0\x03\xfe\xff\xff\xff\xff\xff\xff\xff\0\0\0\0\0\0";
+    let power_258 = b"\x01x\0\0\0\0\0\0\0\0\0\0\0\0\0\0\0\x03\x01\0\0\0\0\0\0\0\x02\x01\0\0\0\0";
+    let one = |row| card().with_rows(&[row]);
+    let x = named("x");
+    let longest = named("abcdefghijklmnop");
+    let fifteen = named("abcdefghijklmno");
+    vec![
+        case("turn", total(one(*turn), "3turn"), "0 5 + 0 36900000"),
+        case("coefficient low byte first", total(one(*low_first), "1x"), "0 2 + 72623859790382856 0"),
+        case("coefficient -2", total(one(*minus_two), "1x"), "0 2 - 2 0"),
+        case("power 258", total(one(*power_258), "1e-258x"), "0 7 + 1 0"),
+
+        case("name length 0", total(one(changed(x, &[(0, 0), (1, 0)])), "1"), "7 0 + 0 0"),
+        case("name length 0, a letter", total(one(changed(x, &[(0, 0)])), "1"), "7 0 + 0 0"),
+        case("all zeros", total(one([0; 32]), "1"), "7 0 + 0 0"),
+        case("name length 1", total(one(x), "1x"), "0 2 + 1 0"),
+        case("name length 16", total(one(longest), "1abcdefghijklmnop"), "0 17 + 1 0"),
+        case("name length 17", total(one(changed(longest, &[(0, 17)])), "1"), "7 0 + 0 0"),
+        case("name length 255", total(one(changed(longest, &[(0, 255)])), "1"), "7 0 + 0 0"),
+
+        case("letter after the name", total(one(changed(x, &[(2, b'y')])), "1"), "7 0 + 0 0"),
+        case("letter in the name", total(one(changed(x, &[(0, 2), (2, b'y')])), "1xy"), "0 3 + 1 0"),
+        case("last name byte, x", total(one(changed(x, &[(16, 1)])), "1"), "7 0 + 0 0"),
+        case("name length 15", total(one(fifteen), "1abcdefghijklmno"), "0 16 + 1 0"),
+        case("last name byte, 15", total(one(changed(fifteen, &[(16, 255)])), "1"), "7 0 + 0 0"),
+
+        case("kind 0", total(one(unit(0, 1, 0)), "1x"), "0 2 + 0 1"),
+        case("kind 7", total(one(unit(7, 1, 0)), "1x"), "0 2 + 604800 0"),
+        case("kind 8", total(one(unit(8, 1, 0)), "1"), "7 0 + 0 0"),
+        case("kind 255", total(one(unit(255, 1, 0)), "1"), "7 0 + 0 0"),
+
+        case("first zero", total(one(changed(x, &[(ZEROS, 1)])), "1"), "7 0 + 0 0"),
+        case("second zero", total(one(changed(x, &[(ZEROS + 1, 1)])), "1"), "7 0 + 0 0"),
+        case("third zero", total(one(changed(x, &[(ZEROS + 2, 1)])), "1"), "7 0 + 0 0"),
+        case("fourth zero", total(one(changed(x, &[(ZEROS + 3, 255)])), "1"), "7 0 + 0 0"),
+    ]
+}
+
+// 7 at a row: bytes that no name may hold, first, inside and last, and those beside them.
+#[rustfmt::skip]
+fn row_names() -> Vec<Case> {
+    let one = |name| card().with_rows(&[named(name)]);
+    let inner_only = |name| one(name).with_inner(b" ,");
+    let outer_only = |name| one(name).with_outer(b" /");
+    vec![
+        case("comma, no delimiter", total(one("a,b"), "1a,b"), "0 4 + 1 0"),
+        case("comma, inner only", total(inner_only("a,b"), "1"), "7 0 + 0 0"),
+        case("comma, inner only, first", total(inner_only(",a"), "1"), "7 0 + 0 0"),
+        case("comma, inner only, last", total(inner_only("a,"), "1"), "7 0 + 0 0"),
+        case("slash, inner has the comma", total(inner_only("a/b"), "1a/b"), "0 4 + 1 0"),
+        case("slash, no delimiter", total(one("a/b"), "1a/b"), "0 4 + 1 0"),
+        case("slash, outer only", total(outer_only("a/b"), "1"), "7 0 + 0 0"),
+        case("slash, outer only, first", total(outer_only("/a"), "1"), "7 0 + 0 0"),
+        case("slash, outer only, last", total(outer_only("a/"), "1"), "7 0 + 0 0"),
+        case("comma, outer has the slash", total(outer_only("a,b"), "1a,b"), "0 4 + 1 0"),
+        case("space, in both", total(one("a b"), "1"), "7 0 + 0 0"),
+
+        case("digit 0", total(one("a0b"), "1"), "7 0 + 0 0"),
+        case("digit 9, first", total(one("9a"), "1"), "7 0 + 0 0"),
+        case("digit 5, last", total(one("a5"), "1"), "7 0 + 0 0"),
+        case("plus", total(one("a+b"), "1"), "7 0 + 0 0"),
+        case("plus, alone", total(one("+"), "1"), "7 0 + 0 0"),
+        case("minus", total(one("a-b"), "1"), "7 0 + 0 0"),
+        case("minus, last of 16", total(one("abcdefghijklmno-"), "1"), "7 0 + 0 0"),
+        case("point", total(one("a.b"), "1"), "7 0 + 0 0"),
+        case("point, first", total(one(".a"), "1"), "7 0 + 0 0"),
+        case("beside them", total(one("*,/:"), "1*,/:"), "0 5 + 1 0"),
+        case("over 127", total(one("µs"), "1µs"), "0 4 + 1 0"),
+        case("byte 0", total(one("\0"), "1\0"), "0 2 + 1 0"),
+    ]
+}
+
+// 7 at a row: equal names, the later row being the bad one, and names that nearly are.
+#[rustfmt::skip]
+fn equal_names() -> Vec<Case> {
+    let names = |names: &[&str]| {
+        let rows: Vec<_> = names.iter().map(|name| named(name)).collect();
+        card().with_rows(&rows)
+    };
+    let other_unit = card().with_rows(&[unit(3, 1, 0), unit(4, 2, 0)]);
+    let first_and_last = card().with_rows(&[rows(63), vec![named("aa")]].concat());
+    vec![
+        case("neighbours", total(names(&["a", "a"]), "1"), "7 1 + 0 0"),
+        case("neighbours, other unit", total(other_unit, "1"), "7 1 + 0 0"),
+        case("two apart", total(names(&["a", "b", "a"]), "1"), "7 2 + 0 0"),
+        case("three apart", total(names(&["a", "b", "c", "a"]), "1"), "7 3 + 0 0"),
+        case("last two", total(names(&["a", "b", "c", "c"]), "1"), "7 3 + 0 0"),
+        case("first of 64 and last", total(first_and_last, "1"), "7 63 + 0 0"),
+        case("three times", total(names(&["a", "a", "a"]), "1"), "7 1 + 0 0"),
+        case("two pairs", total(names(&["a", "b", "b", "a"]), "1"), "7 2 + 0 0"),
+        case("16 bytes", total(names(&["abcdefghijklmnop", "abcdefghijklmnop"]), "1"), "7 1 + 0 0"),
+        case("16 bytes but the last", total(names(&["abcdefghijklmnop", "abcdefghijklmnoq"]), "1abcdefghijklmnoq"),
+            "0 17 + 1 0"),
+        case("16 bytes but the first", total(names(&["abcdefghijklmnop", "bbcdefghijklmnop"]), "1bbcdefghijklmnop"),
+            "0 17 + 1 0"),
+        case("last byte", total(names(&["ab", "ac"]), "1ac"), "0 3 + 1 0"),
+        case("longer", total(names(&["ab", "abc"]), "1abc"), "0 4 + 1 0"),
+        case("shorter", total(names(&["abc", "ab"]), "1ab"), "0 3 + 1 0"),
+        case("longer by a byte 0", total(names(&["a", "a\0"]), "1a\0"), "0 3 + 1 0"),
+        case("other case", total(names(&["a", "A"]), "1A"), "0 2 + 1 0"),
+    ]
+}
+
+// 7 at a row: the product coefficient within plus or minus 9223372036854775807.
+#[rustfmt::skip]
+fn coefficients() -> Vec<Case> {
+    let x = |kind, coefficient| card().with_rows(&[unit(kind, coefficient, 0)]);
+    let (most, least) = (9_223_372_036_854_775_807, -9_223_372_036_854_775_808);
+    vec![
+        case("kind 3, most", total(x(3, most), "1x"), "0 2 + 9223372036854775807 0"),
+        case("kind 3, minus most", total(x(3, -most), "1x"), "0 2 - 9223372036854775807 0"),
+        case("kind 3, minus most, ago", total(x(3, -most), "1x ago"), "0 6 + 9223372036854775807 0"),
+        case("kind 3, least", total(x(3, least), "1"), "7 0 + 0 0"),
+        case("kind 0, most", total(x(0, most), "1x"), "0 2 + 9223372036 854775807"),
+        case("kind 0, least", total(x(0, least), "1"), "7 0 + 0 0"),
+        case("kind 1, minus most", total(x(1, -most), "1x"), "0 2 - 9223372036854 775807000"),
+        case("kind 1, least", total(x(1, least), "1"), "7 0 + 0 0"),
+        case("kind 2, most", total(x(2, most), "1x"), "0 2 + 9223372036854775 807000000"),
+        case("kind 2, least", total(x(2, least), "1"), "7 0 + 0 0"),
+
+        case("kind 4", total(x(4, 153722867280912930), "1x"), "0 2 + 9223372036854775800 0"),
+        case("kind 4, over", total(x(4, 153722867280912931), "1"), "7 0 + 0 0"),
+        case("kind 4, minus", total(x(4, -153722867280912930), "1x"), "0 2 - 9223372036854775800 0"),
+        case("kind 4, minus, over", total(x(4, -153722867280912931), "1"), "7 0 + 0 0"),
+        case("kind 5", total(x(5, 2562047788015215), "1x"), "0 2 + 9223372036854774000 0"),
+        case("kind 5, over", total(x(5, 2562047788015216), "1"), "7 0 + 0 0"),
+        case("kind 6", total(x(6, 106751991167300), "1x"), "0 2 + 9223372036854720000 0"),
+        case("kind 6, over", total(x(6, 106751991167301), "1"), "7 0 + 0 0"),
+        case("kind 7", total(x(7, 15250284452471), "1x"), "0 2 + 9223372036854460800 0"),
+        case("kind 7, over", total(x(7, 15250284452472), "1"), "7 0 + 0 0"),
+        case("kind 7, minus", total(x(7, -15250284452471), "1x"), "0 2 - 9223372036854460800 0"),
+        case("kind 7, minus, over", total(x(7, -15250284452472), "1"), "7 0 + 0 0"),
+
+        // The product is 44 and 0 in its low 64 bits.
+        case("kind 4, 44 beyond 64 bits", total(x(4, 307445734561825861), "1"), "7 0 + 0 0"),
+        case("kind 7, least", total(x(7, least), "1"), "7 0 + 0 0"),
+        case("kind 7, most", total(x(7, most), "1"), "7 0 + 0 0"),
+        case("kind 7, none", total(x(7, 0), "1x"), "0 2 + 0 0"),
+    ]
+}
+
+// 7 at a row: the power from -32768 to 32767; a typed exponent brings the value back.
+#[rustfmt::skip]
+fn powers() -> Vec<Case> {
+    let x = |kind, power| card().with_rows(&[unit(kind, 1, power)]);
+    vec![
+        case("kind 3, most", total(x(3, 32767), "1e-32767x"), "0 9 + 1 0"),
+        case("kind 3, least", total(x(3, -32768), "1e32767x"), "0 8 + 0 100000000"),
+        case("kind 7, most", total(x(7, 32767), "1e-32767x"), "0 9 + 604800 0"),
+        case("kind 7, least", total(x(7, -32768), "1e32767x"), "0 8 + 60480 0"),
+        case("kind 0, most", total(x(0, 32767), "1e-32758x"), "0 9 + 1 0"),
+        case("kind 0, -32768", total(x(0, -32759), "1e32767x"), "0 8 + 0 100000000"),
+        case("kind 0, -32769", total(x(0, -32760), "1"), "7 0 + 0 0"),
+        case("kind 0, least", total(x(0, -32768), "1"), "7 0 + 0 0"),
+        case("kind 1, -32768", total(x(1, -32762), "1e32767x"), "0 8 + 0 100000000"),
+        case("kind 1, -32769", total(x(1, -32763), "1"), "7 0 + 0 0"),
+        case("kind 2, -32768", total(x(2, -32765), "1e32767x"), "0 8 + 0 100000000"),
+        case("kind 2, -32769", total(x(2, -32766), "1"), "7 0 + 0 0"),
+    ]
+}
+
+// 7 at a row: which row is named when it is not the first, or not the only one.
+#[rustfmt::skip]
+fn first_bad_row() -> Vec<Case> {
+    let (a, b, c) = (named("a"), named("b"), named("c"));
+    let (kind, name, power) = (unit(8, 1, 0), named("1"), unit(0, 1, -32768));
+    let last_of_64 = card().with_rows(&[rows(63), vec![kind]].concat());
+    let last_of_64_good = card().with_rows(&[rows(63), vec![c]].concat());
+    vec![
+        case("row 1", total(card().with_rows(&[a, kind, b]), "1"), "7 1 + 0 0"),
+        case("row 2", total(card().with_rows(&[a, b, name]), "1"), "7 2 + 0 0"),
+        case("row 2, part", part(0, card().with_rows(&[a, b, name]), "1"), "7 2 + 0 0"),
+        case("row 63", total(last_of_64, "1"), "7 63 + 0 0"),
+        case("row 63, good", total(last_of_64_good, "1c"), "0 2 + 1 0"),
+        case("rows 0 and 1", total(card().with_rows(&[name, kind]), "1"), "7 0 + 0 0"),
+        case("rows 1 and 3", total(card().with_rows(&[a, power, b, name]), "1"), "7 1 + 0 0"),
+        case("rows 1 and 2, equal", total(card().with_rows(&[a, kind, a]), "1"), "7 1 + 0 0"),
+        case("rows 1, equal, and 2", total(card().with_rows(&[a, a, kind]), "1"), "7 1 + 0 0"),
+    ]
+}
+
+// The order 7 (65, 66, 67, 64, rows), 11, 8, 10: each card has all that the one before has wrong, and more.
+#[rustfmt::skip]
+fn order_of_refusals() -> Vec<Case> {
+    let bad_row = changed(named("x"), &[(KIND, 8)]);
+    let row = card().with_rows(&[bad_row]);
+    let size = card().with_rows(&[vec![bad_row], rows(64)].concat());
+    let kind = size.clone().with_kind(8);
+    let words = kind.clone().with_word(b"an1");
+    let inner = words.clone().with_inner(b"0");
+    let outer = words.clone().with_outer(b"0");
+    let malformed = plus(0, 1_000_000_000);
+    let long = text(4097);
+    vec![
+        case("row, long text", total(row.clone(), &long), "7 0 + 0 0"),
+        case("size, row, long text", total(size.clone(), &long), "7 64 + 0 0"),
+        case("kind, size, row, long text", total(kind.clone(), &long), "7 67 + 0 0"),
+        case("words and the same", total(words.clone(), &long), "7 66 + 0 0"),
+        case("inner and the same", total(inner.clone(), &long), "7 65 + 0 0"),
+        case("outer and the same", total(outer.clone(), &long), "7 65 + 0 0"),
+        case("row, long text, place", part(4098, row.clone(), &long), "7 0 + 0 0"),
+        case("row, place", part(2, row.clone(), "1"), "7 0 + 0 0"),
+        case("inner, long text, place", part(4098, inner.clone(), &long), "7 65 + 0 0"),
+        case("long text, place", part(4098, card(), &long), "8 4096 + 0 0"),
+        case("row, record, long text", shift(malformed, row.clone(), &long), "7 0 + 0 0 + 0 1000000000"),
+        case("inner, record, long text", shift(malformed, inner, &long), "7 65 + 0 0 + 0 1000000000"),
+        case("row, record", shift(minus(0, 0), row.clone(), "1"), "7 0 + 0 0 - 0 0"),
+        case("record, long text", shift(malformed, card(), &long), "11 0 + 0 0 + 0 1000000000"),
+        case("record, syntax", shift(malformed, card(), "1s "), "11 0 + 0 0 + 0 1000000000"),
+        case("record, empty text", shift(minus(0, 0), card(), ""), "11 0 + 0 0 - 0 0"),
+        case("row, empty text", total(row.clone(), ""), "7 0 + 0 0"),
+        case("row, syntax", total(row, "1s "), "7 0 + 0 0"),
+
+        // The writer: 11, 10, 9.
+        case("record, place", write(malformed, 3, "ab"), wrote("11 0 + 0 0", "ab")),
+        case("record, room", write(minus(0, 0), 1, "ab"), wrote("11 0 + 0 0", "ab")),
+        case("place, room", write(plus(1, 0), 3, "ab"), wrote("10 3 + 0 0", "ab")),
+    ]
+}
+
+// 8: the size of the text.
+#[rustfmt::skip]
+fn text_size() -> Vec<Case> {
+    vec![
+        case("4096, total", total(card(), text(4096)), "0 4096 + 1 0"),
+        case("4097, total", total(card(), text(4097)), "8 4096 + 0 0"),
+        case("65537, total", total(card(), text(65537)), "8 4096 + 0 0"),
+        case("4096 spaces, total", total(card(), " ".repeat(4096)), "6 0 + 0 0"),
+        case("4097 spaces, total", total(card(), " ".repeat(4097)), "8 4096 + 0 0"),
+        case("4096, part", part(0, card(), text(4096)), "0 4096 + 1 0"),
+        case("4097, part", part(0, card(), text(4097)), "8 4096 + 0 0"),
+        case("4097, part at its end", part(4097, card(), text(4097)), "8 4096 + 0 0"),
+        case("4096, shift", shift(plus(1, 0), card(), text(4096)), "0 4096 + 2 0 + 2 0"),
+        case("4097, shift", shift(plus(1, 0), card(), text(4097)), "8 4096 + 0 0 + 1 0"),
+    ]
+}
+
+// 10: the place; at the very end it is 1 for a part, and 9 for a write.
+#[rustfmt::skip]
+fn places() -> Vec<Case> {
+    vec![
+        case("empty text, 0", part(0, card(), ""), "1 0 + 0 0"),
+        case("empty text, 1", part(1, card(), ""), "10 1 + 0 0"),
+        case("second part", part(3, card(), "1s 2s"), "0 5 + 2 0"),
+        case("last byte", part(1, card(), "12"), "0 2 + 2 0"),
+        case("end", part(2, card(), "12"), "1 2 + 0 0"),
+        case("one beyond", part(3, card(), "12"), "10 3 + 0 0"),
+        case("256 beyond", part(258, card(), "12"), "10 258 + 0 0"),
+        case("far beyond", part(MOST, card(), "12"), "10 18446744073709551615 + 0 0"),
+        case("last byte of 4096", part(4095, card(), text(4096)), "0 4096 + 1 0"),
+        case("end of 4096", part(4096, card(), text(4096)), "1 4096 + 0 0"),
+        case("beyond 4096", part(4097, card(), text(4096)), "10 4097 + 0 0"),
+
+        case("empty buffer, 0", write(plus(1, 0), 0, ""), wrote("9 0 + 0 0", "")),
+        case("empty buffer, 1", write(plus(1, 0), 1, ""), wrote("10 1 + 0 0", "")),
+        case("buffer, end", write(plus(1, 0), 4, "abcd"), wrote("9 4 + 0 0", "abcd")),
+        case("buffer, one beyond", write(plus(1, 0), 5, "abcd"), wrote("10 5 + 0 0", "abcd")),
+        case("buffer, far beyond", write(plus(1, 0), MOST, "abcd"), wrote("10 18446744073709551615 + 0 0", "abcd")),
+    ]
+}
+
+// 11: the record, lent to a shift and to a write.
+#[rustfmt::skip]
+fn records() -> Vec<Case> {
+    vec![
+        case("most nanoseconds", shift(plus(0, NINES), card(), "1ns"), "0 3 + 1 0 + 1 0"),
+        case("one more", shift(plus(0, 1_000_000_000), card(), "1ns"), "11 0 + 0 0 + 0 1000000000"),
+        case("32 bits full", shift(plus(0, 4_294_967_295), card(), "1ns"), "11 0 + 0 0 + 0 4294967295"),
+        case("minus, most nanoseconds", shift(minus(0, NINES), card(), "-1ns"), "0 4 - 1 0 - 1 0"),
+        case("minus, one more", shift(minus(0, 1_000_000_000), card(), "1ns"), "11 0 + 0 0 - 0 1000000000"),
+        case("most seconds", shift(plus(MOST, 0), card(), "1ns"),
+            "0 3 + 18446744073709551615 1 + 18446744073709551615 1"),
+        case("most seconds, one nanosecond more", shift(plus(MOST, 1_000_000_000), card(), "1ns"),
+            "11 0 + 0 0 + 18446744073709551615 1000000000"),
+        case("plus zero", shift(plus(0, 0), card(), "1ns"), "0 3 + 0 1 + 0 1"),
+        case("minus zero", shift(minus(0, 0), card(), "1ns"), "11 0 + 0 0 - 0 0"),
+        case("minus a nanosecond", shift(minus(0, 1), card(), "1ns"), "0 3 + 0 0 + 0 0"),
+        case("minus a second", shift(minus(1, 0), card(), "1ns"), "0 3 - 0 999999999 - 0 999999999"),
+
+        case("write most nanoseconds", write(plus(0, NINES), 0, "abcdefghijklm"),
+            wrote("0 12 + 0 999999999", "+0.999999999m")),
+        case("write one more", write(plus(0, 1_000_000_000), 0, "abcdefghijklm"),
+            wrote("11 0 + 0 0", "abcdefghijklm")),
+        case("write 32 bits full", write(plus(0, 4_294_967_295), 0, "abcdefghijklm"),
+            wrote("11 0 + 0 0", "abcdefghijklm")),
+        case("write minus, one more", write(minus(0, 1_000_000_000), 1, "abcdefghijklm"),
+            wrote("11 0 + 0 0", "abcdefghijklm")),
+        case("write plus zero", write(plus(0, 0), 0, "abc"), wrote("0 2 + 0 0", "+0c")),
+        case("write minus zero", write(minus(0, 0), 0, "abc"), wrote("11 0 + 0 0", "abc")),
+        case("write minus a nanosecond", write(minus(0, 1), 0, "abcdefghijklm"),
+            wrote("0 12 - 0 1", "-0.000000001m")),
+        case("write minus a second", write(minus(1, 0), 0, "abc"), wrote("0 2 - 1 0", "-1c")),
+    ]
+}
+
+// 9: the room in the buffer, exactly enough and one byte fewer, and the buffer afterwards.
+#[rustfmt::skip]
+fn buffers() -> Vec<Case> {
+    let spare = |count: usize| "#".repeat(count);
+    let seconds = "0 21 + 18446744073709551615 0";
+    let longest = "0 31 - 18446744073709551615 999999999";
+    vec![
+        case("zero, enough", write(plus(0, 0), 0, "ab"), wrote("0 2 + 0 0", "+0")),
+        case("zero, short", write(plus(0, 0), 0, "a"), wrote("9 0 + 0 0", "a")),
+        case("zero, inside", write(plus(0, 0), 1, "abcd"), wrote("0 3 + 0 0", "a+0d")),
+        case("zero, inside, enough", write(plus(0, 0), 2, "abcd"), wrote("0 4 + 0 0", "ab+0")),
+        case("zero, inside, short", write(plus(0, 0), 3, "abcd"), wrote("9 3 + 0 0", "abcd")),
+        case("one digit, enough", write(plus(9, 0), 0, "ab"), wrote("0 2 + 9 0", "+9")),
+        case("two digits, short", write(plus(10, 0), 0, "ab"), wrote("9 0 + 0 0", "ab")),
+        case("two digits, enough", write(plus(10, 0), 0, "abc"), wrote("0 3 + 10 0", "+10")),
+        case("tenths, enough", write(plus(0, 500_000_000), 0, "abcd"), wrote("0 4 + 0 500000000", "+0.5")),
+        case("tenths, short", write(plus(0, 500_000_000), 0, "abc"), wrote("9 0 + 0 0", "abc")),
+        case("hundredths, enough", write(minus(3, 120_000_000), 1, "abcdef"), wrote("0 6 - 3 120000000", "a-3.12")),
+        case("hundredths, short", write(minus(3, 120_000_000), 2, "abcdef"), wrote("9 2 + 0 0", "abcdef")),
+        case("zeros between digits", write(plus(7, 100_200_000), 0, "abcdefghi"),
+            wrote("0 7 + 7 100200000", "+7.1002hi")),
+        case("eight digits, enough", write(plus(0, 999_999_990), 0, "abcdefghijk"),
+            wrote("0 11 + 0 999999990", "+0.99999999")),
+        case("eight digits, short", write(plus(0, 999_999_990), 0, "abcdefghij"), wrote("9 0 + 0 0", "abcdefghij")),
+        case("nine digits, enough", write(plus(0, 1), 0, "abcdefghijkl"), wrote("0 12 + 0 1", "+0.000000001")),
+        case("nine digits, short", write(plus(0, 1), 0, "abcdefghijk"), wrote("9 0 + 0 0", "abcdefghijk")),
+
+        case("most seconds, enough", write(plus(MOST, 0), 0, spare(21)), wrote(seconds, "+18446744073709551615")),
+        case("most seconds, short", write(plus(MOST, 0), 0, spare(20)), wrote("9 0 + 0 0", spare(20))),
+        case("longest, enough", write(minus(MOST, NINES), 0, spare(31)),
+            wrote(longest, "-18446744073709551615.999999999")),
+        case("longest, short", write(minus(MOST, NINES), 0, spare(30)), wrote("9 0 + 0 0", spare(30))),
+        case("longest, spare", write(minus(MOST, NINES), 0, spare(32)),
+            wrote(longest, "-18446744073709551615.999999999#")),
+        case("longest, inside", write(minus(MOST, NINES), 1, spare(33)),
+            wrote("0 32 - 18446744073709551615 999999999", "#-18446744073709551615.999999999#")),
+        case("longest, inside, short", write(minus(MOST, NINES), 2, spare(32)), wrote("9 2 + 0 0", spare(32))),
+
+        case("over digits and signs", write(plus(1, 0), 1, "9-9+9"), wrote("0 3 + 1 0", "9+1+9")),
+        case("over any bytes", write(plus(1, 0), 1, [0, 200, 0, 255]), wrote("0 3 + 1 0", [0, b'+', b'1', 255])),
+        case("short of any bytes", write(plus(1, 0), 3, [0, 200, 0, 255]), wrote("9 3 + 0 0", [0, 200, 0, 255])),
+        case("4096 bytes", write(plus(1, 0), 4094, spare(4096)), wrote("0 4096 + 1 0", spare(4094) + "+1")),
+        case("4097 bytes", write(plus(1, 0), 4095, spare(4097)), wrote("0 4097 + 1 0", spare(4095) + "+1")),
+    ]
+}
+
+// The record after a shift: added to, with the sign of the sum, clamped at MAX and MIN.
+#[rustfmt::skip]
+fn shifts() -> Vec<Case> {
+    let half = 9_223_372_036_854_775_808;
+    // Answer and record carry the same length.
+    let both = |position: usize, length: &str| format!("0 {position} {length} {length}");
+    let (max, min) = ("+ 18446744073709551615 999999999", "- 18446744073709551615 999999999");
+    vec![
+        case("parts", shift(plus(1, 0), card(), "1s and 2ms"), both(10, "+ 2 2000000")),
+        case("nothing to plus", shift(plus(7, 5), card(), "0"), both(1, "+ 7 5")),
+        case("nothing to minus", shift(minus(7, 5), card(), "-0"), both(2, "- 7 5")),
+        case("carry", shift(plus(0, 500_000_000), card(), "0.5s"), both(4, "+ 1 0")),
+        case("borrow", shift(plus(1, 0), card(), "-0.000000001s"), both(13, "+ 0 999999999")),
+        case("plus to zero", shift(plus(1, 5), card(), "-1.000000005s"), both(13, "+ 0 0")),
+        case("minus to zero", shift(minus(1, 0), card(), "1s"), both(2, "+ 0 0")),
+        case("plus to minus", shift(plus(1, 0), card(), "-3s"), both(3, "- 2 0")),
+        case("minus to plus", shift(minus(1, 0), card(), "3s"), both(2, "+ 2 0")),
+
+        case("just MAX", shift(plus(MOST, 999_999_998), card(), "1ns"), both(3, max)),
+        case("MAX and a nanosecond", shift(plus(MOST, NINES), card(), "1ns"), both(3, max)),
+        case("MAX less a nanosecond", shift(plus(MOST, NINES), card(), "-1ns"),
+            both(4, "+ 18446744073709551615 999999998")),
+        case("seconds beyond MAX", shift(plus(MOST, 0), card(), "1s"), both(2, max)),
+        case("halves, most seconds", shift(plus(half, 0), card(), "9223372036854775807s"),
+            both(20, "+ 18446744073709551615 0")),
+        case("halves, one more", shift(plus(half, 0), card(), "9223372036854775808s"), both(20, max)),
+        case("just MIN", shift(minus(MOST, 999_999_998), card(), "-1ns"), both(4, min)),
+        case("MIN and a nanosecond", shift(minus(MOST, NINES), card(), "-1ns"), both(4, min)),
+        case("MIN less a nanosecond", shift(minus(MOST, NINES), card(), "1ns"),
+            both(3, "- 18446744073709551615 999999998")),
+        case("minus halves", shift(minus(half, 0), card(), "-9223372036854775808s"), both(21, min)),
+
+        case("infinity", shift(plus(0, 0), card(), "inf"), both(3, max)),
+        case("minus infinity to plus", shift(plus(5, 0), card(), "-inf"),
+            both(4, "- 18446744073709551610 999999999")),
+        case("minus infinity to MAX", shift(plus(MOST, NINES), card(), "-inf"), both(4, "+ 0 0")),
+        case("infinity to MIN", shift(minus(MOST, NINES), card(), "inf"), both(3, "+ 0 0")),
+        // The text's total is clamped before it is added.
+        case("total beyond MAX", shift(minus(1, 0), card(), "inf 5s"), both(6, "+ 18446744073709551614 999999999")),
+    ]
+}
+
+// The record after a refused shift: as it was.
+#[rustfmt::skip]
+fn shifts_refused() -> Vec<Case> {
+    let so_far = minus(7, 5);
+    let bad_row = card().with_rows(&[named("a"), named("b"), unit(8, 1, 0)]);
+    vec![
+        case("7 at 65, inner", shift(so_far, card().with_inner(b"."), "1s"), "7 65 + 0 0 - 7 5"),
+        case("7 at 65, outer", shift(so_far, card().with_outer(b"."), "1s"), "7 65 + 0 0 - 7 5"),
+        case("7 at 66", shift(so_far, card().with_words(5, &[]), "1s"), "7 66 + 0 0 - 7 5"),
+        case("7 at 67", shift(so_far, card().with_kind(8), "1s"), "7 67 + 0 0 - 7 5"),
+        case("7 at 64", shift(so_far, card().with_rows(&rows(65)), "1aa"), "7 64 + 0 0 - 7 5"),
+        case("64 rows", shift(so_far, card().with_rows(&rows(64)), "1aa"), "0 3 - 6 5 - 6 5"),
+        case("7 at a row", shift(so_far, bad_row, "1a"), "7 2 + 0 0 - 7 5"),
+        case("8", shift(so_far, card(), text(4097)), "8 4096 + 0 0 - 7 5"),
+        case("1", shift(so_far, card(), ""), "1 0 + 0 0 - 7 5"),
+        case("2", shift(so_far, card(), "1s "), "2 2 + 0 0 - 7 5"),
+        case("2, second part", shift(so_far, card(), "1s 2s "), "2 5 + 0 0 - 7 5"),
+        case("3", shift(so_far, card(), "1s 1e32768"), "3 0 + 0 0 - 7 5"),
+        case("4", shift(so_far, card(), "1s 1e-32769"), "4 0 + 0 0 - 7 5"),
+        case("5", shift(so_far, card().without_negatives(), "1s -1s"), "5 0 + 0 0 - 7 5"),
+        case("6", shift(so_far, card(), "1s x"), "6 3 + 0 0 - 7 5"),
+        // Only a part is forbidden to be negative, not the record.
+        case("minus record, no negatives", shift(so_far, card().without_negatives(), "1s"), "0 2 - 6 5 - 6 5"),
+    ]
+}

@@ -1,0 +1,112 @@
+//! The Rust side of the comparison: fundu-core as it stands answers requests,
+//! requests are made with a fixed seed, and a plain reading of document 01
+//! answers the same requests independently.
+
+mod agree;
+mod antt;
+mod card_a;
+mod crate_side;
+mod evaluations;
+mod limits;
+mod make;
+mod make_card;
+mod make_text;
+mod natural;
+mod plain;
+mod points;
+mod request;
+mod rng;
+mod table;
+mod tally;
+
+use std::io::{self, BufRead, BufWriter, Write};
+use std::path::Path;
+use std::process::ExitCode;
+
+use make::Maker;
+use request::Request;
+
+const USAGE: &str = "\
+usage: compare make SEED COUNT          make requests
+       compare answer                   the crate's answers to requests on standard input
+       compare plain                    the plain reading's answers to the same
+       compare agree SEED COUNT         make requests and compare the two
+       compare check                    document 01's readings of card A, asked of the crate
+       compare points                   the points document 01 reads, crate against plain
+       compare evaluations              numbers and multipliers with the crate's lengths
+       compare tally REQUESTS ANSWERS   count the lines of two files
+       compare limits                   the hand-written cases at the limits, against plain
+       compare limits REQUESTS ANSWERS  the same cases, written into two files
+       compare antt REQUESTS ANSWERS DIR  both as antt modules in the folder DIR
+";
+
+fn main() -> ExitCode {
+    let arguments: Vec<String> = std::env::args().skip(1).collect();
+    let arguments: Vec<&str> = arguments.iter().map(String::as_str).collect();
+    let done = match arguments.as_slice() {
+        ["make", seed, count] => make_lines(seed, count),
+        ["answer"] => answer_lines(|request| crate_side::ask(request).to_string()),
+        ["plain"] => answer_lines(plain::answer_line),
+        ["agree", seed, count] => agree_on(seed, count),
+        ["check"] => Ok(card_a::check()),
+        ["points"] => Ok(points::ask_points()),
+        ["tally", requests, answers] => tally::tally(requests, answers),
+        ["limits"] => limits::check(),
+        ["limits", requests, answers] => limits::write_files(requests, answers),
+        ["evaluations"] => {
+            evaluations::print();
+            Ok(true)
+        }
+        ["antt", requests, answers, folder] => write_antt(requests, answers, folder),
+        _ => Err(USAGE.to_string()),
+    };
+    match done {
+        Ok(true) => ExitCode::SUCCESS,
+        Ok(false) => ExitCode::FAILURE,
+        Err(why) => {
+            eprintln!("{}", why.trim_end());
+            ExitCode::from(2)
+        }
+    }
+}
+
+fn number(argument: &str) -> Result<u64, String> {
+    argument
+        .parse()
+        .map_err(|_| format!("`{argument}` is no number"))
+}
+
+fn make_lines(seed: &str, count: &str) -> Result<bool, String> {
+    let (seed, count) = (number(seed)?, number(count)?);
+    let mut out = BufWriter::new(io::stdout().lock());
+    for request in Maker::new(seed).take(count as usize) {
+        writeln!(out, "{request}").map_err(|error| error.to_string())?;
+    }
+    out.flush().map_err(|error| error.to_string())?;
+    Ok(true)
+}
+
+fn write_antt(requests: &str, answers: &str, folder: &str) -> Result<bool, String> {
+    let read = |path: &str| {
+        std::fs::read_to_string(path).map_err(|error| format!("{path}: {error}"))
+    };
+    let held = antt::write_modules(&read(requests)?, &read(answers)?, Path::new(folder))?;
+    println!("{held}");
+    Ok(true)
+}
+
+fn agree_on(seed: &str, count: &str) -> Result<bool, String> {
+    Ok(agree::agree(number(seed)?, number(count)?))
+}
+
+/// Answers each request on standard input by one line, in order.
+fn answer_lines(answer: impl Fn(&Request) -> String) -> Result<bool, String> {
+    let mut out = BufWriter::new(io::stdout().lock());
+    for (index, line) in io::stdin().lock().lines().enumerate() {
+        let line = line.map_err(|error| error.to_string())?;
+        let request = Request::parse(&line).map_err(|why| format!("line {}: {why}", index + 1))?;
+        writeln!(out, "{}", answer(&request)).map_err(|error| error.to_string())?;
+    }
+    out.flush().map_err(|error| error.to_string())?;
+    Ok(true)
+}

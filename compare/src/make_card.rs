@@ -1,0 +1,297 @@
+//! Making cards and tables that document 01 accepts.
+
+use crate::request::{ByteSet, Card, Conjunctions, Switches};
+use crate::rng::Random;
+use crate::table::{KINDS, MOST_ROWS, NAME_BYTES, Row, table_bytes};
+
+/// Delimiters that people use, and a few that they do not: NUL and delete.
+const COMMON_DELIMITERS: &[u8] = b" \t\n\0,;:_/|&\x7f";
+
+/// Words that get in each other's way: prefixes of one another, of unit names,
+/// of `inf`, and the exponent's letter.
+const COMMON_WORDS: &[&str] = &[
+    "and", "a", "an", "And", "andor", "or", "o", "und", "e", "E", "es", "i", "in", "inf", "ago",
+    "ag", "s", "m", "mi", "then", "plusplus",
+];
+
+const COMMON_NAMES: &[&str] = &[
+    "ns",
+    "ms",
+    "s",
+    "S",
+    "min",
+    "h",
+    "d",
+    "w",
+    "turn",
+    "block",
+    "e",
+    "E",
+    "es",
+    "eon",
+    "inf",
+    "infinity",
+    "inity",
+    "in",
+    "i",
+    "ago",
+    "AGO",
+    "a",
+    "ag",
+    "agos",
+    "and",
+    "an",
+    "android",
+    "or",
+    "x",
+    "µs",
+    "µ",
+    "é",
+    "ßß",
+    "сек",
+    "день",
+    "秒",
+    "😀",
+    "abcdefghijklmnop",
+    "éééééééé",
+];
+
+/// Signs that may stand in a name as long as they are no delimiters.
+const NAME_ODDITIES: &[char] = &['/', ' ', '_', '\0', ',', '%', '\u{7f}', '€'];
+
+pub fn make_card(random: &mut Random) -> Card {
+    let (inner, outer) = make_delimiters(random);
+    let words = make_words(random);
+    let rows = make_rows(random, &inner, &outer, &words);
+    Card {
+        switches: make_switches(random),
+        inner,
+        outer,
+        conjunctions: Conjunctions::of(&words),
+        kind: make_kind(random),
+        table: table_bytes(&rows),
+    }
+}
+
+/// A card whose words and names are single letters, so that texts of three or
+/// four letters come to every step.
+pub fn make_small_card(random: &mut Random) -> Card {
+    let mut card = make_card(random);
+    let letters = ["a", "e", "i", "s", "µ"];
+    let words: Vec<Vec<u8>> = (0..random.below(3))
+        .map(|_| random.pick(&letters[..4]).as_bytes().to_vec())
+        .collect();
+    let mut rows: Vec<Row> = Vec::new();
+    for _ in 0..random.below(3) {
+        let name = random.pick(&letters).as_bytes().to_vec();
+        if rows.iter().all(|row| row.name != name) {
+            rows.push(make_row(random, name));
+        }
+    }
+    card.conjunctions = Conjunctions::of(&words);
+    card.table = table_bytes(&rows);
+    card
+}
+
+fn make_switches(random: &mut Random) -> Switches {
+    Switches {
+        negatives: random.chance(70),
+        fractions: random.chance(75),
+        exponents: random.chance(75),
+        infinity: random.chance(70),
+        ago: random.chance(65),
+        sign_delimiter: random.chance(50),
+        unit_delimiter: random.chance(60),
+    }
+}
+
+fn make_kind(random: &mut Random) -> u8 {
+    if random.chance(40) {
+        3
+    } else {
+        random.below(8) as u8
+    }
+}
+
+/// What document 01 lets be a delimiter.
+pub fn may_delimit(byte: u8) -> bool {
+    byte.is_ascii() && !byte.is_ascii_alphanumeric() && !matches!(byte, b'+' | b'-' | b'.')
+}
+
+/// The inner and the outer set: equal, apart, overlapping, one within the
+/// other, or empty.
+fn make_delimiters(random: &mut Random) -> (ByteSet, ByteSet) {
+    let one = some_delimiters(random);
+    let other = some_delimiters(random);
+    let both = [one.clone(), other.clone()].concat();
+    let apart: Vec<u8> = other
+        .iter()
+        .copied()
+        .filter(|byte| !one.contains(byte))
+        .collect();
+    let (inner, outer) = match random.below(20) {
+        0..=5 => (one.clone(), one),
+        6..=8 => (one, other),
+        9..=11 => (one, apart),
+        12..=13 => (one, both),
+        14..=15 => (both, one),
+        16 => (Vec::new(), one),
+        17 => (one, Vec::new()),
+        18 => (Vec::new(), Vec::new()),
+        _ => (all_delimiters(), one),
+    };
+    (ByteSet::of(&inner), ByteSet::of(&outer))
+}
+
+fn all_delimiters() -> Vec<u8> {
+    (0..=255).filter(|byte| may_delimit(*byte)).collect()
+}
+
+fn some_delimiters(random: &mut Random) -> Vec<u8> {
+    let every = all_delimiters();
+    (0..=random.below(3))
+        .map(|_| match random.below(10) {
+            0..=3 => b' ',
+            4..=8 => *random.pick(COMMON_DELIMITERS),
+            _ => *random.pick(&every),
+        })
+        .collect()
+}
+
+fn make_words(random: &mut Random) -> Vec<Vec<u8>> {
+    let mut words: Vec<Vec<u8>> = Vec::new();
+    for _ in 0..random.below(5) {
+        let word = make_word(random, &words);
+        words.push(word);
+    }
+    words
+}
+
+fn make_word(random: &mut Random, earlier: &[Vec<u8>]) -> Vec<u8> {
+    let mut word = match random.below(10) {
+        0..=5 => random.pick(COMMON_WORDS).as_bytes().to_vec(),
+        6..=8 if !earlier.is_empty() => random.pick(earlier).clone(),
+        _ => random_letters(random, 8),
+    };
+    // A longer or shorter neighbour of the same word, to try the order of
+    // words that are prefixes of each other.
+    match random.below(4) {
+        0 if word.len() < 8 => word.push(random_letter(random)),
+        1 if word.len() > 1 => {
+            word.pop();
+        }
+        _ => {}
+    }
+    word
+}
+
+fn random_letter(random: &mut Random) -> u8 {
+    let letter = b'a' + random.below(26) as u8;
+    if random.chance(25) {
+        letter.to_ascii_uppercase()
+    } else {
+        letter
+    }
+}
+
+fn random_letters(random: &mut Random, most: u64) -> Vec<u8> {
+    (0..=random.below(most))
+        .map(|_| random_letter(random))
+        .collect()
+}
+
+fn make_rows(random: &mut Random, inner: &ByteSet, outer: &ByteSet, words: &[Vec<u8>]) -> Vec<Row> {
+    let wanted = match random.below(100) {
+        0..=9 => 0,
+        10..=69 => 1 + random.below(4),
+        70..=96 => 5 + random.below(5),
+        97..=98 => 10 + random.below(30),
+        _ => MOST_ROWS as u64,
+    };
+    let mut rows: Vec<Row> = Vec::new();
+    while (rows.len() as u64) < wanted {
+        let name = make_name(random, words);
+        let allowed = name_is_allowed(&name, inner, outer);
+        if allowed && rows.iter().all(|row| row.name != name) {
+            rows.push(make_row(random, name));
+        }
+    }
+    rows
+}
+
+fn make_name(random: &mut Random, words: &[Vec<u8>]) -> Vec<u8> {
+    match random.below(20) {
+        0..=11 => random.pick(COMMON_NAMES).as_bytes().to_vec(),
+        12..=14 if !words.is_empty() => {
+            let mut name = random.pick(words).clone();
+            match random.below(3) {
+                0 => name.push(random_letter(random)),
+                1 => name.truncate(1),
+                _ => {}
+            }
+            name
+        }
+        15 => {
+            let mut name = String::from_utf8_lossy(&random_letters(random, 6)).into_owned();
+            let at = random.below(name.len() as u64 + 1) as usize;
+            name.insert(at, *random.pick(NAME_ODDITIES));
+            name.into_bytes()
+        }
+        16..=17 => random_letters(random, NAME_BYTES as u64),
+        _ => random_letters(random, 4),
+    }
+}
+
+fn name_is_allowed(name: &[u8], inner: &ByteSet, outer: &ByteSet) -> bool {
+    (1..=NAME_BYTES).contains(&name.len())
+        && name.iter().all(|byte| {
+            !inner.holds(*byte)
+                && !outer.holds(*byte)
+                && !byte.is_ascii_digit()
+                && !matches!(byte, b'+' | b'-' | b'.')
+        })
+}
+
+fn make_row(random: &mut Random, name: Vec<u8>) -> Row {
+    let kind = make_kind(random);
+    let (kind_coefficient, kind_power) = KINDS[usize::from(kind)];
+    Row {
+        name,
+        kind,
+        coefficient: make_coefficient(random, i64::MAX / kind_coefficient),
+        power: make_power(random, kind_power),
+    }
+}
+
+/// A coefficient between `-limit` and `limit`.
+fn make_coefficient(random: &mut Random, limit: i64) -> i64 {
+    let size = match random.below(20) {
+        0 => 0,
+        1..=8 => 1,
+        9..=11 => random.between(2, 1_000),
+        12 => 10_i64.pow(random.below(13) as u32),
+        13..=14 => limit,
+        15..=16 => limit - random.between(0, 1_000),
+        17 => limit / random.between(2, 100),
+        18 => limit >> random.below(40),
+        _ => random.between(1, limit),
+    };
+    let size = size.min(limit);
+    if random.chance(20) { -size } else { size }
+}
+
+/// A power that stays within 16 bits when the kind's power is added.
+fn make_power(random: &mut Random, kind_power: i16) -> i16 {
+    // Only kinds with powers of at most 0 exist, so the upper end is free.
+    let lowest = i64::from(i16::MIN) - i64::from(kind_power);
+    let highest = i64::from(i16::MAX);
+    let power = match random.below(20) {
+        0..=10 => 0,
+        11..=14 => random.between(-12, 12),
+        15..=16 => random.between(-40, 40),
+        17 => lowest + random.between(0, 3),
+        18 => highest - random.between(0, 3),
+        _ => random.between(lowest, highest),
+    };
+    power as i16
+}

@@ -1,0 +1,345 @@
+//! The points where document 01's rules are a reading of what its authors had
+//! no text of: the main driver, `POW10`, `Duration`, `Multiplier` and `Config`.
+//! Each point is asked of the crate by short texts under card A or a card near
+//! it, and the answers are set against the plain reading.
+
+use crate::card_a::{card_a, row, same_answer};
+use crate::crate_side::{CrateAnswer, ask};
+use crate::plain;
+use crate::request::{ByteSet, Card, Conjunctions, Request};
+use crate::table::{Row, table_bytes};
+
+/// Asks every point; true if the crate agrees wherever it is compared.
+pub fn ask_points() -> bool {
+    let mut asking = Asking { all_agree: true };
+    asking.about_the_driver();
+    asking.about_connections();
+    asking.about_order();
+    asking.about_powers_of_ten();
+    asking.about_durations();
+    asking.about_multipliers();
+    asking.about_settings();
+    asking.all_agree
+}
+
+struct Asking {
+    all_agree: bool,
+}
+
+impl Asking {
+    fn ask(&mut self, subject: &str, card: &Card, texts: &[&str]) {
+        println!("{subject}");
+        for text in texts {
+            self.ask_text(card, text);
+        }
+    }
+
+    fn ask_text(&mut self, card: &Card, text: &str) {
+        let plain_answer = plain::total(card, text.as_bytes());
+        let crate_answer = ask(&Request::Total {
+            card: card.clone(),
+            text: text.as_bytes().to_vec(),
+        });
+        let verdict = match &crate_answer {
+            CrateAnswer::Says(answer) if same_answer(answer, &plain_answer) => "agrees",
+            CrateAnswer::LeftOut => "left out",
+            _ => {
+                self.all_agree = false;
+                "DIFFERENT"
+            }
+        };
+        // A delimiter may be NUL or a line's end, so the text is shown escaped.
+        let shown = text.escape_debug();
+        println!("    `{shown}` crate {crate_answer}, plain {plain_answer}: {verdict}");
+    }
+
+    fn about_the_driver(&mut self) {
+        self.ask(
+            "main driver, card A",
+            &card_a(),
+            &[
+                "",
+                "+",
+                "x",
+                " ",
+                " 1",
+                "+ 1",
+                "+x",
+                ".",
+                ".5",
+                "+.",
+                ".s",
+                "1.s",
+                "1.e1",
+                "1e",
+                "1e+",
+                "1e-",
+                "1ex",
+                "1e+x",
+                "1E1",
+                "1 ",
+                "1 s",
+                "1x",
+                "1sx",
+                "1.5.5",
+                "inf",
+                "INF",
+                "+inf",
+                "infinity",
+                "Infx",
+                "infinityx",
+                "inf ",
+                "inf 1",
+                "1inf",
+                "1sinf",
+                "1s.5",
+                "1s+",
+                "1s ago",
+                "1s AGO",
+                "1s agos",
+                "1s ago1",
+                "1s ago ",
+                "1 ago",
+                "1ago",
+            ],
+        );
+        self.ask(
+            "main driver, delimiter after a sign on",
+            &changed(|card| card.switches.sign_delimiter = true),
+            &["+ 1", "+ ", "+ x", "+ + 1", "+  inf"],
+        );
+        self.ask(
+            "main driver, no delimiter between number and unit",
+            &changed(|card| card.switches.unit_delimiter = false),
+            &["1 s", "1 ", "1 1", "1 and 1"],
+        );
+        self.ask(
+            "main driver, fractions off",
+            &changed(|card| card.switches.fractions = false),
+            &["1.", "1.5", ".5", "."],
+        );
+        self.ask(
+            "main driver, exponents off",
+            &changed(|card| card.switches.exponents = false),
+            &["1e1", "1E", "1.5e", "1 e"],
+        );
+        self.ask(
+            "main driver, infinity off",
+            &changed(|card| card.switches.infinity = false),
+            &["inf", "1inf", "+inf"],
+        );
+        self.ask(
+            "main driver, no rows",
+            &changed(|card| card.table.clear()),
+            &["1", "1s", "1 s", "1 ago", "1 1", "1 "],
+        );
+        self.ask(
+            "main driver, units `e`, `inf` and `ago`",
+            &with_rows(&[row("e", 3, 1, 0), row("inf", 4, 1, 0), row("ago", 5, 1, 0)]),
+            &[
+                "1e",
+                "1 e",
+                "1e0e",
+                "1inf",
+                "1inf inf",
+                "1ago",
+                "1ago ago",
+                "1ago agO1ago",
+                "ago",
+            ],
+        );
+        self.ask(
+            "main driver, ago off, inner delimiter `,` and outer ` `",
+            &changed(|card| {
+                card.switches.ago = false;
+                card.inner = ByteSet::of(b",");
+            }),
+            &[
+                "1,s", "1s,", "1s,1", "1s ago", "1s,ago", "1,1", "1, 1", "1 ,1",
+            ],
+        );
+        self.ask(
+            "main driver, ago on, inner delimiter `,` and outer ` `",
+            &changed(|card| card.inner = ByteSet::of(b",")),
+            &[
+                "1s,", "1s,1", "1s,ago", "1s,ago 1", "1s,ago,1", "1s ago", "1s,and 1", "1 and 1",
+            ],
+        );
+    }
+
+    fn about_connections(&mut self) {
+        self.ask(
+            "connection, words `an`, `and`",
+            &with_words(&["an", "and"]),
+            &[
+                "1s an 1", "1s and 1", "1s an1", "1s an+1", "1s an", "1s an ", "1s AN 1",
+            ],
+        );
+        self.ask(
+            "connection, words `and`, `an`",
+            &with_words(&["and", "an"]),
+            &[
+                "1s and 1",
+                "1s an 1",
+                "1s an and 1",
+                "1s and.5",
+                "1s and inf",
+                "inf and inf",
+            ],
+        );
+        self.ask(
+            "connection, word `i` before `inf`",
+            &with_words(&["i"]),
+            &["1s inf", "1s i inf", "1s i1"],
+        );
+        self.ask(
+            "connection, no outer delimiters",
+            &changed(|card| card.outer = ByteSet::EMPTY),
+            &[
+                "1s1s", "1s 1s", "1s+1s", "1+1", "inf 1", "1s ago1", "1s ago 1",
+            ],
+        );
+    }
+
+    fn about_order(&mut self) {
+        self.ask(
+            "order of refusals, negatives off",
+            &changed(|card| card.switches.negatives = false),
+            &[
+                "-1", "-inf", "1s ago", "-1s ago", "-1 1e", "-1 x", "-1s and", "-1s ", "-1e",
+                "-1x", "1-1", "2-1", "-0", "-.1e-9", "-.1e-17", "-.1e-18", "0s ago", "-1e99999",
+            ],
+        );
+    }
+
+    fn about_powers_of_ten(&mut self) {
+        self.ask(
+            "POW10",
+            &card_a(),
+            &[
+                "1e18",
+                "1e19",
+                "1e20",
+                "1.8e19",
+                "1.9e19",
+                "0e20",
+                "0e32767",
+                "0.0e32767",
+                ".1e20",
+                ".01e21",
+                "1e32767",
+                "1e-9",
+                "1e-10",
+                "1e-18block",
+                "1e-19block",
+                ".1e-17block",
+                "19e-19block",
+                "1.99999999999999999999e-18block",
+                "1e-32768",
+                "100000000000000000000e-20",
+                "100000000000000000000e-19block",
+            ],
+        );
+    }
+
+    fn about_durations(&mut self) {
+        self.ask(
+            "Duration",
+            &card_a(),
+            &[
+                "1-1",
+                "-1+1",
+                "1-2",
+                "inf",
+                "-inf",
+                "inf 1",
+                "-inf -1",
+                "inf -1",
+                "inf -inf",
+                "inf inf -inf",
+                "18446744073709551615.999999999",
+                "18446744073709551615.9999999999",
+                "18446744073709551615 .999999999",
+                "18446744073709551615 1",
+                "-18446744073709551615 -1",
+                ".5.5",
+                ".999999999 1e-9",
+                "-.5 -.5",
+                "1-.000000001",
+            ],
+        );
+    }
+
+    fn about_multipliers(&mut self) {
+        let rows = [
+            row("z", 7, 0, 5),
+            row("n", 3, -3, 0),
+            row("top", 3, i64::MAX, 0),
+            row("low", 3, -i64::MAX, 0),
+            row("wk", 7, i64::MAX / 604_800, 0),
+            row("up", 3, 1, i16::MAX),
+            row("dn", 3, 1, i16::MIN),
+            row("nd", 0, 1, i16::MIN + 9),
+        ];
+        self.ask(
+            "Multiplier, rows z (7, 0, 5), n (3, -3, 0), top and low (3, +-9223372036854775807, 0), \
+             wk (7, limit, 0), up and dn (3, 1, 32767 and -32768), nd (0, 1, -32759)",
+            &with_rows(&rows),
+            &[
+                "1z", "-1z", "1z ago", "1n", "-1n", "1n ago", "-1n ago", "1top", "2top", "3top",
+                "2.0000000001top", "2.000000000000000001top", "1low", "1low ago", "2low", "3low",
+                "1e-18top", "1e-18low", "1wk", "2wk", "1up", "1e-32767up", "1e-32768up", "1e32767up",
+                "0up", "1dn", "1e32767dn", "1e-32768dn", "1e32767nd", "10e32767dn",
+            ],
+        );
+        self.ask(
+            "Multiplier, card A",
+            &card_a(),
+            &[
+                "3turn",
+                "3turn ago",
+                "1e1turn",
+                "1ns",
+                "1ms",
+                "1min",
+                ".1ns",
+                "1.5min",
+            ],
+        );
+    }
+
+    fn about_settings(&mut self) {
+        for kind in 0..8 {
+            let card = changed(|card| card.kind = kind);
+            self.ask(&format!("Config, default kind {kind}"), &card, &["1", "1s"]);
+        }
+        self.ask(
+            "Config, negatives on and ago off",
+            &changed(|card| card.switches.ago = false),
+            &["1s ago", "-1s", "1s 1"],
+        );
+        self.ask(
+            "Config, NUL as the only delimiter",
+            &changed(|card| {
+                card.inner = ByteSet::of(b"\0");
+                card.outer = ByteSet::of(b"\0");
+            }),
+            &["1\0s", "1s\0and\0ago", "1s\0ago", "1s 1", "1\0"],
+        );
+    }
+}
+
+fn changed(change: impl FnOnce(&mut Card)) -> Card {
+    let mut card = card_a();
+    change(&mut card);
+    card
+}
+
+fn with_rows(rows: &[Row]) -> Card {
+    changed(|card| card.table = table_bytes(rows))
+}
+
+fn with_words(words: &[&str]) -> Card {
+    let words: Vec<Vec<u8>> = words.iter().map(|word| word.as_bytes().to_vec()).collect();
+    changed(|card| card.conjunctions = Conjunctions::of(&words))
+}
