@@ -161,7 +161,7 @@ fn refusal(error: ParseError, base: u64) -> Result<CrateAnswer, String> {
 }
 
 /// A length with zero always plus, as the signs of zeros are not compared.
-fn length_of(duration: Duration) -> Length {
+pub fn length_of(duration: Duration) -> Length {
     let size = std::time::Duration::try_from(duration.abs())
         .expect("a length without sign is a duration of the standard library");
     Length {

@@ -13,6 +13,7 @@
 use fundu_core::parse::{DurationRepr, Fract, Whole};
 use fundu_core::time::{Multiplier, TimeUnit};
 
+use crate::crate_side::length_of;
 use crate::rng::Random;
 
 /// Bytes of a line, its newline included.
@@ -228,12 +229,5 @@ fn answer(case: &Case) -> String {
         ..DurationRepr::default()
     };
     let length = repr.parse().expect("a finite number is always evaluated");
-    let seconds = length.abs();
-    let inner: std::time::Duration = seconds.try_into().expect("no sign is left");
-    let sign = if length.is_negative() && !length.is_zero() {
-        '-'
-    } else {
-        '+'
-    };
-    format!("{sign} {} {}", inner.as_secs(), inner.subsec_nanos())
+    length_of(length).to_string()
 }
