@@ -65,6 +65,19 @@ fn cases() -> Vec<Case> {
     list
 }
 
+/// The cards of the list, each once, in its order.
+pub fn cards() -> Vec<Card> {
+    let mut cards: Vec<Card> = Vec::new();
+    for case in cases() {
+        if let Some(card) = case.request.card() {
+            if !cards.contains(card) {
+                cards.push(card.clone());
+            }
+        }
+    }
+    cards
+}
+
 // The commands.
 
 /// Writes the requests into one file and the answers into another.

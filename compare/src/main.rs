@@ -5,6 +5,7 @@
 mod agree;
 mod antt;
 mod card_a;
+mod cards;
 mod crate_side;
 mod evaluations;
 mod limits;
@@ -37,6 +38,7 @@ usage: compare make SEED COUNT          make requests
        compare tally REQUESTS ANSWERS   count the lines of two files
        compare limits                   the hand-written cases at the limits, against plain
        compare limits REQUESTS ANSWERS  the same cases, written into two files
+       compare cards CARDS FOUND        cards, and what the plain reading finds of each
        compare antt REQUESTS ANSWERS DIR  both as antt modules in the folder DIR
 ";
 
@@ -57,6 +59,7 @@ fn main() -> ExitCode {
             evaluations::print();
             Ok(true)
         }
+        ["cards", cards, found] => cards::write_files(cards, found),
         ["antt", requests, answers, folder] => write_antt(requests, answers, folder),
         _ => Err(USAGE.to_string()),
     };
@@ -87,9 +90,8 @@ fn make_lines(seed: &str, count: &str) -> Result<bool, String> {
 }
 
 fn write_antt(requests: &str, answers: &str, folder: &str) -> Result<bool, String> {
-    let read = |path: &str| {
-        std::fs::read_to_string(path).map_err(|error| format!("{path}: {error}"))
-    };
+    let read =
+        |path: &str| std::fs::read_to_string(path).map_err(|error| format!("{path}: {error}"));
     let held = antt::write_modules(&read(requests)?, &read(answers)?, Path::new(folder))?;
     println!("{held}");
     Ok(true)

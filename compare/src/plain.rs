@@ -133,6 +133,14 @@ pub fn accepts(card: &Card) -> bool {
     accepted(card).is_ok()
 }
 
+/// The number and the position that the check of a card gives: 0 at 0, or 7.
+pub fn check(card: &Card) -> (u8, usize) {
+    match accepted(card) {
+        Ok(_) => (0, 0),
+        Err(refusal) => (refusal.number, refusal.position),
+    }
+}
+
 /// The rows of an accepted card, or refusal 7.
 fn accepted(card: &Card) -> Result<Vec<Row>, Refusal> {
     if !delimiters_are_right(&card.inner) || !delimiters_are_right(&card.outer) {

@@ -1,0 +1,121 @@
+//! The list of cards that the program `cards` checks again, with the number
+//! and the position that the plain reading finds for each.
+//!
+//! A card is a line of hexadecimal digits (inner set, outer set, conjunctions,
+//! default kind, size of the table) and a line for each of its rows, in the
+//! stored form of a row. The last row is filled with zeros where the size ends
+//! within it. A set is written byte for byte: byte b is bit b % 8 of its byte
+//! b / 8.
+
+use std::fmt::Write as _;
+use std::fs;
+
+use crate::card_a::{card_a, row};
+use crate::limits;
+use crate::plain;
+use crate::request::{ByteSet, Card, hex};
+use crate::table::{KINDS, ROW_BYTES, table_bytes};
+
+/// Writes the cards into one file and what is found of them into another.
+pub fn write_files(cards_path: &str, found_path: &str) -> Result<bool, String> {
+    let (mut lines, mut found) = (String::new(), String::new());
+    let cards = cards();
+    for card in &cards {
+        lines.push_str(&card_lines(card));
+        let (number, position) = plain::check(card);
+        let _ = writeln!(found, "{number} {position}");
+    }
+    let _ = writeln!(found, "{} cards", cards.len());
+    for (path, text) in [(cards_path, lines), (found_path, found)] {
+        fs::write(path, text).map_err(|error| format!("{path}: {error}"))?;
+    }
+    Ok(true)
+}
+
+/// The hand-written limits, every byte as a delimiter of either set and in a
+/// name, and every kind at both ends of its coefficients and powers.
+fn cards() -> Vec<Card> {
+    let mut cards = limits::cards();
+    for byte in 0..=255 {
+        cards.push(Card {
+            inner: ByteSet::of(&[byte]),
+            table: Vec::new(),
+            ..card_a()
+        });
+        cards.push(Card {
+            outer: ByteSet::of(&[byte]),
+            table: Vec::new(),
+            ..card_a()
+        });
+        cards.push(named_with(byte));
+    }
+    for kind in 0..KINDS.len() {
+        cards.extend(ends_of_kind(kind));
+    }
+    cards
+}
+
+/// Card A with one row, of which the name holds the byte.
+fn named_with(byte: u8) -> Card {
+    let mut named = row("mm", 3, 1, 0);
+    named.name[1] = byte;
+    Card {
+        table: table_bytes(&[named]),
+        ..card_a()
+    }
+}
+
+/// The largest coefficient that fits the kind and one more, of both signs; the
+/// lowest and the highest power that fit and those beside them.
+fn ends_of_kind(kind: usize) -> Vec<Card> {
+    let (factor, power) = KINDS[kind];
+    let largest = i64::MAX / factor;
+    let lowest = i16::MIN - power;
+    let mut rows = Vec::new();
+    for coefficient in [
+        largest,
+        largest.saturating_add(1),
+        -largest,
+        (-largest).saturating_sub(1),
+    ] {
+        rows.push((coefficient, 0));
+    }
+    for power in [
+        lowest,
+        lowest.saturating_sub(1),
+        lowest + 1,
+        i16::MAX - 1,
+        i16::MAX,
+    ] {
+        rows.push((1, power));
+    }
+    rows.into_iter()
+        .map(|(coefficient, power)| Card {
+            table: table_bytes(&[row("u", kind as u8, coefficient, power)]),
+            ..card_a()
+        })
+        .collect()
+}
+
+fn card_lines(card: &Card) -> String {
+    let mut line = set_digits(&card.inner) + &set_digits(&card.outer);
+    let _ = write!(line, "{:02x}", card.conjunctions.count);
+    for (size, letters) in card.conjunctions.slots {
+        let _ = write!(line, "{size:02x}{}", hex(&letters));
+    }
+    let _ = writeln!(line, "{:02x}{:04x}", card.kind, card.table.len());
+    for row in card.table.chunks(ROW_BYTES) {
+        let mut stored = row.to_vec();
+        stored.resize(ROW_BYTES, 0);
+        let _ = writeln!(line, "{}", hex(&stored));
+    }
+    line
+}
+
+fn set_digits(set: &ByteSet) -> String {
+    let mut bytes = [0_u8; 32];
+    for byte in set.bytes() {
+        bytes[usize::from(byte / 8)] |= 1 << (byte % 8);
+    }
+    hex(&bytes)
+}
