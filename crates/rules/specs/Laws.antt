@@ -7,5 +7,6 @@ pub mod Texts
 pub mod Ahead
 pub mod FromAPlace
 pub mod Lengths
+pub mod Apart
 pub mod Totals
 pub mod Written

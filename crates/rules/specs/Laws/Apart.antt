@@ -1,0 +1,90 @@
+-- Laws of lengths by their seconds and nanoseconds apart: which record a number of nanoseconds is, what a coefficient does to
+-- seconds and attoseconds, and the sum case by case. Assumes nothing.
+use mathlib.Core.Path.{_≡_, refl, sym}
+use mathlib.Core.Bool.{Bool, true, false, not, _&&_, Bool·beq}
+use Prim.Native.Nat.{ℕ, _+_, _*_, _-_, _/_, _%_, _^_, _<_}
+use native.Mathlib.Nat.{mul-zero, mul-add, mul-assoc}
+use native.Mathlib.Omega.{arith}
+use lib.Dec.{leb, ltb, eqb}
+use lib.Arith.{digits-lt, digits-div, digits-mod}
+use borrow.Author.Tests.{ltb-true, lt-ltb, leb-true, le-leb, lt-leb, ne-eqb}
+use Rattle.rules.specs.declared.Length.{Length}
+use Rattle.rules.specs.Common.{if_then_else_}
+use Rattle.rules.specs.ThePartOfTheCrateWeTake.{zero-length, size, well-formed}
+use Rattle.rules.specs.Evaluation.{nanos, length-of, sum}
+use Rattle.rules.specs.Laws.Choices.{and-left, and-right}
+use Rattle.rules.specs.Laws.Lengths.{limit}
+
+-- no nanoseconds are zero, with a plus
+pub none : (negative : Bool) → length-of negative 0 ≡ zero-length
+unfolding length-of if_then_else_
+none negative = refl
+
+-- any other number below the limit is its seconds and its nanoseconds
+pub apart : (negative : Bool) (seconds nanoseconds : ℕ) → seconds < 2 ^ 64 → nanoseconds < 10 ^ 9 → (seconds * 10 ^ 9 + nanoseconds ≡ 0 → ⊥) → length-of negative (seconds * 10 ^ 9 + nanoseconds) ≡ record { negative = negative; seconds = seconds; nanoseconds = nanoseconds }
+unfolding length-of if_then_else_
+apart negative seconds nanoseconds hs hn some =
+    rw (
+      ne-eqb (seconds * 10 ^ 9 + nanoseconds) 0 some,
+      lt-leb limit (seconds * 10 ^ 9 + nanoseconds) (digits-lt hs hn),
+      digits-div seconds hn,
+      digits-mod seconds hn,
+    )
+
+-- the coefficient multiplies the seconds and the attoseconds; only the attoseconds have anything to cut
+pub nanos-apart : (c s a : ℕ) → nanos c (s * 10 ^ 18 + a) ≡ (c * s + c * a / 10 ^ 9 / 10 ^ 9) * 10 ^ 9 + c * a / 10 ^ 9 % 10 ^ 9
+unfolding nanos
+nanos-apart c s a = rw (mul-add c (s * 10 ^ 18) a, ← mul-assoc c s (10 ^ 18)) (omega arith)
+
+-- with no attoseconds, with the coefficient 1, and with the coefficient 0
+pub nanos-whole : (c s : ℕ) → nanos c (s * 10 ^ 18 + 0) ≡ c * s * 10 ^ 9 + 0
+nanos-whole c s = rw (nanos-apart c s 0, mul-zero c) (omega arith)
+
+pub nanos-one : (s a : ℕ) → nanos 1 (s * 10 ^ 18 + a) ≡ s * 10 ^ 9 + a / 10 ^ 9
+unfolding nanos
+nanos-one s a = omega arith
+
+pub nanos-none : (a : ℕ) → nanos 0 a ≡ 0
+unfolding nanos
+nanos-none a = omega arith
+
+-- ---- a length and its parts
+
+pub proper : (l : Length) → well-formed l ≡ true → l .nanoseconds < 10 ^ 9
+unfolding well-formed
+proper l h =
+    ltb-true (l .nanoseconds) (10 ^ 9)
+    (and-right (ltb (l .seconds) (2 ^ 64)) (ltb (l .nanoseconds) (10 ^ 9)) (and-left _ (not (l .negative && eqb (size l) 0)) h))
+
+-- two tests, each of which the other implies
+agree : (s t : Bool) → (s ≡ true → t ≡ true) → (t ≡ true → s ≡ true) → s ≡ t
+agree true t f g = sym (f refl)
+agree false true f g = g refl
+agree false false f g = refl
+
+-- of two lengths with as many seconds the nanoseconds decide, and of any others the seconds
+pub by-nanoseconds : (a b : Length) → a .seconds ≡ b .seconds → leb (a .nanoseconds) (b .nanoseconds) ≡ leb (size a) (size b)
+unfolding size
+by-nanoseconds a b e =
+    agree _ _ (λ h. le-leb (size a) (size b) (omega (arith, leb-true (a .nanoseconds) (b .nanoseconds) h)))
+    (λ h. le-leb (a .nanoseconds) (b .nanoseconds) (omega (arith, leb-true (size a) (size b) h)))
+
+pub by-seconds : (a b : Length) → (a .seconds ≡ b .seconds → ⊥) → a .nanoseconds < 10 ^ 9 → b .nanoseconds < 10 ^ 9 → ltb (a .seconds) (b .seconds) ≡ leb (size a) (size b)
+unfolding size
+by-seconds a b other ha hb =
+    agree _ _ (λ h. le-leb (size a) (size b) (omega (arith, ltb-true (a .seconds) (b .seconds) h)))
+    (λ h. lt-ltb (a .seconds) (b .seconds) (omega (arith, leb-true (size a) (size b) h)))
+
+-- ---- the sum, case by case
+
+pub sum-alike : (a b : Length) → Bool·beq (a .negative) (b .negative) ≡ true → sum a b ≡ length-of (a .negative) (size a + size b)
+unfolding sum if_then_else_
+sum-alike a b same = rw same
+
+pub sum-first : (a b : Length) → Bool·beq (a .negative) (b .negative) ≡ false → leb (size b) (size a) ≡ true → sum a b ≡ length-of (a .negative) (size a - size b)
+unfolding sum if_then_else_
+sum-first a b other longer = rw (other, longer)
+
+pub sum-second : (a b : Length) → Bool·beq (a .negative) (b .negative) ≡ false → leb (size b) (size a) ≡ false → sum a b ≡ length-of (b .negative) (size b - size a)
+unfolding sum if_then_else_
+sum-second a b other shorter = rw (other, shorter)

@@ -1,0 +1,3 @@
+-- What the contracts of this crate say that no other crate's do.
+pub mod Wide
+pub mod Duration
