@@ -1,3 +1,7 @@
--- What the contracts of this crate say that no other crate's do.
+-- The definitions that the contracts of this crate cite beside those of document 01, and laws about both.
+pub mod Numbers
+pub mod Digits
+pub mod Places
+pub mod Evaluating
 pub mod Wide
 pub mod Duration

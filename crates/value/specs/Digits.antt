@@ -1,0 +1,307 @@
+-- Laws of document 01's digits: the bytes of a run, the number that digits spell, and the parts of a span.
+-- Assumes nothing.
+use mathlib.Core.Path.{_≡_, refl, ap, sym, _∙_}
+use mathlib.Core.Bool.{Bool, true, false, _&&_, _||_}
+use mathlib.Core.List.{List, [], _∷_, _++_}
+use Prim.Native.Nat.{ℕ, zero, suc, _+_, _*_, _-_, _^_, _≤_, _<_, min}
+use native.Mathlib.Nat.{add-assoc, add-zero, zero-add, suc-add, add-suc, mul-assoc, zero-mul, add-mul, pow-succ', le-refl, le-trans, lt-of-lt-of-le, one-le-pow, pow-le-pow-right, min-eq-left, zero-min, min-zero, suc-min-suc, sub-zero, zero-sub, suc-sub-suc}
+use native.Mathlib.Numerals.{add-one}
+use native.Mathlib.Omega.{arith}
+use borrow.Author.Tests.{le-leb, lt-leb, leb-true, leb-false, eqb-true, eqb-false}
+use lib.Dec.{leb, eqb, lit<}
+use lib.ListN.{length, getD, take, drop, length-take, drop-of-length-le}
+use lib.Pow.{pow-add}
+use lib.Seq.{slice, slice-cons, take-nil, drop-nil, drop-drop}
+use Rattle.rules.specs.Common.{if_then_else_, between, all, front, run}
+use Rattle.rules.specs.SettingsAndUnitTable.{DIGIT, class, is}
+use Rattle.rules.specs.Evaluation.{spelled}
+use Rattle.rules.specs.Laws.Choices.{and-left, and-right, and-both, all-first, all-others}
+use Rattle.rules.specs.Laws.Texts.{sees-here, sees-end, run-more, run-stop, run-from, slice-shift}
+
+-- ---- powers of ten
+
+pub ten-pos : (k : ℕ) → 0 < 10 ^ k
+ten-pos k = one-le-pow k 10 (lit< tt)
+
+pub ten-grows : {i j : ℕ} → i ≤ j → 10 ^ i ≤ 10 ^ j
+ten-grows h = pow-le-pow-right (lit< tt) h
+
+pub ten-sum : (i j k : ℕ) → k ≡ i + j → 10 ^ k ≡ 10 ^ i * 10 ^ j
+ten-sum i j k e = ap (λ n. 10 ^ n) e ∙ pow-add 10 i j
+
+-- ---- the bytes of a run
+
+-- a byte that passes goes on with the run, one that does not stops it, and so does the end
+pub run-on : (test : ℕ → Bool) (text : List ℕ) (place : ℕ) → place < length text → test (getD text place 0) ≡ true → run test text place ≡ run test text (place + 1)
+run-on test text place h e = run-more test text place (sees-here test text place h ∙ e)
+
+pub run-off : (test : ℕ → Bool) (text : List ℕ) (place : ℕ) → place < length text → test (getD text place 0) ≡ false → run test text place ≡ place
+run-off test text place h e = run-stop test text place (sees-here test text place h ∙ e)
+
+pub run-end : (test : ℕ → Bool) (text : List ℕ) (place : ℕ) → length text ≤ place → run test text place ≡ place
+run-end test text place h = run-stop test text place (sees-end test text place h)
+
+-- what passes a test that is as strict stands in as long a run
+front-same : (test other : ℕ → Bool) → ((b : ℕ) → test b ≡ other b) → (rest : List ℕ) → front test rest ≡ front other rest
+unfolding front
+front-same test other h [] = refl
+front-same test other h (b ∷ rest) = rw (h b, front-same test other h rest)
+
+pub run-same : (test other : ℕ → Bool) → ((b : ℕ) → test b ≡ other b) → (text : List ℕ) (place : ℕ) → run test text place ≡ run other text place
+unfolding run
+run-same test other h text place = rw (front-same test other h (drop place text))
+
+front-through : (narrow broad : ℕ → Bool) → ((b : ℕ) → narrow b ≡ true → broad b ≡ true) → (rest : List ℕ) → front broad rest ≡ front narrow rest + front broad (drop (front narrow rest) rest)
+unfolding front if_then_else_
+front-through narrow broad h [] = refl
+front-through narrow broad h (b ∷ rest) = go (narrow b) refl (front-through narrow broad h rest)
+  where
+    go : (c : Bool) → narrow b ≡ c → front broad rest ≡ front narrow rest + front broad (drop (front narrow rest) rest) → front broad (b ∷ rest) ≡ (if c then suc (front narrow rest) else 0) + front broad (drop (if c then suc (front narrow rest) else 0) (b ∷ rest))
+    go true e more = rw (h b e, suc-add) (ap suc more)
+    go false e more = sym (zero-add _)
+
+-- a run goes on from where a run of a narrower test ends
+pub run-through : (narrow broad : ℕ → Bool) → ((b : ℕ) → narrow b ≡ true → broad b ≡ true) → (text : List ℕ) (place : ℕ) → run broad text place ≡ run broad text (run narrow text place)
+unfolding run
+run-through narrow broad h text place =
+    rw (front-through narrow broad h (drop place text), drop-drop (front narrow (drop place text)) place text, add-assoc)
+
+-- a digit is a byte from `0` to `9`
+pub digit-between : (b : ℕ) → between 48 57 b ≡ is DIGIT b
+unfolding is class if_then_else_
+digit-between b = go (between 48 57 b)
+  where
+    go : (c : Bool) → c ≡ eqb (if c then DIGIT else if eqb b 43 || eqb b 45 then 1 else if eqb b 46 then 2 else if between 65 90 b || between 97 122 b then 3 else 4) DIGIT
+    go true = refl
+    go false = other (eqb b 43 || eqb b 45) (eqb b 46) (between 65 90 b || between 97 122 b)
+      where
+        other : (x y z : Bool) → false ≡ eqb (if x then 1 else if y then 2 else if z then 3 else 4) DIGIT
+        other true y z = refl
+        other false true z = refl
+        other false false true = refl
+        other false false false = refl
+
+pub between-in : (low high b : ℕ) → low ≤ b → b ≤ high → between low high b ≡ true
+unfolding between
+between-in low high b h k = and-both (le-leb low b h) (le-leb b high k)
+
+pub between-under : (low high b : ℕ) → b < low → between low high b ≡ false
+unfolding between
+between-under low high b h = rw (lt-leb low b h)
+
+pub between-over : (low high b : ℕ) → high < b → between low high b ≡ false
+unfolding between
+between-over low high b h = rw (lt-leb b high h) (and-false (leb low b))
+  where
+    and-false : (a : Bool) → (a && false) ≡ false
+    and-false true = refl
+    and-false false = refl
+
+-- from a byte to itself stands that byte alone
+pub between-itself : (a b : ℕ) → between a a b ≡ eqb a b
+unfolding between
+between-itself a b = go (eqb a b) refl
+  where
+    go : (c : Bool) → eqb a b ≡ c → (leb a b && leb b a) ≡ c
+    go true e = and-both (le-leb a b (omega (arith, eqb-true a b e))) (le-leb b a (omega (arith, eqb-true a b e)))
+    go false e = apart (leb a b) refl (leb b a) refl
+      where
+        apart : (x : Bool) → leb a b ≡ x → (y : Bool) → leb b a ≡ y → (x && y) ≡ false
+        apart true f true g = absurd (eqb-false a b e (omega (arith, leb-true a b f, leb-true b a g)))
+        apart true f false g = refl
+        apart false f y g = refl
+
+-- a run of digits is a run from `0` to `9`, also after the zeros before it, and a run of zeros one from `0` to `0`
+pub run-digits : (text : List ℕ) (place : ℕ) → run (between 48 57) text place ≡ run (is DIGIT) text place
+run-digits text place = run-same (between 48 57) (is DIGIT) digit-between text place
+
+pub run-zeros : (text : List ℕ) (place : ℕ) → run (between 48 48) text place ≡ run (eqb 48) text place
+run-zeros text place = run-same (between 48 48) (eqb 48) (between-itself 48) text place
+
+zero-digit : (b : ℕ) → eqb 48 b ≡ true → is DIGIT b ≡ true
+unfolding is class between if_then_else_
+zero-digit b e = rw (← (eqb-true 48 b e))
+
+pub run-after-zeros : (text : List ℕ) (place : ℕ) → run (is DIGIT) text (run (eqb 48) text place) ≡ run (is DIGIT) text place
+run-after-zeros text place = sym (run-through (eqb 48) (is DIGIT) zero-digit text place)
+
+-- where the zeros end is no later than where the digits end
+pub zeros-first : (text : List ℕ) (place : ℕ) → run (eqb 48) text place ≤ run (is DIGIT) text place
+zeros-first text place = rw (← (run-after-zeros text place)) (run-from (is DIGIT) text (run (eqb 48) text place))
+
+pub digit-low : (b : ℕ) → is DIGIT b ≡ true → 48 ≤ b
+unfolding between
+digit-low b e = leb-true 48 b (and-left (leb 48 b) (leb b 57) (digit-between b ∙ e))
+
+pub digit-high : (b : ℕ) → is DIGIT b ≡ true → b ≤ 57
+unfolding between
+digit-high b e = leb-true b 57 (and-right (leb 48 b) (leb b 57) (digit-between b ∙ e))
+
+-- ---- a test on parts of a list
+
+pub all-take : (test : ℕ → Bool) (k : ℕ) (xs : List ℕ) → all test xs ≡ true → all test (take k xs) ≡ true
+unfolding all
+all-take test zero xs e = refl
+all-take test (suc k) [] e = refl
+all-take test (suc k) (x ∷ xs) e = and-both (and-left (test x) (all test xs) e) (all-take test k xs (and-right (test x) (all test xs) e))
+
+pub all-drop : (test : ℕ → Bool) (k : ℕ) (xs : List ℕ) → all test xs ≡ true → all test (drop k xs) ≡ true
+unfolding all
+all-drop test zero xs e = e
+all-drop test (suc k) [] e = refl
+all-drop test (suc k) (x ∷ xs) e = all-drop test k xs (and-right (test x) (all test xs) e)
+
+pub all-left : (test : ℕ → Bool) (xs ys : List ℕ) → all test (xs ++ ys) ≡ true → all test xs ≡ true
+unfolding all
+all-left test [] ys e = refl
+all-left test (x ∷ xs) ys e = and-both (and-left (test x) (all test (xs ++ ys)) e) (all-left test xs ys (and-right (test x) (all test (xs ++ ys)) e))
+
+pub all-right : (test : ℕ → Bool) (xs ys : List ℕ) → all test (xs ++ ys) ≡ true → all test ys ≡ true
+unfolding all
+all-right test [] ys e = e
+all-right test (x ∷ xs) ys e = all-right test xs ys (and-right (test x) (all test (xs ++ ys)) e)
+
+-- ---- the first of two lists, and of both
+
+pub take-both : (k : ℕ) (xs ys : List ℕ) → take k (xs ++ ys) ≡ take k xs ++ take (k - length xs) ys
+take-both k [] ys = rw (sub-zero k) (ap (λ l. l ++ take k ys) (sym (take-nil k)))
+take-both zero (x ∷ xs) ys = rw (zero-sub (suc (length xs)))
+take-both (suc k) (x ∷ xs) ys = rw (suc-sub-suc k (length xs), take-both k xs ys)
+
+pub drop-both : (k : ℕ) (xs ys : List ℕ) → drop k (xs ++ ys) ≡ drop k xs ++ drop (k - length xs) ys
+drop-both k [] ys = rw (sub-zero k) (ap (λ l. l ++ drop k ys) (sym (drop-nil k)))
+drop-both zero (x ∷ xs) ys = rw (zero-sub (suc (length xs)))
+drop-both (suc k) (x ∷ xs) ys = rw (suc-sub-suc k (length xs)) (drop-both k xs ys)
+
+-- ---- the parts of a span before and after so many bytes of it
+
+slice-none : (start end : ℕ) (text : List ℕ) → end ≤ start → slice start end text ≡ []
+slice-none start end text h = drop-of-length-le (take end text) {i = start} (omega (arith, length-take end text))
+
+-- a span by its start and its size
+sized : (start size : ℕ) (text : List ℕ) → take size (drop start text) ≡ slice start (start + size) text
+sized start size text = slice-shift text start 0 size ∙ ap (λ n. slice n (start + size) text) (add-zero start)
+
+slice-sized : (start end : ℕ) (text : List ℕ) → slice start end text ≡ take (end - start) (drop start text)
+slice-sized start end text = go (leb start end) refl
+  where
+    go : (c : Bool) → leb start end ≡ c → slice start end text ≡ take (end - start) (drop start text)
+    go true e = let sum : start + (end - start) ≡ end = omega (arith, leb-true start end e) in sym (sized start (end - start) text ∙ ap (λ n. slice start n text) sum)
+    go false e =
+        let none : end - start ≡ 0 = omega (arith, leb-false start end e) in
+        slice-none start end text (omega (arith, leb-false start end e)) ∙ sym (ap (λ n. take n (drop start text)) none)
+
+take-min : (m n : ℕ) (xs : List ℕ) → take m (take n xs) ≡ take (min m n) xs
+take-min zero n xs = rw (zero-min n)
+take-min (suc m) zero xs = rw (min-zero (suc m))
+take-min (suc m) (suc n) [] = rw (suc-min-suc m n)
+take-min (suc m) (suc n) (x ∷ xs) = rw (suc-min-suc m n, take-min m n xs)
+
+-- they part at the cut, which is the span's end if it has fewer
+module _ (start end count : ℕ) (text : List ℕ) {cut : ℕ} (at : cut ≡ start + min count (end - start)) where
+  pub slice-before : take count (slice start end text) ≡ slice start cut text
+  slice-before = rw (at, slice-sized start end text, take-min count (end - start) (drop start text)) (sized start (min count (end - start)) text)
+
+  pub slice-after : drop count (slice start end text) ≡ slice cut end text
+  slice-after = rw at (drop-drop count start (take end text) ∙ go (leb count (end - start)) refl)
+    where
+      go : (c : Bool) → leb count (end - start) ≡ c → slice (start + count) end text ≡ slice (start + min count (end - start)) end text
+      go true e =
+          let h : count ≤ end - start = leb-true count (end - start) e in
+          ap (λ n. slice (start + n) end text) (sym (min-eq-left h))
+      go false e =
+          let h : end - start < count = leb-false count (end - start) e in
+          slice-none (start + count) end text (omega arith) ∙ sym (slice-none (start + min count (end - start)) end text (omega arith))
+
+  -- what passes in the span passes in either part
+  pub passes-before : (test : ℕ → Bool) → all test (slice start end text) ≡ true → all test (slice start cut text) ≡ true
+  passes-before test e = rw (← slice-before) (all-take test count (slice start end text) e)
+
+  pub passes-after : (test : ℕ → Bool) → all test (slice start end text) ≡ true → all test (slice cut end text) ≡ true
+  passes-after test e = rw (← slice-after) (all-drop test count (slice start end text) e)
+
+-- the cut is not beyond the span, and of the count those bytes are left that the span lacks
+module _ (start end count : ℕ) {cut : ℕ} (at : cut ≡ start + min count (end - start)) where
+  pub cut-within : start ≤ end → cut ≤ end
+  cut-within h = omega arith
+
+  pub cut-count : cut - start ≤ count
+  cut-count = omega arith
+
+  pub cut-left : count - (cut - start) ≡ count - (end - start)
+  cut-left = omega arith
+
+-- the bytes of a run pass
+front-passes : (test : ℕ → Bool) (rest : List ℕ) → all test (take (front test rest) rest) ≡ true
+unfolding front all if_then_else_
+front-passes test [] = refl
+front-passes test (b ∷ rest) = go (test b) refl (front-passes test rest)
+  where
+    go : (c : Bool) → test b ≡ c → all test (take (front test rest) rest) ≡ true → all test (take (if c then suc (front test rest) else 0) (b ∷ rest)) ≡ true
+    go true e more = and-both e more
+    go false e more = refl
+
+pub run-passes : (test : ℕ → Bool) (text : List ℕ) (place : ℕ) → all test (slice place (run test text place) text) ≡ true
+unfolding run
+run-passes test text place = rw (← (sized place (front test (drop place text)) text)) (front-passes test (drop place text))
+
+-- ---- the number that digits spell
+
+pub spelled-grows : (n : ℕ) (ds : List ℕ) → n ≤ spelled n ds
+unfolding spelled
+spelled-grows n [] = le-refl n
+spelled-grows n (d ∷ ds) = le-trans (omega arith) (spelled-grows (n * 10 + (d - 48)) ds)
+
+-- what is left to read of a span: digits, which after the number so far spell the whole number
+pub record Unread (text : List ℕ) (end whole number place : ℕ) : Type 0 where
+  pub spells : spelled number (slice place end text) ≡ whole
+  pub digits : all (is DIGIT) (slice place end text) ≡ true
+
+pub unread-done : {text : List ℕ} {end whole number place : ℕ} → Unread text end whole number place → end ≤ place → number ≡ whole
+unfolding spelled
+unread-done {text} {end} {whole} {number} {place} u h = (rw (drop-of-length-le (take end text) {i = place} (omega (arith, length-take end text))) at (u .spells))
+
+-- one more digit: the number so far times ten, and the digit
+module _ {text : List ℕ} {end whole number place : ℕ} (u : Unread text end whole number place) (h : place < end) (k : end ≤ length text) where
+  pub unread-digit : is DIGIT (getD text place 0) ≡ true
+  unread-digit = all-first (is DIGIT) (getD text place 0) (slice (suc place) end text) (rw (slice-cons place end text 0 h k) at (u .digits))
+
+  pub unread-more : Unread text end whole (number * 10 + (getD text place 0 - 48)) (place + 1)
+  unfolding spelled
+  unread-more = record {
+    spells = rw (add-one place) (rw (slice-cons place end text 0 h k) at (u .spells));
+    digits = rw (add-one place) (all-others (is DIGIT) (getD text place 0) (slice (suc place) end text) (rw (slice-cons place end text 0 h k) at (u .digits)));
+  }
+
+  pub unread-grows : number * 10 + (getD text place 0 - 48) ≤ whole
+  unread-grows = rw (← (unread-more .spells)) (spelled-grows (number * 10 + (getD text place 0 - 48)) (slice (place + 1) end text))
+
+pub spelled-append : (n : ℕ) (ds es : List ℕ) → spelled n (ds ++ es) ≡ spelled (spelled n ds) es
+unfolding spelled
+spelled-append n [] es = refl
+spelled-append n (d ∷ ds) es = spelled-append (n * 10 + (d - 48)) ds es
+
+-- the number so far moves up by a place for each digit
+pub spelled-from : (n : ℕ) (ds : List ℕ) → spelled n ds ≡ n * 10 ^ length ds + spelled 0 ds
+unfolding spelled
+spelled-from n [] = omega arith
+spelled-from n (d ∷ ds) =
+    rw (spelled-from (n * 10 + (d - 48)) ds, spelled-from (0 * 10 + (d - 48)) ds, pow-succ' 10 (length ds), add-mul (n * 10) (d - 48) _, mul-assoc n 10 (10 ^ length ds), zero-mul 10, zero-add (d - 48), add-assoc)
+
+-- digits after a number of k places spell a number of as many places more
+pub spelled-below : (k n : ℕ) (ds : List ℕ) → all (is DIGIT) ds ≡ true → n < 10 ^ k → spelled n ds < 10 ^ (k + length ds)
+unfolding spelled
+spelled-below k n [] e h = rw (add-zero k) h
+spelled-below k n (d ∷ ds) e h =
+    rw (add-suc k (length ds), ← (suc-add k (length ds)))
+    (spelled-below (suc k) (n * 10 + (d - 48)) ds (all-others (is DIGIT) d ds e)
+    (rw (pow-succ' 10 k) (omega (arith, digit-high d (all-first (is DIGIT) d ds e)))))
+
+-- digits for which there is room, of k places in all, leave the room that is left
+pub spelled-in-room : (k n room : ℕ) (ds : List ℕ) → room ≤ k → n < 10 ^ (k - room) → all (is DIGIT) ds ≡ true → spelled n (take room ds) < 10 ^ (k - (room - length ds))
+spelled-in-room k n room ds h b e =
+    let sum : k - room + length (take room ds) ≡ k - (room - length ds) = omega (arith, length-take room ds) in
+    rw (← sum) (spelled-below (k - room) n (take room ds) (all-take (is DIGIT) room ds e) b)
+
+pub spelled-in-all : (k n room : ℕ) (ds : List ℕ) → room ≤ k → n < 10 ^ (k - room) → all (is DIGIT) ds ≡ true → spelled n (take room ds) < 10 ^ k
+spelled-in-all k n room ds h b e = lt-of-lt-of-le (spelled-in-room k n room ds h b e) (ten-grows {i = k - (room - length ds)} {j = k} (omega arith))

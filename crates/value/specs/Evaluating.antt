@@ -1,0 +1,99 @@
+-- Laws of evaluation: what was typed, moved by its powers of ten, is either too large or seconds and attoseconds. Assumes nothing.
+use mathlib.Core.Path.{_≡_, refl, sym, _∙_, ap}
+use mathlib.Core.Bool.{Bool, true, false, not, xor, Bool·beq}
+use mathlib.Core.List.{List}
+use Prim.Native.Nat.{ℕ, zero, suc, _+_, _*_, _-_, _/_, _%_, _^_, _≤_, _<_}
+use native.Mathlib.Nat.{add-zero, one-mul, mul-le-mul-right, le-trans, le-of-eq, pos-of-ne-zero, le-div-iff-mul-le, div-add-mod', mod-lt}
+use native.Mathlib.Omega.{arith}
+use borrow.Author.Tests.{ltb-false}
+use lib.Dec.{ltb, lit<}
+use Rattle.rules.specs.declared.DurationRepr.{DurationRepr}
+use Rattle.rules.specs.declared.Length.{Length}
+use Rattle.rules.specs.Common.{if_then_else_}
+use Rattle.rules.specs.ThePartOfTheCrateWeTake.{zero-length, largest}
+use Rattle.rules.specs.Evaluation.{spelled, digits-of, up, down, attos, nanos, length-of, evaluate}
+use Rattle.rules.specs.Laws.Apart.{none, nanos-none}
+use Rattle.rules.specs.Laws.Lengths.{limit, size-clamped}
+use Rattle.value.specs.declared.number.Shifted.{Shifted}
+use Rattle.value.specs.declared.number.Shifted.the-variants as shifted
+use Rattle.value.specs.Numbers.{attos-of, shifted-of}
+
+-- ---- the typed exponent goes to the powers of its sign
+
+module _ (text : List ℕ) (d : DurationRepr) where
+  abbrev typed : ℕ → ℕ → ℕ
+  typed up down = attos (spelled 0 (digits-of text (d .whole) (d .fract))) (d .fract .end - d .fract .start) up down
+
+  pub typed-down : d .exponent .negative ≡ true → typed (d .multiplier .up) (d .multiplier .down + d .exponent .power) ≡ attos-of text d
+  unfolding attos-of up down if_then_else_
+  typed-down e = rw (e, add-zero)
+
+  pub typed-up : d .exponent .negative ≡ false → typed (d .multiplier .up + d .exponent .power) (d .multiplier .down) ≡ attos-of text d
+  unfolding attos-of up down if_then_else_
+  typed-up e = rw (e, add-zero)
+
+  -- ---- what the length is, case by case
+
+  pub evaluate-infinite : d .infinite ≡ true → evaluate text d ≡ largest (d .negative)
+  unfolding evaluate if_then_else_
+  evaluate-infinite e = rw e
+
+  pub evaluate-finite : d .infinite ≡ false → evaluate text d ≡ length-of (xor (d .negative) (d .multiplier .negative)) (nanos (d .multiplier .coefficient) (attos-of text d))
+  unfolding evaluate if_then_else_ attos-of
+  evaluate-finite e = rw e
+
+  pub evaluate-nothing : d .infinite ≡ false → d .multiplier .coefficient ≡ 0 → evaluate text d ≡ zero-length
+  evaluate-nothing e z =
+      evaluate-finite e ∙ ap (length-of (xor (d .negative) (d .multiplier .negative))) (ap (λ c. nanos c (attos-of text d)) z ∙ nanos-none (attos-of text d)) ∙ none _
+
+-- ---- too large, or seconds and attoseconds
+
+never : _≡_ {A = ℕ} 0 1 → ⊥
+never z = omega arith
+
+-- what a shifted number says of its attoseconds
+pub record Parts (a seconds attos : ℕ) : Type 0 where
+  pub whole : seconds * 10 ^ 18 + attos ≡ a
+  pub below : attos < 10 ^ 18
+
+pub fits-parts : (a seconds attos : ℕ) → shifted-of a ≡ shifted.Fits seconds attos → Parts a seconds attos
+unfolding shifted-of if_then_else_
+fits-parts a seconds attos e = go (ltb (a / 10 ^ 18) (2 ^ 64)) refl
+  where
+    go : (b : Bool) → ltb (a / 10 ^ 18) (2 ^ 64) ≡ b → Parts a seconds attos
+    go true t =
+        let f : shifted.Fits (a / 10 ^ 18) (a % 10 ^ 18) ≡ shifted.Fits seconds attos = rw t at e in
+        let s : a / 10 ^ 18 ≡ seconds = cc in
+        let r : a % 10 ^ 18 ≡ attos = cc in
+        record { whole = rw (← s, ← r) (div-add-mod' a (10 ^ 18)); below = rw (← r) (mod-lt a (lit< tt)) }
+    go false t =
+        let f : shifted.TooLarge ≡ shifted.Fits seconds attos = rw t at e in
+        let z : _≡_ {A = ℕ} 0 1 = cc in
+        absurd (never z)
+
+pub too-many : (a : ℕ) → shifted-of a ≡ shifted.TooLarge → 2 ^ 64 * 10 ^ 18 ≤ a
+unfolding shifted-of if_then_else_
+too-many a e = go (ltb (a / 10 ^ 18) (2 ^ 64)) refl
+  where
+    go : (b : Bool) → ltb (a / 10 ^ 18) (2 ^ 64) ≡ b → 2 ^ 64 * 10 ^ 18 ≤ a
+    go true t =
+        let f : shifted.Fits (a / 10 ^ 18) (a % 10 ^ 18) ≡ shifted.TooLarge = rw t at e in
+        let z : _≡_ {A = ℕ} 0 1 = cc in
+        absurd (never z)
+    go false t = le-div-iff-mul-le (lit< tt) .0 (ltb-false (a / 10 ^ 18) (2 ^ 64) t)
+
+-- a number of seconds that 64 bits do not hold passes the largest length, whatever multiplies it
+pub large-passes : (c a : ℕ) → (c ≡ 0 → ⊥) → 2 ^ 64 * 10 ^ 18 ≤ a → limit ≤ nanos c a
+unfolding nanos
+large-passes c a some h =
+    le-div-iff-mul-le {k = 10 ^ 9} {x = limit} {y = c * a} (lit< tt) .1 (le-trans h (le-trans (le-of-eq (sym (one-mul a))) (mul-le-mul-right a (pos-of-ne-zero some))))
+
+module _ (text : List ℕ) (d : DurationRepr) (finite : d .infinite ≡ false) where
+  pub evaluate-large : (d .multiplier .coefficient ≡ 0 → ⊥) → shifted-of (attos-of text d) ≡ shifted.TooLarge → evaluate text d ≡ largest (xor (d .negative) (d .multiplier .negative))
+  evaluate-large some e =
+      evaluate-finite text d finite ∙ size-clamped _ _ (large-passes (d .multiplier .coefficient) (attos-of text d) some (too-many (attos-of text d) e))
+
+  pub evaluate-fits : (seconds attos : ℕ) → shifted-of (attos-of text d) ≡ shifted.Fits seconds attos → evaluate text d ≡ length-of (xor (d .negative) (d .multiplier .negative)) (nanos (d .multiplier .coefficient) (seconds * 10 ^ 18 + attos))
+  evaluate-fits seconds attos e =
+      evaluate-finite text d finite
+      ∙ ap (λ a. length-of (xor (d .negative) (d .multiplier .negative)) (nanos (d .multiplier .coefficient) a)) (sym ((fits-parts (attos-of text d) seconds attos e) .whole))

@@ -1,0 +1,64 @@
+-- What the numbers of a text come to in words of 64 bits. Assumes nothing.
+use mathlib.Core.Path.{_≡_}
+use mathlib.Core.Bool.{true}
+use mathlib.Core.List.{List}
+use Prim.Native.Nat.{ℕ, _+_, _*_, _-_, _/_, _%_, _^_, _≤_, min}
+use lib.Dec.{ltb}
+use lib.ListN.{length, take}
+use Rattle.rules.specs.declared.Whole.{Whole}
+use Rattle.rules.specs.declared.Fract.{Fract}
+use Rattle.rules.specs.declared.DurationRepr.{DurationRepr}
+use Rattle.rules.specs.Common.{if_then_else_, all}
+use Rattle.rules.specs.SettingsAndUnitTable.{DIGIT, is}
+use Rattle.rules.specs.Evaluation.{spelled, digits-of, up, down, attos}
+use Rattle.value.specs.declared.digits.Word.{Word}
+use Rattle.value.specs.declared.digits.Word.the-variants.{Fits, TooLarge}
+use Rattle.value.specs.declared.digits.Taken.{Taken}
+use Rattle.value.specs.declared.number.Cut.{Cut}
+use Rattle.value.specs.declared.number.Shifted.{Shifted}
+use Rattle.value.specs.declared.number.Shifted.the-variants as shifted
+
+-- a number, if 64 bits hold it
+unfoldable pub as-word : ℕ → Word
+as-word n = if ltb n (2 ^ 64) then Fits n else TooLarge
+
+-- the first digits that there is room for, after those that spelled so-far, and the room left
+unfoldable pub taken : ℕ → ℕ → List ℕ → Taken
+taken so-far room digits = record { number = spelled so-far (take room digits); room = room - length digits }
+
+-- the number that the first so many digits spell, with zeros put in where there are fewer
+unfoldable pub places : ℕ → List ℕ → ℕ
+places count digits = spelled 0 (take count digits) * 10 ^ (count - length digits)
+
+-- how many digits stand before the typed point, and after it
+abbrev pub whole-size : Whole → ℕ
+whole-size whole = whole .end - whole .start
+
+abbrev pub fract-size : Fract → ℕ
+fract-size fract = fract .end - fract .start
+
+-- where so many digits, counted over both spans, come to in each, and the zeros for those that both lack
+unfoldable pub cut-at : Whole → Fract → ℕ → Cut
+cut-at whole fract point = record {
+  whole = whole .start + min point (whole-size whole);
+  fract = fract .start + min (point - whole-size whole) (fract-size fract);
+  zeros = point - whole-size whole - fract-size fract;
+}
+
+-- a typed number: both spans lie in the text, and digits stand in them
+pub record Spans (text : List ℕ) (whole : Whole) (fract : Fract) : Type 0 where
+  pub whole-starts : whole .start ≤ whole .end
+  pub whole-ends : whole .end ≤ length text
+  pub fract-starts : fract .start ≤ fract .end
+  pub fract-ends : fract .end ≤ length text
+  pub digits : all (is DIGIT) (digits-of text whole fract) ≡ true
+
+-- the attoseconds of what was typed, before it is multiplied
+unfoldable pub attos-of : List ℕ → DurationRepr → ℕ
+attos-of text d =
+    attos (spelled 0 (digits-of text (d .whole) (d .fract))) (d .fract .end - d .fract .start) (up (d .exponent) (d .multiplier))
+    (down (d .exponent) (d .multiplier))
+
+-- so many attoseconds, if 64 bits hold their seconds
+unfoldable pub shifted-of : ℕ → Shifted
+shifted-of a = if ltb (a / 10 ^ 18) (2 ^ 64) then shifted.Fits (a / 10 ^ 18) (a % 10 ^ 18) else shifted.TooLarge

@@ -1,0 +1,133 @@
+// Digits of a text: where a run of them ends, and the number that they spell.
+ghost use mathlib.Core.Path.{_≡_};
+ghost use mathlib.Core.Bool.{true};
+ghost use Prim.Native.Nat.{_+_, _-_, _≤_, _<_, _^_, min};
+ghost use lib.Dec.{eqb};
+ghost use lib.ListN.{length};
+ghost use lib.Seq.{slice};
+ghost use Rattle.rules.specs.Common.{all, between, run};
+ghost use Rattle.rules.specs.SettingsAndUnitTable.{DIGIT, is};
+ghost use Rattle.rules.specs.Evaluation.{spelled};
+ghost use Rattle.value.specs.Numbers.{as-word, taken};
+use rules::Fract;
+use rules::Whole;
+
+// A number, if a u64 holds it.
+pub enum Word {
+    Fits(u64),
+    TooLarge,
+}
+
+// A number of decimals, and how many more it has room for.
+pub struct Taken {
+    pub number: u64,
+    pub room: usize,
+}
+
+// After this many tens a digit may still fit, if it is at most LAST_DIGIT: together they are the largest u64.
+const MOST_TENS: u64 = 1_844_674_407_370_955_161;
+
+const LAST_DIGIT: u64 = 5;
+
+fn wide(byte: u8) -> u64
+    ensures { λ r. ⌜ r ≡ byte ⌝ }
+{
+    byte as u64
+}
+
+// The place after the bytes from low to high that stand at the place and after it.
+fn past(text: &[u8], place: usize, low: u8, high: u8) -> usize
+    ensures { λ r. ⌜ r ≡ run (between low high) (now (text .entry)) place ⌝ }
+{
+    let mut next = place;
+    while next < text.len() {
+        let byte = text[next];
+        if byte < low {
+            return next;
+        }
+        if high < byte {
+            return next;
+        }
+        next += 1;
+    }
+    next
+}
+
+// Leading zeros spell nothing: the number starts after them, and the digits go on from there.
+pub fn parse_digits_strip_zeros(text: &[u8], place: usize) -> Whole
+    ensures { λ r. ⌜ r ≡ record { start = run (eqb 48) (now (text .entry)) place; end = run (is DIGIT) (now (text .entry)) place } ⌝ }
+{
+    let start = past(text, place, b'0', b'0');
+    Whole {
+        start,
+        end: past(text, start, b'0', b'9'),
+    }
+}
+
+// Zeros count after the point, so none is dropped.
+pub fn parse_digits(text: &[u8], place: usize) -> Fract
+    ensures { λ r. ⌜ r ≡ record { start = place; end = run (is DIGIT) (now (text .entry)) place } ⌝ }
+{
+    Fract {
+        start: place,
+        end: past(text, place, b'0', b'9'),
+    }
+}
+
+// The place so many bytes into a span, and the span's end if it has fewer.
+pub fn place_within(start: usize, end: usize, count: usize) -> usize
+    ensures { λ r. ⌜ r ≡ start + min count (end - start) ⌝ }
+{
+    if end <= start {
+        return start;
+    }
+    if end - start < count {
+        return end;
+    }
+    start + count
+}
+
+// The digits of a span after those that spelled so_far. A number only grows, so the first overflow decides.
+pub fn append_digits(so_far: u64, text: &[u8], start: usize, end: usize) -> Word
+    requires { ⌜ end ≤ length (now text) ⌝ }
+    requires { ⌜ all (is DIGIT) (slice start end (now text)) ≡ true ⌝ }
+    ensures { λ r. ⌜ r ≡ as-word (spelled «so_far» (slice start end (now (text .entry)))) ⌝ }
+{
+    let mut number = so_far;
+    let mut place = start;
+    while place < end {
+        let digit = wide(text[place] - b'0');
+        if MOST_TENS <= number {
+            if MOST_TENS < number {
+                return Word::TooLarge;
+            }
+            if LAST_DIGIT < digit {
+                return Word::TooLarge;
+            }
+        }
+        number = number * 10 + digit;
+        place += 1;
+    }
+    Word::Fits(number)
+}
+
+// At most so many digits of a span as there is room for, after the decimals that spelled so_far. Eighteen decimals always
+// fit, so that nothing is tested on the way.
+pub fn take_digits(so_far: u64, room: usize, text: &[u8], start: usize, end: usize) -> Taken
+    requires { ⌜ (room ≤ 18) × («so_far» < 10 ^ (18 - room)) ⌝ }
+    requires { ⌜ end ≤ length (now text) ⌝ }
+    requires { ⌜ all (is DIGIT) (slice start end (now text)) ≡ true ⌝ }
+    ensures { λ r. ⌜ r ≡ taken «so_far» room (slice start end (now (text .entry))) ⌝ }
+{
+    let stop = place_within(start, end, room);
+    let mut number = so_far;
+    let mut place = start;
+    while place < stop {
+        number = number * 10 + wide(text[place] - b'0');
+        place += 1;
+    }
+    Taken {
+        number,
+        room: room - (stop - start),
+    }
+}

@@ -1,0 +1,45 @@
+// From what was typed to a length: the number moved by its powers of ten, multiplied and rounded down.
+ghost use mathlib.Core.Path.{_≡_};
+ghost use Rattle.rules.specs.Evaluation.{evaluate};
+ghost use Rattle.value.specs.Numbers.{Spans, attos-of, shifted-of};
+use crate::duration::calculate_duration;
+use crate::duration::largest;
+use crate::duration::zero;
+use crate::number::Shifted;
+use crate::number::shift_number;
+use rules::DurationRepr;
+use rules::Length;
+
+// The typed number times its powers of ten, those of the unit and the typed one.
+fn shift_typed(text: &[u8], d: DurationRepr) -> Shifted
+    requires { ⌜ Spans (now text) (d .whole) (d .fract) ⌝ }
+    ensures { λ r. ⌜ r ≡ shifted-of (attos-of (now (text .entry)) d) ⌝ }
+{
+    let up = d.multiplier.up as u32;
+    let down = d.multiplier.down as u32;
+    let typed = d.exponent.power as u32;
+    if d.exponent.negative {
+        shift_number(text, d.whole, d.fract, up, down + typed)
+    } else {
+        shift_number(text, d.whole, d.fract, up + typed, down)
+    }
+}
+
+// A coefficient of zero makes any number zero, also one that is too large.
+pub fn evaluate(text: &[u8], d: DurationRepr) -> Length
+    requires { ⌜ Spans (now text) (d .whole) (d .fract) ⌝ }
+    ensures { λ r. ⌜ r ≡ evaluate (now (text .entry)) d ⌝ }
+{
+    if d.infinite {
+        return largest(d.negative);
+    }
+    let coefficient = d.multiplier.coefficient;
+    if coefficient == 0 {
+        return zero();
+    }
+    let negative = d.negative != d.multiplier.negative;
+    let Shifted::Fits { seconds, attos } = shift_typed(text, d) else {
+        return largest(negative);
+    };
+    calculate_duration(negative, seconds, attos, coefficient)
+}
