@@ -3,5 +3,3 @@ pub mod Numbers
 pub mod Digits
 pub mod Places
 pub mod Evaluating
-pub mod Wide
-pub mod Duration

@@ -2,11 +2,11 @@
 ghost use mathlib.Core.Path.{_≡_};
 ghost use Rattle.rules.specs.Evaluation.{evaluate};
 ghost use Rattle.value.specs.Numbers.{Spans, attos-of, shifted-of};
-use crate::duration::calculate_duration;
-use crate::duration::largest;
-use crate::duration::zero;
 use crate::number::Shifted;
 use crate::number::shift_number;
+use lengths::duration::calculate_duration;
+use lengths::duration::largest;
+use lengths::duration::zero;
 use rules::DurationRepr;
 use rules::Length;
 

@@ -1,7 +1,4 @@
-// From digits to a length: powers, classes and kinds, digit runs, evaluation and the sum.
+// From digits to a length: digit runs, the number moved by its power of ten, and evaluation.
 pub mod digits;
-pub mod duration;
 pub mod evaluation;
 pub mod number;
-pub mod tables;
-pub mod wide;

@@ -9,9 +9,9 @@ use crate::digits::Word;
 use crate::digits::append_digits;
 use crate::digits::place_within;
 use crate::digits::take_digits;
-use crate::tables::pow10;
 use rules::Fract;
 use rules::Whole;
+use tables::pow10;
 
 // A number of seconds with eighteen decimals, if its seconds fit a u64.
 pub enum Shifted {

@@ -9,11 +9,6 @@ use Rattle.value.specs.Digits.{ten-pos}
 use Rattle.value.specs.Places.{whole-after, fract-after, digits-after, taken-both, taken-in-room, room-filled}
 use Rattle.value.proofs.number.attos_after.Statement.{statement}
 use Rattle.value.proofs.number.attos_after.Tie as tie
-use Rattle.value.proofs.number.attos_after.Reads as reads
-use Rattle.value.proofs.number.attos_after.Lts as lts
-use Rattle.value.proofs.digits.take_digits.Reads as take-digits-reads
-use Rattle.value.proofs.number.cut_at.Reads as cut-at-reads
-use Rattle.value.proofs.tables.pow10.Reads as pow10-reads
 
 cut-at-requires : tie.Need-cut-at-requires
 cut-at-requires c κs = search needs
@@ -32,7 +27,7 @@ take-digits-requires-2 c κs =
     )
 
 -- eighteen decimals have room for what both spans gave
-room : (c : lts.After-take-digits2 (cut-at-reads.Asked, cut-at-reads.Learnt, take-digits-reads.Asked, take-digits-reads.Learnt, pow10-reads.Asked, pow10-reads.Learnt) reads.Pre reads.Post) → (c .take-digits2 .result .room ≤ 18) × (c .take-digits2 .result .number < 10 ^ (18 - c .take-digits2 .result .room))
+room : (c : tie.After-take-digits2) → (c .take-digits2 .result .room ≤ 18) × (c .take-digits2 .result .number < 10 ^ (18 - c .take-digits2 .result .room))
 room c =
     taken-in-room _ _ _ (take-digits-requires-2 (c .before) (c .take-digits2 .lifetimes) .0)
     (fract-after (c .before .before .before .before .pre .0) _ (c .before .before .cut-at .ensures))

@@ -1,0 +1,102 @@
+-- `lengths::duration::calculate_duration` meets its contract: a coefficient multiplies seconds and attoseconds apart, and each product is
+-- known to fit before it is made. Assumes nothing.
+use mathlib.Core.Path.{_≡_, sym, _∙_}
+use mathlib.Core.Logic.{⊎-elim}
+use Prim.Native.Nat.{_+_, _*_, _^_}
+use native.Mathlib.Omega.{arith}
+use borrow.Author.Needs.{needs}
+use Rattle.rules.specs.Laws.Lengths.{size-clamped}
+use Rattle.lengths.specs.Duration.{cut}
+use Rattle.rules.specs.Laws.Apart.{none, nanos-apart, nanos-whole, nanos-one, nanos-none}
+use Rattle.lengths.proofs.Fitting.{fits, passes, seconds-fit}
+use Rattle.lengths.proofs.duration.calculate_duration.Statement.{statement}
+use Rattle.lengths.proofs.duration.calculate_duration.Tie as tie
+
+cast-signed : tie.Need-cast-signed
+cast-signed c = search needs
+
+signed-requires : tie.Need-signed-requires
+signed-requires c κs = search needs
+
+returns : tie.Need-returns
+returns c =
+    let a = c .before .before .args in
+    cc (nanos-one (a .seconds) (a .attos))
+
+zero-requires : tie.Need-zero-requires
+zero-requires c κs = search needs
+
+returns-2 : tie.Need-returns-2
+returns-2 c =
+    let a = c .before .before .before .args in
+    cc (nanos-none (a .seconds * 10 ^ 18 + a .attos), none (a .is-negative))
+
+div-most : tie.Need-div-most
+div-most c = search needs
+
+largest-requires : tie.Need-largest-requires
+largest-requires c κs = search needs
+
+returns-3 : tie.Need-returns-3
+returns-3 c =
+    let a = c .before .before .before .before .args in
+    let large = passes (a .coefficient) (a .seconds) (search needs) (c .before .if3 .taken) in
+    c .largest .ensures ∙ sym (size-clamped _ _ (rw (nanos-apart (a .coefficient) (a .seconds) (a .attos)) (omega (arith, large))))
+
+mul-whole : tie.Need-mul-whole
+mul-whole c = record { fits = fits _ _ (search needs) (c .if3 .left) }
+
+signed-requires-2 : tie.Need-signed-requires-2
+signed-requires-2 c κs = search needs
+
+returns-4 : tie.Need-returns-4
+returns-4 c =
+    let a = c .before .before .before .before .before .args in
+    cc (nanos-whole (a .coefficient) (a .seconds))
+
+mul-cut-word : tie.Need-mul-cut-word
+mul-cut-word c = record { fits = fits _ _ (search needs) (c .if5 .taken) }
+
+cut-word-requires : tie.Need-cut-word-requires
+cut-word-requires c κs = search needs
+
+product-requires : tie.Need-product-requires
+product-requires c κs = search needs
+
+cut-words-requires : tie.Need-cut-words-requires
+cut-words-requires c κs = rw (c .product .ensures) (seconds-fit (search needs) (search needs))
+
+limited-requires : tie.Need-limited-requires
+limited-requires c κs = search needs
+
+either-way : (c : tie.Joined5) → c .if5 .size ≡ cut (c .before .before .before .before .before .args .coefficient * c .before .before .before .before .before .args .attos)
+either-way c = ⊎-elim (λ w. cc) (λ w. cc) (c .if5 .came)
+
+returns-5 : tie.Need-returns-5
+unfolding cut
+returns-5 c =
+    let a = c .before .before .before .before .before .before .args in
+    let e = either-way (c .before) in
+    cc (nanos-apart (a .coefficient) (a .seconds) (a .attos))
+
+pub calculate-duration-spec : {M : Type 1} → statement M
+calculate-duration-spec =
+    tie.close
+    (tie.spec
+    cast-signed
+    signed-requires
+    returns
+    zero-requires
+    returns-2
+    div-most
+    largest-requires
+    returns-3
+    mul-whole
+    signed-requires-2
+    returns-4
+    mul-cut-word
+    cut-word-requires
+    product-requires
+    cut-words-requires
+    limited-requires
+    returns-5)
