@@ -1,7 +1,8 @@
 //! The list of cards that the program `cards` checks again, with the number
 //! and the position that the plain reading finds for each.
 //!
-//! A card is a line of hexadecimal digits (inner set, outer set, conjunctions,
+//! The first line says how often each card is to be checked: eight hexadecimal
+//! digits, the lowest byte first. A card is a line of hexadecimal digits (inner set, outer set, conjunctions,
 //! default kind, size of the table) and a line for each of its rows, in the
 //! stored form of a row. The last row is filled with zeros where the size ends
 //! within it. A set is written byte for byte: byte b is bit b % 8 of its byte
@@ -16,9 +17,12 @@ use crate::plain;
 use crate::request::{ByteSet, Card, hex};
 use crate::table::{KINDS, ROW_BYTES, table_bytes};
 
+/// Each card is checked once; whoever counts instructions writes another line.
+const ONCE: &str = "01000000\n";
+
 /// Writes the cards into one file and what is found of them into another.
 pub fn write_files(cards_path: &str, found_path: &str) -> Result<bool, String> {
-    let (mut lines, mut found) = (String::new(), String::new());
+    let (mut lines, mut found) = (ONCE.to_string(), String::new());
     let cards = cards();
     for card in &cards {
         lines.push_str(&card_lines(card));

@@ -1,5 +1,7 @@
 -- Laws of the definitions, for the layers above to cite.
 pub mod Choices
+pub mod Tests
+pub mod Lists
 pub mod Outcomes
 pub mod Answers
 pub mod Tables

@@ -81,22 +81,6 @@ digit-between b = go (between 48 57 b)
         other false false true = refl
         other false false false = refl
 
-pub between-in : (low high b : ℕ) → low ≤ b → b ≤ high → between low high b ≡ true
-unfolding between
-between-in low high b h k = and-both (le-leb low b h) (le-leb b high k)
-
-pub between-under : (low high b : ℕ) → b < low → between low high b ≡ false
-unfolding between
-between-under low high b h = rw (lt-leb low b h)
-
-pub between-over : (low high b : ℕ) → high < b → between low high b ≡ false
-unfolding between
-between-over low high b h = rw (lt-leb b high h) (and-false (leb low b))
-  where
-    and-false : (a : Bool) → (a && false) ≡ false
-    and-false true = refl
-    and-false false = refl
-
 -- from a byte to itself stands that byte alone
 pub between-itself : (a b : ℕ) → between a a b ≡ eqb a b
 unfolding between

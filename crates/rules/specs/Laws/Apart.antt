@@ -14,6 +14,7 @@ use Rattle.rules.specs.ThePartOfTheCrateWeTake.{zero-length, size, well-
 use Rattle.rules.specs.Evaluation.{nanos, length-of, sum}
 use Rattle.rules.specs.Laws.Choices.{and-left, and-right}
 use Rattle.rules.specs.Laws.Lengths.{limit}
+use Rattle.rules.specs.Laws.Tests.{same-test}
 
 -- no nanoseconds are zero, with a plus
 pub none : (negative : Bool) → length-of negative 0 ≡ zero-length
@@ -56,23 +57,17 @@ proper l h =
     ltb-true (l .nanoseconds) (10 ^ 9)
     (and-right (ltb (l .seconds) (2 ^ 64)) (ltb (l .nanoseconds) (10 ^ 9)) (and-left _ (not (l .negative && eqb (size l) 0)) h))
 
--- two tests, each of which the other implies
-agree : (s t : Bool) → (s ≡ true → t ≡ true) → (t ≡ true → s ≡ true) → s ≡ t
-agree true t f g = sym (f refl)
-agree false true f g = g refl
-agree false false f g = refl
-
 -- of two lengths with as many seconds the nanoseconds decide, and of any others the seconds
 pub by-nanoseconds : (a b : Length) → a .seconds ≡ b .seconds → leb (a .nanoseconds) (b .nanoseconds) ≡ leb (size a) (size b)
 unfolding size
 by-nanoseconds a b e =
-    agree _ _ (λ h. le-leb (size a) (size b) (omega (arith, leb-true (a .nanoseconds) (b .nanoseconds) h)))
+    same-test _ _ (λ h. le-leb (size a) (size b) (omega (arith, leb-true (a .nanoseconds) (b .nanoseconds) h)))
     (λ h. le-leb (a .nanoseconds) (b .nanoseconds) (omega (arith, leb-true (size a) (size b) h)))
 
 pub by-seconds : (a b : Length) → (a .seconds ≡ b .seconds → ⊥) → a .nanoseconds < 10 ^ 9 → b .nanoseconds < 10 ^ 9 → ltb (a .seconds) (b .seconds) ≡ leb (size a) (size b)
 unfolding size
 by-seconds a b other ha hb =
-    agree _ _ (λ h. le-leb (size a) (size b) (omega (arith, ltb-true (a .seconds) (b .seconds) h)))
+    same-test _ _ (λ h. le-leb (size a) (size b) (omega (arith, ltb-true (a .seconds) (b .seconds) h)))
     (λ h. lt-ltb (a .seconds) (b .seconds) (omega (arith, leb-true (size a) (size b) h)))
 
 -- ---- the sum, case by case

@@ -5,7 +5,8 @@ use Prim.Native.Nat.{_-_}
 use borrow.Author.Needs.{needs}
 use lib.ListN.{length}
 use Rattle.rules.specs.Common.{between, run}
-use Rattle.value.specs.Digits.{run-on, run-off, run-end, between-in, between-under, between-over}
+use Rattle.rules.specs.Laws.Tests.{between-in, between-below, between-above}
+use Rattle.value.specs.Digits.{run-on, run-off, run-end}
 use Rattle.value.proofs.digits.past.Statement.{statement}
 use Rattle.value.proofs.digits.past.Tie as tie
 
@@ -22,10 +23,10 @@ shared-slice-read-byte : tie.Need-shared-slice-read-byte Inv-loop μ-loop
 shared-slice-read-byte c = search needs
 
 returns : tie.Need-returns Inv-loop μ-loop
-returns c = sym (run-off _ _ _ (search needs) (between-under _ _ _ (c .if1 .taken))) ∙ c .before .before .before .loop .inv
+returns c = sym (run-off _ _ _ (search needs) (between-below _ _ _ (c .if1 .taken))) ∙ c .before .before .before .loop .inv
 
 returns-2 : tie.Need-returns-2 Inv-loop μ-loop
-returns-2 c = sym (run-off _ _ _ (search needs) (between-over _ _ _ (c .if2 .taken))) ∙ c .before .before .before .before .loop .inv
+returns-2 c = sym (run-off _ _ _ (search needs) (between-above _ _ _ (c .if2 .taken))) ∙ c .before .before .before .before .loop .inv
 
 add-next : tie.Need-add-next Inv-loop μ-loop
 add-next c = search needs

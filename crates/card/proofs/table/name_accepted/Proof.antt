@@ -1,0 +1,64 @@
+-- `card::table::name_accepted` meets its contract: the bytes from `i` on decide what all of them do. The measure is how many are left.
+-- Assumes nothing.
+use mathlib.Core.Path.{_≡_, refl}
+use Prim.Native.Nat.{_≤_, _-_}
+use native.Mathlib.Omega.{arith}
+use lib.ListN.{length, drop}
+use Rattle.rules.specs.Common.{all}
+use Rattle.rules.specs.Laws.Lists.{all-from, all-done}
+use Rattle.card.specs.Fields.{outside}
+use Rattle.card.proofs.table.name_accepted.Statement.{statement}
+use Rattle.card.proofs.table.name_accepted.Tie as tie
+
+abbrev Inv-loop : tie.InvT-loop
+Inv-loop set name i₀ i = (i ≤ length name) × (all (outside set) (drop i name) ≡ all (outside set) name)
+
+abbrev μ-loop : tie.MeasureT-loop
+μ-loop set name i₀ i = length name - i
+
+loop-holds : tie.Need-loop-holds Inv-loop μ-loop
+loop-holds c = (omega arith, refl)
+
+shared-slice-read-holds : tie.Need-shared-slice-read-holds Inv-loop μ-loop
+shared-slice-read-holds c = omega arith
+
+holds-requires : tie.Need-holds-requires Inv-loop μ-loop
+holds-requires c κs = tt
+
+returns : tie.Need-returns Inv-loop μ-loop
+unfolding outside
+returns c =
+    let args = c .before .before .before .before .before .before .args in
+    let loop = c .before .before .before .before .loop in
+    rw (← (loop .inv .1), all-from (outside (args .set)) (args .name .now) (loop .i) 0 (omega arith), ← (c .before .holds .ensures), c .if1 .taken)
+
+add-i : tie.Need-add-i Inv-loop μ-loop
+add-i c = omega arith
+
+loop-less : tie.Need-loop-less Inv-loop μ-loop
+loop-less c = omega arith
+
+loop-again : tie.Need-loop-again Inv-loop μ-loop
+unfolding outside
+loop-again c =
+    let args = c .before .before .before .before .before .before .args in
+    let loop = c .before .before .before .before .loop in
+    (omega arith, rw (← (loop .inv .1), all-from (outside (args .set)) (args .name .now) (loop .i) 0 (omega arith), ← (c .before .holds .ensures), c .if1 .left))
+
+returns-2 : tie.Need-returns-2 Inv-loop μ-loop
+returns-2 c = rw (← (c .before .loop .inv .1), all-done (outside (c .before .before .before .args .set)) (c .before .before .before .args .name .now) (c .before .loop .i) (omega arith))
+
+pub name-accepted-spec : {M : Type 1} → statement M
+name-accepted-spec =
+    tie.close
+    (tie.spec
+    Inv-loop
+    μ-loop
+    loop-holds
+    shared-slice-read-holds
+    holds-requires
+    returns
+    add-i
+    loop-less
+    loop-again
+    returns-2)

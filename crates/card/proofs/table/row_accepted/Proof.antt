@@ -1,0 +1,176 @@
+-- `card::table::row_accepted` meets its contract: the tests in the definition's order. Assumes nothing.
+use mathlib.Core.Bool.{true}
+use mathlib.Core.Path.{_≡_, ap, _∙_}
+use Prim.Native.Nat.{_-_}
+use native.Mathlib.Omega.{arith}
+use lib.Dec.{eqb}
+use lib.ListN.{length, drop, length-drop}
+use lib.Seq.{take-all}
+use borrow.Author.Tests.{le-leb, lt-leb, not-true, not-false}
+use borrow.Author.Count.{below-more}
+use borrow.Author.Needs.{needs}
+use Rattle.rules.specs.SettingsAndUnitTable.{row, row-size, kind, name, may-name}
+use Rattle.rules.specs.Common.{all}
+use Rattle.card.specs.Fields.{padded}
+use Rattle.card.specs.Laws.Table.{row-accepted-parts}
+use Rattle.rows.specs.Laws.Rows.{length-row}
+use Rattle.card.specs.Laws.Names.{names-outside}
+use Rattle.card.proofs.table.row_accepted.Statement.{statement}
+use Rattle.card.proofs.table.row_accepted.Tie as tie
+
+long : (c : tie.After-row-at) → length (c .row-at .result .now) ≡ row-size
+long c = ap length (c .row-at .ensures) ∙ length-row (c .before .before .args .table .now) (c .before .before .args .i) (c .before .before .pre .0)
+
+rest : (c : tie.After-zeros) → c .zeros .result ≡ all (eqb 0) (drop 28 (c .before .before .before .before .before .before .row-at .result .now))
+rest c =
+    let own = c .before .before .before .before .before .before .row-at .result .now in
+    c .zeros .ensures ∙ ap (all (eqb 0)) (take-all (length own - 28) (drop 28 own) (simp length-drop (omega arith)))
+
+-- what was asked of the name's bytes
+asked : (c : tie.After-name-accepted) → c .name-accepted .result ≡ all (may-name (c .before .before .before .before .before .before .before .before .before .before .before .args .s)) (name (c .before .before .before .before .before .before .before .before .before .row-at .result .now))
+asked c =
+    let start = c .before .before .before .before .before .before .before .before .before .before .before in
+    let own = c .before .before .before .before .before .before .before .before .before .row-at .result .now in
+    c .name-accepted .ensures
+    ∙ rw (c .before .name-of .ensures, start .pre .1 .1) (names-outside (start .args .s) own (λ k. c .before .before .before .before .before .before .shared-slice-known2 .given k .fits))
+
+row-at-requires : tie.Need-row-at-requires
+row-at-requires c κs = search needs
+
+padded-requires : tie.Need-padded-requires
+padded-requires c κs = long c
+
+returns : tie.Need-returns
+returns c =
+    rw (
+      row-accepted-parts (c .before .before .before .before .args .s) (c .before .before .before .before .args .table .now) (c .before .before .before .before .args .i),
+      ← (c .before .before .row-at .ensures),
+      ← (c .before .padded .ensures),
+      not-true (c .before .padded .result) (c .if1 .taken),
+    )
+
+shared-slice-read-if2 : tie.Need-shared-slice-read-if2
+shared-slice-read-if2 c = omega (arith, long (c .before .before .before))
+
+returns-2 : tie.Need-returns-2
+unfolding kind
+returns-2 c =
+    rw (
+      row-accepted-parts (c .before .before .before .before .before .before .args .s) (c .before .before .before .before .before .before .args .table .now) (c .before .before .before .before .before .before .args .i),
+      ← (c .before .before .before .before .row-at .ensures),
+      ← (c .before .before .before .padded .ensures),
+      not-false (c .before .before .before .padded .result) (c .before .before .if1 .left),
+      lt-leb _ _ (c .if2 .taken),
+    )
+
+sub-zeros : tie.Need-sub-zeros
+sub-zeros c = omega (arith, long (c .before .before .before .before))
+
+part-zeros-start : tie.Need-part-zeros-start
+part-zeros-start c = omega (arith, long (c .before .before .before .before))
+
+part-zeros-end : tie.Need-part-zeros-end
+part-zeros-end c = search needs
+
+zeros-requires : tie.Need-zeros-requires
+zeros-requires c κs = search needs
+
+returns-3 : tie.Need-returns-3
+unfolding kind
+returns-3 c =
+    rw (
+      row-accepted-parts (c .before .before .before .before .before .before .before .before .before .args .s) (c .before .before .before .before .before .before .before .before .before .args .table .now) (c .before .before .before .before .before .before .before .before .before .args .i),
+      ← (c .before .before .before .before .before .before .before .row-at .ensures),
+      ← (c .before .before .before .before .before .before .padded .ensures),
+      not-false (c .before .before .before .before .before .before .padded .result) (c .before .before .before .before .before .if1 .left),
+      le-leb _ _ (c .before .before .before .if2 .left),
+      ← (rest (c .before)),
+      not-true (c .before .zeros .result) (c .if3 .taken),
+    )
+
+name-of-requires : tie.Need-name-of-requires
+name-of-requires c κs = long (c .before .before .before .before .before .before .before)
+
+name-accepted-requires : tie.Need-name-accepted-requires
+name-accepted-requires c κs = search needs
+
+returns-4 : tie.Need-returns-4
+unfolding kind
+returns-4 c =
+    rw (
+      row-accepted-parts (c .before .before .before .before .before .before .before .before .before .before .before .before .args .s) (c .before .before .before .before .before .before .before .before .before .before .before .before .args .table .now) (c .before .before .before .before .before .before .before .before .before .before .before .before .args .i),
+      ← (c .before .before .before .before .before .before .before .before .before .before .row-at .ensures),
+      ← (c .before .before .before .before .before .before .before .before .before .padded .ensures),
+      not-false (c .before .before .before .before .before .before .before .before .before .padded .result) (c .before .before .before .before .before .before .before .before .if1 .left),
+      le-leb _ _ (c .before .before .before .before .before .before .if2 .left),
+      ← (rest (c .before .before .before .before)),
+      not-false (c .before .before .before .before .zeros .result) (c .before .before .before .if3 .left),
+      ← (asked (c .before)),
+      not-true (c .before .name-accepted .result) (c .if4 .taken),
+    )
+
+named-before-requires : tie.Need-named-before-requires
+named-before-requires c κs =
+    let start = c .before .before .before .before .before .before .before .before .before .before .before .before in
+    let here : padded (row (start .args .table .now) (start .args .i)) ≡ true = rw (← (c .before .before .before .before .before .before .before .before .before .before .row-at .ensures), ← (c .before .before .before .before .before .before .before .before .before .padded .ensures)) (not-false (c .before .before .before .before .before .before .before .before .before .padded .result) (c .before .before .before .before .before .before .before .before .if1 .left)) in
+    (start .pre .0, λ j h. below-more _ (start .args .i) (start .pre .1 .0) here j (omega arith))
+
+returns-5 : tie.Need-returns-5
+unfolding kind
+returns-5 c =
+    rw (
+      row-accepted-parts (c .before .before .before .before .before .before .before .before .before .before .before .before .before .before .args .s) (c .before .before .before .before .before .before .before .before .before .before .before .before .before .before .args .table .now) (c .before .before .before .before .before .before .before .before .before .before .before .before .before .before .args .i),
+      ← (c .before .named-before .ensures),
+      ← (c .before .before .before .before .before .before .before .before .before .before .before .before .row-at .ensures),
+      ← (c .before .before .before .before .before .before .before .before .before .before .before .padded .ensures),
+      not-false (c .before .before .before .before .before .before .before .before .before .before .before .padded .result) (c .before .before .before .before .before .before .before .before .before .before .if1 .left),
+      le-leb _ _ (c .before .before .before .before .before .before .before .before .if2 .left),
+      ← (rest (c .before .before .before .before .before .before)),
+      not-false (c .before .before .before .before .before .before .zeros .result) (c .before .before .before .before .before .if3 .left),
+      ← (asked (c .before .before .before)),
+      not-false (c .before .before .before .name-accepted .result) (c .before .before .if4 .left),
+      c .if5 .taken,
+    )
+
+product-in-range-requires : tie.Need-product-in-range-requires
+product-in-range-requires c κs = long (c .before .before .before .before .before .before .before .before .before .before .before .before)
+
+returns-6 : tie.Need-returns-6
+unfolding kind
+returns-6 c =
+    rw (
+      row-accepted-parts (c .before .before .before .before .before .before .before .before .before .before .before .before .before .before .before .args .s) (c .before .before .before .before .before .before .before .before .before .before .before .before .before .before .before .args .table .now) (c .before .before .before .before .before .before .before .before .before .before .before .before .before .before .before .args .i),
+      ← (c .before .before .named-before .ensures),
+      ← (c .before .before .before .before .before .before .before .before .before .before .before .before .before .row-at .ensures),
+      ← (c .before .before .before .before .before .before .before .before .before .before .before .before .padded .ensures),
+      not-false (c .before .before .before .before .before .before .before .before .before .before .before .before .padded .result) (c .before .before .before .before .before .before .before .before .before .before .before .if1 .left),
+      le-leb _ _ (c .before .before .before .before .before .before .before .before .before .if2 .left),
+      ← (rest (c .before .before .before .before .before .before .before)),
+      not-false (c .before .before .before .before .before .before .before .zeros .result) (c .before .before .before .before .before .before .if3 .left),
+      ← (asked (c .before .before .before .before)),
+      not-false (c .before .before .before .before .name-accepted .result) (c .before .before .before .if4 .left),
+      c .before .if5 .left,
+      ← (c .product-in-range .ensures),
+    )
+
+pub row-accepted-spec : {M : Type 1} → statement M
+row-accepted-spec =
+    tie.close
+    (tie.spec
+    row-at-requires
+    padded-requires
+    returns
+    shared-slice-read-if2
+    returns-2
+    sub-zeros
+    part-zeros-start
+    part-zeros-end
+    zeros-requires
+    returns-3
+    name-of-requires
+    name-accepted-requires
+    returns-4
+    named-before-requires
+    returns-5
+    product-in-range-requires
+    returns-6)

@@ -1,0 +1,82 @@
+-- `card::table::rows_check` meets its contract: the rows from `i` on decide what all of them do, and each row passed has zeros after
+-- its name. The measure is how many are left. Assumes nothing.
+use mathlib.Core.Bool.{true}
+use mathlib.Core.Path.{_≡_, refl, sym, _∙_}
+use Prim.Native.Nat.{ℕ, _-_, _≤_, _<_}
+use native.Mathlib.Omega.{arith}
+use borrow.Author.Tests.{not-true, not-false}
+use borrow.Author.Count.{below-none, below-more}
+use Rattle.rules.specs.SettingsAndUnitTable.{rows, row, row-accepted, rows-check}
+use Rattle.card.specs.Laws.Table.{rest-of-check, check-start, check-end, check-bad, check-next, accepted-padded}
+use Rattle.card.specs.Fields.{padded, unnameable}
+use Rattle.settings.specs.Outcomes.{outcome}
+use Rattle.card.proofs.table.rows_check.Statement.{statement}
+use Rattle.card.proofs.table.rows_check.Tie as tie
+
+abbrev Inv-loop : tie.InvT-loop
+Inv-loop s table set count i₀ i =
+    (set ≡ unnameable s)
+    × (count ≡ rows table)
+    × (i ≤ count)
+    × ((j : ℕ) → j < i → padded (row table j) ≡ true)
+    × (rest-of-check s table i ≡ rows-check s table 0 (rows table))
+
+abbrev μ-loop : tie.MeasureT-loop
+μ-loop s table set count i₀ i = count - i
+
+unnameable-requires : tie.Need-unnameable-requires Inv-loop μ-loop
+unnameable-requires c κs = tt
+
+loop-holds : tie.Need-loop-holds Inv-loop μ-loop
+unfolding rows
+loop-holds c = (c .unnameable .ensures, refl, omega arith, below-none _, check-start _ _)
+
+row-accepted-requires : tie.Need-row-accepted-requires Inv-loop μ-loop
+row-accepted-requires c κs = (omega arith, (c .before .loop .inv .3, c .before .loop .inv .0))
+
+returns : tie.Need-returns Inv-loop μ-loop
+unfolding outcome
+returns c =
+    let args = c .before .before .before .before .before .before .args in
+    let loop = c .before .before .before .loop in
+    sym (check-bad (args .s) (args .table .now) (loop .i) (omega arith) (sym (c .before .row-accepted .ensures) ∙ not-true _ (c .if1 .taken))) ∙ loop .inv .4
+
+add-i : tie.Need-add-i Inv-loop μ-loop
+add-i c = omega arith
+
+loop-less : tie.Need-loop-less Inv-loop μ-loop
+loop-less c = omega arith
+
+loop-again : tie.Need-loop-again Inv-loop μ-loop
+loop-again c =
+    let args = c .before .before .before .before .before .before .args in
+    let loop = c .before .before .before .loop in
+    let good : row-accepted (args .s) (args .table .now) (loop .i) ≡ true = sym (c .before .row-accepted .ensures) ∙ not-false _ (c .if1 .left) in (
+      loop .inv .0,
+      loop .inv .1,
+      omega arith,
+      below-more _ (loop .i) (loop .inv .3) (accepted-padded (args .s) (args .table .now) (loop .i) good),
+      sym (check-next (args .s) (args .table .now) (loop .i) (omega arith) good) ∙ loop .inv .4,
+    )
+
+returns-2 : tie.Need-returns-2 Inv-loop μ-loop
+unfolding outcome
+returns-2 c =
+    let args = c .before .before .before .before .args in
+    let loop = c .before .loop in
+    sym (check-end (args .s) (args .table .now) (loop .i) (omega arith)) ∙ loop .inv .4
+
+pub rows-check-spec : {M : Type 1} → statement M
+rows-check-spec =
+    tie.close
+    (tie.spec
+    Inv-loop
+    μ-loop
+    unnameable-requires
+    loop-holds
+    row-accepted-requires
+    returns
+    add-i
+    loop-less
+    loop-again
+    returns-2)

@@ -1,0 +1,2 @@
+// The card: settings and unit table, checked.
+pub mod table;

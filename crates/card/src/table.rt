@@ -1,0 +1,189 @@
+// The table check: the first bad row, and the card's check, settings first.
+ghost use mathlib.Core.Path.{_≡_};
+ghost use mathlib.Core.Bool.{true};
+ghost use Prim.Native.Nat.{ℕ, _<_, _≤_};
+ghost use lib.Dec.{eqb};
+ghost use lib.ListN.{length};
+ghost use Rattle.rules.specs.Common.{all, same};
+ghost use Rattle.rules.specs.SettingsAndUnitTable.{row-size, rows, row, name, named, row-accepted, rows-check, table-check, card-check};
+ghost use Rattle.settings.specs.Outcomes.{outcome};
+ghost use Rattle.card.specs.Fields.{padded, outside, unnameable};
+use rows::fields::KIND_AT;
+use rows::fields::NAME_AT;
+use rows::fields::ROW_SIZE;
+use rows::fields::ZEROS_AT;
+use rows::fields::name_of;
+use rows::fields::product_in_range;
+use rows::fields::row_at;
+use rows::fields::word_at;
+use rules::ByteSet;
+use rules::Refusal;
+use rules::Settings;
+use settings::Checked;
+use settings::check::settings_check;
+use settings::sets::holds;
+
+const MOST_ROWS: usize = 64;
+
+// Where the second of the two words of a name's room stands.
+const SECOND_WORD_AT: usize = 9;
+
+// `+`, `-`, `.` and the digits, as bits of a set's first word.
+const NUMBER_BYTES: u64 = 288_063_250_384_289_792;
+
+fn zeros(part: &[u8]) -> bool
+    ensures { λ r. ⌜ r ≡ all (eqb 0) (now (part .entry)) ⌝ }
+{
+    let mut i = 0;
+    while i < part.len() {
+        if part[i] != 0 {
+            return false;
+        }
+        i += 1;
+    }
+    true
+}
+
+// A name of 1 to 16 bytes, and zeros after it. The name's room is two words: what stands above the name in them is asked at once.
+fn padded(row: &[u8]) -> bool
+    requires { ⌜ length (now row) ≡ row-size ⌝ }
+    ensures { λ r. ⌜ r ≡ padded (now (row .entry)) ⌝ }
+{
+    let size = row[0] as u64;
+    if size < 1 {
+        return false;
+    }
+    if size > 16 {
+        return false;
+    }
+    if size < 8 {
+        return word_at(row, NAME_AT) >> (8 * size) == 0 && word_at(row, SECOND_WORD_AT) == 0;
+    }
+    if size < 16 {
+        return word_at(row, SECOND_WORD_AT) >> (8 * (size - 8)) == 0;
+    }
+    true
+}
+
+// The bytes that no name holds, as one set: the delimiters of both sets, `+`, `-`, `.` and the digits.
+fn unnameable(s: Settings) -> ByteSet
+    ensures { λ r. ⌜ r ≡ unnameable s ⌝ }
+{
+    let inner = s.inner;
+    let outer = s.outer;
+    ByteSet {
+        word0: inner.word0 | outer.word0 | NUMBER_BYTES,
+        word1: inner.word1 | outer.word1,
+        word2: inner.word2 | outer.word2,
+        word3: inner.word3 | outer.word3,
+    }
+}
+
+// Whether the set holds none of the name's bytes.
+fn name_accepted(set: ByteSet, name: &[u8]) -> bool
+    ensures { λ r. ⌜ r ≡ all (outside set) (now (name .entry)) ⌝ }
+{
+    let mut i = 0;
+    while i < name.len() {
+        if holds(set, name[i]) {
+            return false;
+        }
+        i += 1;
+    }
+    true
+}
+
+// Whether two rows have one name. Both have zeros after it, so that the size and the name's whole room decide, a word at a time.
+fn same_name(row: &[u8], other: &[u8]) -> bool
+    requires { ⌜ (length (now row) ≡ row-size) × (padded (now row) ≡ true) ⌝ }
+    requires { ⌜ (length (now other) ≡ row-size) × (padded (now other) ≡ true) ⌝ }
+    ensures { λ r. ⌜ r ≡ same (name (now (row .entry))) (name (now (other .entry))) ⌝ }
+{
+    if row[0] != other[0] {
+        return false;
+    }
+    if word_at(row, NAME_AT) != word_at(other, NAME_AT) {
+        return false;
+    }
+    word_at(row, SECOND_WORD_AT) == word_at(other, SECOND_WORD_AT)
+}
+
+// Whether an earlier row has this row's name: then this row, the later, is bad.
+fn named_before(table: &[u8], i: usize) -> bool
+    requires { ⌜ i < rows (now table) ⌝ }
+    requires { ⌜ ((j : ℕ) → j ≤ i → padded (row (now table) j) ≡ true) ⌝ }
+    ensures { λ r. ⌜ r ≡ named (now (table .entry)) (name (row (now (table .entry)) i)) i ⌝ }
+{
+    let own = row_at(table, i);
+    let mut left = i;
+    while left > 0 {
+        let next = left - 1;
+        if same_name(row_at(table, next), own) {
+            return true;
+        }
+        left = next;
+    }
+    false
+}
+
+fn row_accepted(s: Settings, set: ByteSet, table: &[u8], i: usize) -> bool
+    requires { ⌜ i < rows (now table) ⌝ }
+    requires { ⌜ ((j : ℕ) → j < i → padded (row (now table) j) ≡ true) ⌝ }
+    requires { ⌜ set ≡ unnameable s ⌝ }
+    ensures { λ r. ⌜ r ≡ row-accepted s (now (table .entry)) i ⌝ }
+{
+    let own = row_at(table, i);
+    if !padded(own) {
+        return false;
+    }
+    if own[KIND_AT] > 7 {
+        return false;
+    }
+    if !zeros(&own[ZEROS_AT..]) {
+        return false;
+    }
+    if !name_accepted(set, name_of(own)) {
+        return false;
+    }
+    if named_before(table, i) {
+        return false;
+    }
+    product_in_range(own)
+}
+
+fn rows_check(s: Settings, table: &[u8]) -> Checked
+    ensures { λ r. ⌜ outcome r ≡ rows-check s (now (table .entry)) 0 (rows (now (table .entry))) ⌝ }
+{
+    let set = unnameable(s);
+    let count = table.len() / ROW_SIZE;
+    let mut i = 0;
+    while i < count {
+        if !row_accepted(s, set, table, i) {
+            return Checked::Refused(Refusal::BadRow(i));
+        }
+        i += 1;
+    }
+    Checked::Accepted
+}
+
+pub fn table_check(s: Settings, table: &[u8]) -> Checked
+    ensures { λ r. ⌜ outcome r ≡ table-check s (now (table .entry)) ⌝ }
+{
+    if table.len() % ROW_SIZE != 0 {
+        return Checked::Refused(Refusal::TableSize);
+    }
+    if table.len() / ROW_SIZE > MOST_ROWS {
+        return Checked::Refused(Refusal::TableSize);
+    }
+    rows_check(s, table)
+}
+
+// Settings first, then the table.
+pub fn card_check(s: Settings, table: &[u8]) -> Checked
+    ensures { λ r. ⌜ outcome r ≡ card-check s (now (table .entry)) ⌝ }
+{
+    match settings_check(s) {
+        Checked::Refused(cause) => Checked::Refused(cause),
+        Checked::Accepted => table_check(s, table),
+    }
+}

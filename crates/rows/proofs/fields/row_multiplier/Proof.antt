@@ -1,0 +1,48 @@
+-- `rows::fields::row_multiplier` meets its contract: each field of the row, as the definition reads it. Assumes nothing.
+use borrow.Author.Needs.{needs}
+use Rattle.rules.specs.SettingsAndUnitTable.{row-multiplier, coefficient-field, power-field, below-zero}
+use Rattle.rows.specs.Powers.{risen, fallen}
+use Rattle.rows.proofs.fields.row_multiplier.Statement.{statement}
+use Rattle.rows.proofs.fields.row_multiplier.Tie as tie
+
+word-at-requires : tie.Need-word-at-requires
+word-at-requires c κs = search needs
+
+sub-low-first-2 : tie.Need-sub-low-first-2
+sub-low-first-2 c = search needs
+
+part-low-first-2-start : tie.Need-part-low-first-2-start
+part-low-first-2-start c = search needs
+
+part-low-first-2-end : tie.Need-part-low-first-2-end
+part-low-first-2-end c = search needs
+
+low-first-2-requires : tie.Need-low-first-2-requires
+low-first-2-requires c κs = search needs
+
+coefficient-magnitude-requires : tie.Need-coefficient-magnitude-requires
+coefficient-magnitude-requires c κs = search needs
+
+risen-requires : tie.Need-risen-requires
+risen-requires c κs = search needs
+
+fallen-requires : tie.Need-fallen-requires
+fallen-requires c κs = search needs
+
+returns : tie.Need-returns
+unfolding row-multiplier coefficient-field power-field below-zero risen fallen
+returns c = cc
+
+pub row-multiplier-spec : {M : Type 1} → statement M
+row-multiplier-spec =
+    tie.close
+    (tie.spec
+    word-at-requires
+    sub-low-first-2
+    part-low-first-2-start
+    part-low-first-2-end
+    low-first-2-requires
+    coefficient-magnitude-requires
+    risen-requires
+    fallen-requires
+    returns)

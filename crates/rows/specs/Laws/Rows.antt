@@ -1,0 +1,145 @@
+-- Laws of rows and their fields. Assumes nothing.
+use mathlib.Core.Path.{_≡_, refl}
+use mathlib.Core.Bool.{Bool, true, false, xor, _&&_}
+use mathlib.Core.List.{List, [], _∷_}
+use Prim.Native.Nat.{ℕ, zero, suc, zero-le, _+_, _*_, _-_, _/_, _^_, _≤_, _<_}
+use native.Mathlib.Nat.{mul-add, mul-assoc, add-assoc, pow-succ', zero-add, le-of-suc-le-suc, mul-comm, le-div-iff-mul-le}
+use native.Mathlib.Omega.{arith}
+use lib.ListN.{length, getD, take, drop, length-take, length-drop, drop-of-length-le}
+use lib.Seq.{drop-cons, take-all}
+use lib.Dec.{leb, ltb, lit<}
+use borrow.Author.Tests.{le-leb, lt-leb, leb-true, leb-false, ltb-true, lt-ltb}
+use Rattle.rules.specs.declared.Multiplier.{Multiplier}
+use Rattle.rules.specs.Common.{if_then_else_, all}
+use Rattle.rules.specs.SettingsAndUnitTable.{power-size, row-size, rows, row, kind, low-first, power-field, below-zero, magnitude, kind-downs, kind-multiplier, row-multiplier, times, product, in-range}
+use Rattle.rules.specs.Laws.Choices.{if-either, and-left, and-right}
+use Rattle.rules.specs.Laws.Tests.{and-true, same-test}
+use Rattle.rules.specs.Laws.Lists.{all-at}
+use Rattle.rows.specs.Powers.{risen, fallen}
+
+-- a row of the table lies in it whole
+pub row-within : (table : List ℕ) (i : ℕ) → i < rows table → row-size * i + row-size ≤ length table
+unfolding rows
+row-within table i h = omega arith
+
+pub length-row : (table : List ℕ) (i : ℕ) → i < rows table → length (row table i) ≡ row-size
+unfolding row
+length-row table i h = simp (length-take, length-drop) (omega (arith, row-within table i h))
+
+-- a number from its first k bytes and the others
+low-first-split : (l : List ℕ) (k : ℕ) → k ≤ length l → low-first l ≡ low-first (take k l) + 256 ^ k * low-first (drop k l)
+unfolding low-first
+low-first-split l zero h = omega arith
+low-first-split [] (suc k) h = absurd (omega arith)
+low-first-split (b ∷ l) (suc k) h = rw (low-first-split l k (le-of-suc-le-suc h), mul-add, pow-succ', mul-assoc, add-assoc)
+
+-- the same, of two parts lent one after the other
+pub low-first-halves : (l : List ℕ) (k : ℕ) → k ≤ length l → low-first l ≡ low-first (take k l) + 256 ^ k * low-first (take (length l - k) (drop k l))
+low-first-halves l k h = rw (take-all (length l - k) (drop k l) (simp length-drop (omega arith))) (low-first-split l k h)
+
+pub low-first-one : (l : List ℕ) (k : ℕ) → k < length l → low-first (drop k l) ≡ getD l k 0 + 256 * low-first (drop (suc k) l)
+unfolding low-first
+low-first-one l k h = rw (drop-cons l k 0 h)
+
+pub low-first-none : (l : List ℕ) (k : ℕ) → length l ≤ k → low-first (drop k l) ≡ 0
+unfolding low-first
+low-first-none l k h = rw (drop-of-length-le l h)
+
+-- ---- powers and products
+
+below : (bytes x : ℕ) → x < 256 ^ bytes / 2 → below-zero bytes x ≡ false
+unfolding below-zero
+below bytes x h = lt-leb (256 ^ bytes / 2) x h
+
+pub magnitude-of : (bytes x : ℕ) → x < 256 ^ bytes / 2 → magnitude bytes x ≡ x
+unfolding magnitude if_then_else_
+magnitude-of bytes x h = rw (below bytes x h)
+
+pub magnitude-below : (bytes x : ℕ) → 256 ^ bytes / 2 ≤ x → magnitude bytes x ≡ 256 ^ bytes - x
+unfolding magnitude if_then_else_ below-zero
+magnitude-below bytes x h = rw (le-leb (256 ^ bytes / 2) x h)
+
+pub risen-of : (x : ℕ) → x < 32768 → risen x ≡ x
+unfolding risen if_then_else_
+risen-of x h = rw (below power-size x h)
+
+pub risen-below : (x : ℕ) → 32768 ≤ x → risen x ≡ 0
+unfolding risen if_then_else_ below-zero
+risen-below x h = rw (le-leb 32768 x h)
+
+pub fallen-of : (x : ℕ) → x < 32768 → fallen x ≡ 0
+unfolding fallen if_then_else_
+fallen-of x h = rw (below power-size x h)
+
+pub fallen-below : (x : ℕ) → 32768 ≤ x → fallen x ≡ 65536 - x
+unfolding fallen if_then_else_ below-zero
+fallen-below x h = rw (le-leb 32768 x h, magnitude-below power-size x h)
+
+pub risen-most : (x : ℕ) → risen x < 32768
+unfolding risen below-zero
+risen-most x = if-either (λ y. y < 32768) (leb 32768 x) (λ e. lit< tt) (λ e. leb-false 32768 x e)
+
+pub fallen-most : (x : ℕ) → fallen x ≤ 32768
+unfolding fallen below-zero
+fallen-most x =
+    if-either (λ y. y ≤ 32768) (leb 32768 x) (λ e. rw (magnitude-below power-size x (leb-true 32768 x e)) (omega (arith, leb-true 32768 x e))) (λ e. zero-le)
+
+pub kind-down-most : (k : ℕ) → getD kind-downs k 0 ≤ 9
+unfolding kind-downs all
+kind-down-most k = leb-true (getD kind-downs k 0) 9 (all-at (λ x. leb x 9) kind-downs 0 refl refl k)
+
+-- a product is within a limit if what is multiplied is within the limit divided
+pub within-divided : (factor m most : ℕ) → 0 < factor → leb m (most / factor) ≡ ltb (factor * m) (most + 1)
+within-divided factor m most h =
+    same-test (leb m (most / factor)) (ltb (factor * m) (most + 1))
+    (λ e. lt-ltb (factor * m) (most + 1) (rw mul-comm (omega (arith, le-div-iff-mul-le h .0 (leb-true m (most / factor) e)))))
+    (λ e. le-leb m (most / factor) (le-div-iff-mul-le h .1 (rw mul-comm (omega (arith, ltb-true (factor * m) (most + 1) e)))))
+
+xor-false : (b : Bool) → xor false b ≡ b
+unfolding xor
+xor-false true = refl
+xor-false false = refl
+
+module _ (r : List ℕ) where
+  -- a kind has no sign, and no power above zero
+  pub product-fields :
+      product r
+      ≡ record {
+        negative = row-multiplier r .negative;
+        coefficient = kind-multiplier (kind r) .coefficient * row-multiplier r .coefficient;
+        up = row-multiplier r .up;
+        down = kind-multiplier (kind r) .down + row-multiplier r .down;
+      }
+  unfolding product times kind-multiplier
+  product-fields = rw (zero-add, xor-false (row-multiplier r .negative))
+
+  pub up-most : row-multiplier r .up < 32768
+  unfolding row-multiplier risen
+  up-most = risen-most (power-field r)
+
+  pub down-most : kind-multiplier (kind r) .down + row-multiplier r .down ≤ 32777
+  unfolding row-multiplier kind-multiplier fallen
+  down-most = omega (arith, kind-down-most (kind r), fallen-most (power-field r))
+
+  -- the range of kind times row: a power above zero is never too high
+  pub in-range-product :
+      in-range (product r)
+      ≡ (ltb (kind-multiplier (kind r) .coefficient * row-multiplier r .coefficient) (2 ^ 63)
+      && leb (kind-multiplier (kind r) .down + row-multiplier r .down) (row-multiplier r .up + 32768))
+  unfolding in-range
+  in-range-product =
+      let down : ℕ = kind-multiplier (kind r) .down + row-multiplier r .down in
+      rw (product-fields, le-leb (row-multiplier r .up) (down + 32767) (omega (arith, up-most)), and-true)
+
+-- what the range says in numbers
+pub in-range-bounds : (m : Multiplier) → in-range m ≡ true → (m .coefficient < 2 ^ 63) × (m .up ≤ m .down + 32767) × (m .down ≤ m .up + 32768)
+unfolding in-range
+in-range-bounds m e =
+    let first : Bool = ltb (m .coefficient) (2 ^ 63) in
+    let second : Bool = leb (m .up) (m .down + 32767) in
+    let third : Bool = leb (m .down) (m .up + 32768) in
+    let both = and-left (first && second) third e in (
+      ltb-true (m .coefficient) (2 ^ 63) (and-left first second both),
+      leb-true (m .up) (m .down + 32767) (and-right first second both),
+      leb-true (m .down) (m .up + 32768) (and-right (first && second) third e),
+    )

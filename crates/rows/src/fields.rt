@@ -1,0 +1,168 @@
+// The fields of a row, and its product with its kind.
+ghost use mathlib.Core.Path.{_≡_};
+ghost use mathlib.Core.Bool.{true};
+ghost use Prim.Native.Nat.{_+_, _*_, _^_, _<_, _≤_};
+ghost use lib.Dec.{ltb};
+ghost use lib.ListN.{length, take, drop};
+ghost use Rattle.rules.specs.SettingsAndUnitTable.{coefficient-size, row-size, rows, row, name, low-first, magnitude, row-multiplier, product, in-range};
+ghost use Rattle.rows.specs.Powers.{risen, fallen};
+use rules::Multiplier;
+use tables::kind_multiplier;
+
+// How many bytes a row has, and where its fields stand: size, name, kind, coefficient, power, zeros.
+pub const ROW_SIZE: usize = 32;
+
+pub const NAME_AT: usize = 1;
+
+pub const KIND_AT: usize = 17;
+
+const COEFFICIENT_AT: usize = 18;
+
+const POWER_AT: usize = 26;
+
+pub const ZEROS_AT: usize = 28;
+
+// The row with this number: a part of the lent table.
+pub fn row_at(table: &[u8], i: usize) -> &[u8]
+    requires { ⌜ i < rows (now table) ⌝ }
+    ensures { λ r. ⌜ now r ≡ row (now (table .entry)) i ⌝ }
+{
+    let start = ROW_SIZE * i;
+    let end = start + ROW_SIZE;
+    &table[start..end]
+}
+
+// The name of a row. A row that is not accepted may claim more bytes than it has.
+pub fn name_of(row: &[u8]) -> &[u8]
+    requires { ⌜ length (now row) ≡ row-size ⌝ }
+    ensures { λ r. ⌜ now r ≡ name (now (row .entry)) ⌝ }
+{
+    let size = row[0] as usize;
+    if size < 31 {
+        let end = NAME_AT + size;
+        return &row[NAME_AT..end];
+    }
+    &row[NAME_AT..]
+}
+
+// The number that two bytes spell, low byte first; then four, then eight, from halves: a whole word is read at once.
+fn low_first_2(part: &[u8]) -> u16
+    requires { ⌜ length (now part) ≡ 2 ⌝ }
+    ensures { λ r. ⌜ r ≡ low-first (now (part .entry)) ⌝ }
+{
+    part[0] as u16 + part[1] as u16 * 256
+}
+
+fn low_first_4(part: &[u8]) -> u32
+    requires { ⌜ length (now part) ≡ 4 ⌝ }
+    ensures { λ r. ⌜ r ≡ low-first (now (part .entry)) ⌝ }
+{
+    low_first_2(&part[..2]) as u32 + low_first_2(&part[2..]) as u32 * 65_536
+}
+
+fn low_first_8(part: &[u8]) -> u64
+    requires { ⌜ length (now part) ≡ 8 ⌝ }
+    ensures { λ r. ⌜ r ≡ low-first (now (part .entry)) ⌝ }
+{
+    low_first_4(&part[..4]) as u64 + low_first_4(&part[4..]) as u64 * 4_294_967_296
+}
+
+// The number that eight bytes of a row spell, from this place of it on.
+pub fn word_at(row: &[u8], at: usize) -> u64
+    requires { ⌜ at + 8 ≤ length (now row) ⌝ }
+    ensures { λ r. ⌜ r ≡ low-first (take 8 (drop at (now (row .entry)))) ⌝ }
+{
+    let end = at + 8;
+    low_first_8(&row[at..end])
+}
+
+// The magnitude of a coefficient in two's complement: 9223372036854775808 and above stand below zero.
+fn coefficient_magnitude(x: u64) -> u64
+    ensures { λ r. ⌜ r ≡ magnitude coefficient-size x ⌝ }
+{
+    if x < 9_223_372_036_854_775_808 {
+        x
+    } else {
+        18_446_744_073_709_551_615 - x + 1
+    }
+}
+
+// How far a power in two's complement stands above zero, and how far below.
+fn risen(power: u16) -> u16
+    ensures { λ r. ⌜ r ≡ risen power ⌝ }
+{
+    if power < 32_768 { power } else { 0 }
+}
+
+fn fallen(power: u16) -> u16
+    ensures { λ r. ⌜ r ≡ fallen power ⌝ }
+{
+    if power < 32_768 {
+        0
+    } else {
+        65_535 - power + 1
+    }
+}
+
+// What the row itself multiplies by.
+fn row_multiplier(row: &[u8]) -> Multiplier
+    requires { ⌜ length (now row) ≡ row-size ⌝ }
+    ensures { λ r. ⌜ r ≡ row-multiplier (now (row .entry)) ⌝ }
+{
+    let coefficient = word_at(row, COEFFICIENT_AT);
+    let power = low_first_2(&row[POWER_AT..ZEROS_AT]);
+    Multiplier {
+        negative: coefficient >= 9_223_372_036_854_775_808,
+        coefficient: coefficient_magnitude(coefficient),
+        up: risen(power),
+        down: fallen(power),
+    }
+}
+
+// Whether a product is at most 9223372036854775807. It is not made, since it may not fit: the magnitude is held against the limit
+// divided by the factor.
+fn within(factor: u64, magnitude: u64) -> bool
+    ensures { λ r. ⌜ r ≡ ltb (factor * magnitude) (2 ^ 63) ⌝ }
+{
+    if factor == 0 {
+        return true;
+    }
+    magnitude <= 9_223_372_036_854_775_807 / factor
+}
+
+// Whether kind times row lies in the range. A power above zero is never too high.
+pub fn product_in_range(row: &[u8]) -> bool
+    requires { ⌜ length (now row) ≡ row-size ⌝ }
+    ensures { λ r. ⌜ r ≡ in-range (product (now (row .entry))) ⌝ }
+{
+    let unit = kind_multiplier(row[KIND_AT]);
+    let own = row_multiplier(row);
+    if !within(unit.coefficient, own.coefficient) {
+        return false;
+    }
+    unit.down + own.down <= own.up + 32_768
+}
+
+// Kind times row, of a row for which that is in range.
+pub fn product(row: &[u8]) -> Multiplier
+    requires { ⌜ length (now row) ≡ row-size ⌝ }
+    requires { ⌜ in-range (product (now row)) ≡ true ⌝ }
+    ensures { λ r. ⌜ r ≡ product (now (row .entry)) ⌝ }
+{
+    let unit = kind_multiplier(row[KIND_AT]);
+    let own = row_multiplier(row);
+    Multiplier {
+        negative: own.negative,
+        coefficient: unit.coefficient * own.coefficient,
+        up: own.up,
+        down: unit.down + own.down,
+    }
+}
+
+pub fn row_product(table: &[u8], i: usize) -> Multiplier
+    requires { ⌜ i < rows (now table) ⌝ }
+    requires { ⌜ in-range (product (row (now table) i)) ≡ true ⌝ }
+    ensures { λ r. ⌜ r ≡ product (row (now (table .entry)) i) ⌝ }
+{
+    product(row_at(table, i))
+}

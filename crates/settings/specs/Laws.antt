@@ -1,0 +1,3 @@
+-- Laws of byte sets and of the settings.
+pub mod Sets
+pub mod Settings

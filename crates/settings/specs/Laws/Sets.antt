@@ -1,0 +1,129 @@
+-- Laws of byte sets: bytes that may not delimit stand in runs, and a run of bytes is a run of bits of one word. Assumes nothing.
+use mathlib.Core.Path.{_≡_, refl, sym, ap, _∙_}
+use mathlib.Core.Bool.{Bool, true, false, not, _&&_, _||_, Bool·beq}
+use Prim.Native.Nat.{ℕ, zero, suc, _+_, _*_, _-_, _/_, _%_, _^_, _≤_, _<_}
+use native.Mathlib.Nat.{add-zero, zero-add, add-suc, suc-add, mod-one, mod-lt, le-of-suc-le-suc}
+use native.Mathlib.Numerals.{add-one}
+use native.Mathlib.Omega.{arith}
+use lib.Dec.{eqb, lit<, lit≤}
+use lib.Pow.{shr-shr, mod-pow-add}
+use borrow.Author.Tests.{ne-eqb, not-true}
+use Rattle.rules.specs.declared.ByteSet.{ByteSet}
+use Rattle.rules.specs.Common.{if_then_else_, between}
+use Rattle.rules.specs.SettingsAndUnitTable.{LETTER, class, is, word, holds, may-delimit, delimits}
+use Rattle.rules.specs.Laws.Choices.{and-left, and-right}
+use Rattle.rules.specs.Laws.Tests.{and-assoc, or-assoc, or-true, or-false, eqb-iff}
+
+-- each of the n bytes from b on passes
+unfoldable pub runs : (ℕ → Bool) → ℕ → ℕ → Bool
+runs test b zero = true
+runs test b (suc n) = test b && runs test (suc b) n
+
+pub word-last : (set : ByteSet) (i : ℕ) → 3 ≤ i → word set i ≡ set .word3
+unfolding word
+word-last set zero h = absurd (omega arith)
+word-last set (suc zero) h = absurd (omega arith)
+word-last set (suc (suc zero)) h = absurd (omega arith)
+word-last set (suc (suc (suc i))) h = refl
+
+-- one more bit is zero
+bit-more : (x n : ℕ) → eqb (x % 2 ^ suc n) 0 ≡ (not (eqb (x % 2) 1) && eqb (x / 2 % 2 ^ n) 0)
+bit-more x n = rw (← (add-one n), mod-pow-add x n 1) (go (x % 2) (mod-lt x (lit< tt)))
+  where
+    go : (low : ℕ) → low < 2 → eqb (x / 2 % 2 ^ n * 2 + low) 0 ≡ (not (eqb low 1) && eqb (x / 2 % 2 ^ n) 0)
+    go zero h = eqb-iff (x / 2 % 2 ^ n * 2 + 0) 0 (x / 2 % 2 ^ n) 0 (λ e. omega arith) (λ e. omega arith)
+    go (suc zero) h = ne-eqb (x / 2 % 2 ^ n * 2 + 1) 0 (λ e. omega arith)
+    go (suc (suc low)) h = absurd (omega arith)
+
+whole-word : (w : ℕ) → w < 2 ^ 64 → w / 2 ^ 0 % 2 ^ 64 ≡ w
+whole-word w h = omega arith
+
+module _ (set : ByteSet) where
+  pub delimits-add : (b m n : ℕ) → delimits set b (m + n) ≡ (delimits set b m && delimits set (b + m) n)
+  unfolding delimits
+  delimits-add b zero n = rw (zero-add, add-zero)
+  delimits-add b (suc m) n = rw (suc-add m n, and-assoc, add-suc b m, ← (suc-add b m)) (ap (λ t. (not (holds set b) || may-delimit b) && t) (delimits-add (suc b) m n))
+
+  pub delimits-any : (b n : ℕ) → runs may-delimit b n ≡ true → delimits set b n ≡ true
+  unfolding delimits runs
+  delimits-any b zero e = refl
+  delimits-any b (suc n) e =
+      rw (and-left (may-delimit b) (runs may-delimit (suc b) n) e, or-true, delimits-any (suc b) n (and-right (may-delimit b) (runs may-delimit (suc b) n) e))
+
+  pub delimits-none : (b n : ℕ) → b % 64 + n ≤ 64 → runs (λ k. not (may-delimit k)) b n ≡ true → delimits set b n ≡ eqb (word set (b / 64) / 2 ^ (b % 64) % 2 ^ n) 0
+  unfolding delimits runs holds
+  delimits-none b zero h e = rw mod-one
+  delimits-none b (suc n) h e =
+      let here : may-delimit b ≡ false = not-true (may-delimit b) (and-left (not (may-delimit b)) (runs (λ k. not (may-delimit k)) (suc b) n) e) in
+      rw (here, or-false, bit-more (word set (b / 64) / 2 ^ (b % 64)) n)
+      (ap (λ t. not (eqb (word set (b / 64) / 2 ^ (b % 64) % 2) 1) && t)
+      (delimits-none (suc b) n (omega arith) (and-right (not (may-delimit b)) (runs (λ k. not (may-delimit k)) (suc b) n) e) ∙ next n h))
+    where
+      -- the next byte has the next bit of the same word, unless no byte is left
+      next : (m : ℕ) → b % 64 + suc m ≤ 64 → eqb (word set (suc b / 64) / 2 ^ (suc b % 64) % 2 ^ m) 0 ≡ eqb (word set (b / 64) / 2 ^ (b % 64) / 2 % 2 ^ m) 0
+      next zero h = simp mod-one
+      next (suc m) h =
+          let same-word : suc b / 64 ≡ b / 64 = omega arith in
+          let next-bit : suc b % 64 ≡ b % 64 + 1 = omega arith in
+          rw (same-word, next-bit, shr-shr (word set (b / 64)) (b % 64) 1)
+
+  any-then : (b m n : ℕ) → runs may-delimit b m ≡ true → delimits set b (m + n) ≡ delimits set (b + m) n
+  any-then b m n e = rw (delimits-add b m n, delimits-any b m e)
+
+  none-then : (b m n : ℕ) → b % 64 + m ≤ 64 → runs (λ k. not (may-delimit k)) b m ≡ true → delimits set b (m + n) ≡ (eqb (word set (b / 64) / 2 ^ (b % 64) % 2 ^ m) 0 && delimits set (b + m) n)
+  none-then b m n h e = rw (delimits-add b m n, delimits-none b m h e)
+
+  -- the runs of bytes that may not delimit, each within a word
+  pub delimits-runs :
+      set .word2 < 2 ^ 64
+      → set .word3 < 2 ^ 64
+      → delimits set 0 256
+      ≡ (eqb (set .word0 / 2 ^ 43 % 2) 0
+      && (eqb (set .word0 / 2 ^ 45 % 2 ^ 2) 0
+      && (eqb (set .word0 / 2 ^ 48 % 2 ^ 10) 0
+      && (eqb (set .word1 / 2 ^ 1 % 2 ^ 26) 0
+      && (eqb (set .word1 / 2 ^ 33 % 2 ^ 26) 0
+      && (eqb (set .word2) 0 && eqb (set .word3) 0))))))
+  unfolding runs may-delimit is class between if_then_else_ word
+  delimits-runs fits₂ fits₃ =
+      rw (
+        any-then 0 43 213 refl,
+        none-then 43 1 212 (lit≤ tt) refl,
+        any-then 44 1 211 refl,
+        none-then 45 2 209 (lit≤ tt) refl,
+        any-then 47 1 208 refl,
+        none-then 48 10 198 (lit≤ tt) refl,
+        any-then 58 7 191 refl,
+        none-then 65 26 165 (lit≤ tt) refl,
+        any-then 91 6 159 refl,
+        none-then 97 26 133 (lit≤ tt) refl,
+        any-then 123 5 128 refl,
+        none-then 128 64 64 (lit≤ tt) refl,
+        delimits-none 192 64 (lit≤ tt) refl,
+        whole-word (set .word2) fits₂,
+        whole-word (set .word3) fits₃,
+      )
+
+-- ---- two tests that agree at each byte of a run agree at a byte of it: one computation for the run
+
+runs-at : (test : ℕ → Bool) (n b k : ℕ) → runs test b n ≡ true → k < n → test (b + k) ≡ true
+unfolding runs
+runs-at test zero b k e h = absurd (omega arith)
+runs-at test (suc n) b zero e h = rw (add-zero b) (and-left (test b) (runs test (suc b) n) e)
+runs-at test (suc n) b (suc k) e h =
+    rw (add-suc b k, ← (suc-add b k)) (runs-at test n (suc b) k (and-right (test b) (runs test (suc b) n) e) (le-of-suc-le-suc h))
+
+alike : (a b : Bool) → Bool·beq a b ≡ true → a ≡ b
+alike true true e = refl
+alike true false e = sym e
+alike false true e = e
+alike false false e = refl
+
+pub agree : (f g : ℕ → Bool) (from n : ℕ) → runs (λ b. Bool·beq (f b) (g b)) from n ≡ true → (b : ℕ) → from ≤ b → b < from + n → f b ≡ g b
+agree f g from n e b low high =
+    let here : from + (b - from) ≡ b = omega arith in
+    alike (f b) (g b) (rw here at (runs-at (λ b. Bool·beq (f b) (g b)) n from (b - from) e (omega arith)))
+
+pub letter-byte : (b : ℕ) → b < 256 → is LETTER b ≡ (between 65 90 b || between 97 122 b)
+unfolding runs is class between if_then_else_
+letter-byte b h = agree (is LETTER) (λ b. between 65 90 b || between 97 122 b) 0 256 refl b (omega arith) h
