@@ -1,5 +1,5 @@
--- Laws of the table check: row by row, and what an accepted table has. Assumes nothing.
-use mathlib.Core.Path.{_≡_, refl, sym, _∙_}
+-- Laws of the table check: row by row, and the tests that an accepted row passed. Assumes nothing.
+use mathlib.Core.Path.{_≡_, sym, _∙_}
 use mathlib.Core.Bool.{true, false, not, _&&_, _||_}
 use mathlib.Core.List.{List}
 use Prim.Native.Nat.{ℕ, zero, suc, _+_, _-_, _≤_, _<_}
@@ -8,7 +8,7 @@ use native.Mathlib.Numerals.{sub-one, add-one}
 use native.Mathlib.Omega.{arith}
 use lib.Dec.{eqb, leb}
 use lib.ListN.{drop}
-use borrow.Author.Tests.{le-leb, ne-eqb, not-true}
+use borrow.Author.Tests.{not-true}
 use Rattle.rules.specs.declared.Settings.{Settings}
 use Rattle.rules.specs.declared.Refusal.the-variants.{BadRow}
 use Rattle.rules.specs.Common.{if_then_else_, all, same}
@@ -17,15 +17,6 @@ use Rattle.rules.specs.SettingsAndUnitTable.{last-kind, zeros-at, rows, row, na
 use Rattle.rules.specs.Laws.Choices.{and-left, and-right}
 use Rattle.card.specs.Fields.{padded}
 use Rattle.rules.specs.Laws.Tests.{and-assoc}
-
--- of the classes, those below the letters are digit, sign and point
-pub not-of-a-number : (x : ℕ) → leb 3 x ≡ not (eqb x 0 || eqb x 1 || eqb x 2)
-not-of-a-number zero = refl
-not-of-a-number (suc zero) = refl
-not-of-a-number (suc (suc zero)) = refl
-not-of-a-number (suc (suc (suc x))) =
-    let n : ℕ = suc (suc (suc x)) in
-    rw (le-leb 3 n (omega arith), ne-eqb n 0 (λ e. omega arith), ne-eqb n 1 (λ e. omega arith), ne-eqb n 2 (λ e. omega arith))
 
 -- ---- names before a row: one of the first n rows
 

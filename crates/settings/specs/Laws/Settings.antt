@@ -1,4 +1,4 @@
--- Laws of the settings: letters and conjunctions one by one, and what an accepted card has. Assumes nothing.
+-- Laws of the settings: letters and conjunctions one by one. Assumes nothing.
 use mathlib.Core.Path.{_≡_, refl}
 use mathlib.Core.Bool.{Bool, true, _&&_}
 use Prim.Native.Nat.{ℕ, zero, suc, _+_, _-_, _/_, _%_, _≤_, _<_}
@@ -13,6 +13,7 @@ use Rattle.rules.specs.SettingsAndUnitTable.{low-bytes, conjunctions-of}
 use Rattle.rules.specs.Laws.Lists.{all-from, all-done}
 use Rattle.settings.specs.Conjunctions.{conjunctions-listed}
 
+-- of the n low bytes: the lowest, and those above it
 pub all-letters : (test : ℕ → Bool) (n x : ℕ) → 0 < n → all test (low-bytes n x) ≡ (test (x % 256) && all test (low-bytes (n - 1) (x / 256)))
 unfolding all low-bytes
 all-letters test zero x h = absurd (omega arith)

@@ -46,7 +46,12 @@ loop-again c =
     (omega arith, rw (← (loop .inv .1), all-from (outside (args .set)) (args .name .now) (loop .i) 0 (omega arith), ← (c .before .holds .ensures), c .if1 .left))
 
 returns-2 : tie.Need-returns-2 Inv-loop μ-loop
-returns-2 c = rw (← (c .before .loop .inv .1), all-done (outside (c .before .before .before .args .set)) (c .before .before .before .args .name .now) (c .before .loop .i) (omega arith))
+returns-2 c =
+    let start = c .before .before .before in
+    rw (
+      ← (c .before .loop .inv .1),
+      all-done (outside (start .args .set)) (start .args .name .now) (c .before .loop .i) (omega arith),
+    )
 
 pub name-accepted-spec : {M : Type 1} → statement M
 name-accepted-spec =

@@ -38,11 +38,26 @@ word-at-requires-2 c κs = search needs
 
 returns-3 : tie.Need-returns-3
 unfolding padded name-size
-returns-3 c = rw (between-in 1 16 (getD (c .before .before .before .before .before .before .before .before .args .row .now) 0 0) (omega arith) (omega arith), zeros-short (c .before .before .before .before .before .before .before .before .args .row .now) (c .before .before .before .before .before .before .before .before .pre) (λ k. c .before .before .before .before .before .before .before .shared-slice-known .given k .fits) (omega arith), ← (c .before .before .word-at .ensures), eq-eqb _ _ (c .before .if4 .taken), ← (c .word-at2 .ensures))
+returns-3 c =
+    let start = c .before .before .before .before .before .before .before .before in
+    rw (
+      between-in 1 16 (getD (start .args .row .now) 0 0) (omega arith) (omega arith),
+      zeros-short (start .args .row .now) (start .pre) (λ k. c .before .before .before .before .before .before .before .shared-slice-known .given k .fits) (omega arith),
+      ← (c .before .before .word-at .ensures),
+      eq-eqb _ _ (c .before .if4 .taken),
+      ← (c .word-at2 .ensures),
+    )
 
 returns-4 : tie.Need-returns-4
 unfolding padded name-size
-returns-4 c = rw (between-in 1 16 (getD (c .before .before .before .before .before .before .before .args .row .now) 0 0) (omega arith) (omega arith), zeros-short (c .before .before .before .before .before .before .before .args .row .now) (c .before .before .before .before .before .before .before .pre) (λ k. c .before .before .before .before .before .before .shared-slice-known .given k .fits) (omega arith), ← (c .before .word-at .ensures), ne-eqb _ _ (c .if4 .left))
+returns-4 c =
+    let start = c .before .before .before .before .before .before .before in
+    rw (
+      between-in 1 16 (getD (start .args .row .now) 0 0) (omega arith) (omega arith),
+      zeros-short (start .args .row .now) (start .pre) (λ k. c .before .before .before .before .before .before .shared-slice-known .given k .fits) (omega arith),
+      ← (c .before .word-at .ensures),
+      ne-eqb _ _ (c .if4 .left),
+    )
 
 word-at-requires-3 : tie.Need-word-at-requires-3
 word-at-requires-3 c κs = search needs
@@ -55,11 +70,22 @@ shr-result c = search needs
 
 returns-5 : tie.Need-returns-5
 unfolding padded name-size
-returns-5 c = rw (between-in 1 16 (getD (c .before .before .before .before .before .before .before .args .row .now) 0 0) (omega arith) (omega arith), zeros-long (c .before .before .before .before .before .before .before .args .row .now) (c .before .before .before .before .before .before .before .pre) (λ k. c .before .before .before .before .before .before .shared-slice-known .given k .fits) (omega arith) (omega arith), ← (c .word-at3 .ensures))
+returns-5 c =
+    let start = c .before .before .before .before .before .before .before in
+    rw (
+      between-in 1 16 (getD (start .args .row .now) 0 0) (omega arith) (omega arith),
+      zeros-long (start .args .row .now) (start .pre) (λ k. c .before .before .before .before .before .before .shared-slice-known .given k .fits) (omega arith) (omega arith),
+      ← (c .word-at3 .ensures),
+    )
 
 returns-6 : tie.Need-returns-6
 unfolding padded name-size
-returns-6 c = rw (between-in 1 16 (getD (c .before .before .before .before .before .before .args .row .now) 0 0) (omega arith) (omega arith), zeros-full (c .before .before .before .before .before .before .args .row .now) (c .before .before .before .before .before .before .pre) (λ k. c .before .before .before .before .before .shared-slice-known .given k .fits) (omega arith))
+returns-6 c =
+    let start = c .before .before .before .before .before .before in
+    rw (
+      between-in 1 16 (getD (start .args .row .now) 0 0) (omega arith) (omega arith),
+      zeros-full (start .args .row .now) (start .pre) (λ k. c .before .before .before .before .before .shared-slice-known .given k .fits) (omega arith),
+    )
 
 pub padded-spec : {M : Type 1} → statement M
 padded-spec =

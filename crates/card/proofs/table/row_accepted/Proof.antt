@@ -3,7 +3,7 @@ use mathlib.Core.Bool.{true}
 use mathlib.Core.Path.{_≡_, ap, _∙_}
 use Prim.Native.Nat.{_-_}
 use native.Mathlib.Omega.{arith}
-use lib.Dec.{eqb}
+use lib.Dec.{eqb, leb}
 use lib.ListN.{length, drop, length-drop}
 use lib.Seq.{take-all}
 use borrow.Author.Tests.{le-leb, lt-leb, not-true, not-false}
@@ -34,6 +34,23 @@ asked c =
     c .name-accepted .ensures
     ∙ rw (c .before .name-of .ensures, start .pre .1 .1) (names-outside (start .args .s) own (λ k. c .before .before .before .before .before .before .shared-slice-known2 .given k .fits))
 
+-- ---- what each test that passed says of the row
+
+good-padded : (c : tie.Else1) → padded (row (c .before .before .before .before .args .table .now) (c .before .before .before .before .args .i)) ≡ true
+good-padded c = rw (← (c .before .before .row-at .ensures), ← (c .before .padded .ensures)) (not-false (c .before .padded .result) (c .if1 .left))
+
+good-kind : (c : tie.Else2) → leb (kind (row (c .before .before .before .before .before .before .args .table .now) (c .before .before .before .before .before .before .args .i))) 7 ≡ true
+unfolding kind
+good-kind c = rw (← (c .before .before .before .before .row-at .ensures)) (le-leb _ _ (c .if2 .left))
+
+good-zeros : (c : tie.Else3) → all (eqb 0) (drop 28 (row (c .before .before .before .before .before .before .before .before .before .args .table .now) (c .before .before .before .before .before .before .before .before .before .args .i))) ≡ true
+good-zeros c = rw (← (c .before .before .before .before .before .before .before .row-at .ensures), ← (rest (c .before))) (not-false (c .before .zeros .result) (c .if3 .left))
+
+good-name : (c : tie.Else4) → all (may-name (c .before .before .before .before .before .before .before .before .before .before .before .before .args .s)) (name (row (c .before .before .before .before .before .before .before .before .before .before .before .before .args .table .now) (c .before .before .before .before .before .before .before .before .before .before .before .before .args .i))) ≡ true
+good-name c = rw (← (c .before .before .before .before .before .before .before .before .before .before .row-at .ensures), ← (asked (c .before))) (not-false (c .before .name-accepted .result) (c .if4 .left))
+
+-- ---- the needs
+
 row-at-requires : tie.Need-row-at-requires
 row-at-requires c κs = search needs
 
@@ -42,8 +59,9 @@ padded-requires c κs = long c
 
 returns : tie.Need-returns
 returns c =
+    let start = c .before .before .before .before in
     rw (
-      row-accepted-parts (c .before .before .before .before .args .s) (c .before .before .before .before .args .table .now) (c .before .before .before .before .args .i),
+      row-accepted-parts (start .args .s) (start .args .table .now) (start .args .i),
       ← (c .before .before .row-at .ensures),
       ← (c .before .padded .ensures),
       not-true (c .before .padded .result) (c .if1 .taken),
@@ -55,11 +73,11 @@ shared-slice-read-if2 c = omega (arith, long (c .before .before .before))
 returns-2 : tie.Need-returns-2
 unfolding kind
 returns-2 c =
+    let start = c .before .before .before .before .before .before in
     rw (
-      row-accepted-parts (c .before .before .before .before .before .before .args .s) (c .before .before .before .before .before .before .args .table .now) (c .before .before .before .before .before .before .args .i),
+      row-accepted-parts (start .args .s) (start .args .table .now) (start .args .i),
+      good-padded (c .before .before),
       ← (c .before .before .before .before .row-at .ensures),
-      ← (c .before .before .before .padded .ensures),
-      not-false (c .before .before .before .padded .result) (c .before .before .if1 .left),
       lt-leb _ _ (c .if2 .taken),
     )
 
@@ -76,14 +94,13 @@ zeros-requires : tie.Need-zeros-requires
 zeros-requires c κs = search needs
 
 returns-3 : tie.Need-returns-3
-unfolding kind
 returns-3 c =
+    let start = c .before .before .before .before .before .before .before .before .before in
     rw (
-      row-accepted-parts (c .before .before .before .before .before .before .before .before .before .args .s) (c .before .before .before .before .before .before .before .before .before .args .table .now) (c .before .before .before .before .before .before .before .before .before .args .i),
+      row-accepted-parts (start .args .s) (start .args .table .now) (start .args .i),
+      good-padded (c .before .before .before .before .before),
+      good-kind (c .before .before .before),
       ← (c .before .before .before .before .before .before .before .row-at .ensures),
-      ← (c .before .before .before .before .before .before .padded .ensures),
-      not-false (c .before .before .before .before .before .before .padded .result) (c .before .before .before .before .before .if1 .left),
-      le-leb _ _ (c .before .before .before .if2 .left),
       ← (rest (c .before)),
       not-true (c .before .zeros .result) (c .if3 .taken),
     )
@@ -95,16 +112,14 @@ name-accepted-requires : tie.Need-name-accepted-requires
 name-accepted-requires c κs = search needs
 
 returns-4 : tie.Need-returns-4
-unfolding kind
 returns-4 c =
+    let start = c .before .before .before .before .before .before .before .before .before .before .before .before in
     rw (
-      row-accepted-parts (c .before .before .before .before .before .before .before .before .before .before .before .before .args .s) (c .before .before .before .before .before .before .before .before .before .before .before .before .args .table .now) (c .before .before .before .before .before .before .before .before .before .before .before .before .args .i),
+      row-accepted-parts (start .args .s) (start .args .table .now) (start .args .i),
+      good-padded (c .before .before .before .before .before .before .before .before),
+      good-kind (c .before .before .before .before .before .before),
+      good-zeros (c .before .before .before),
       ← (c .before .before .before .before .before .before .before .before .before .before .row-at .ensures),
-      ← (c .before .before .before .before .before .before .before .before .before .padded .ensures),
-      not-false (c .before .before .before .before .before .before .before .before .before .padded .result) (c .before .before .before .before .before .before .before .before .if1 .left),
-      le-leb _ _ (c .before .before .before .before .before .before .if2 .left),
-      ← (rest (c .before .before .before .before)),
-      not-false (c .before .before .before .before .zeros .result) (c .before .before .before .if3 .left),
       ← (asked (c .before)),
       not-true (c .before .name-accepted .result) (c .if4 .taken),
     )
@@ -112,23 +127,18 @@ returns-4 c =
 named-before-requires : tie.Need-named-before-requires
 named-before-requires c κs =
     let start = c .before .before .before .before .before .before .before .before .before .before .before .before in
-    let here : padded (row (start .args .table .now) (start .args .i)) ≡ true = rw (← (c .before .before .before .before .before .before .before .before .before .before .row-at .ensures), ← (c .before .before .before .before .before .before .before .before .before .padded .ensures)) (not-false (c .before .before .before .before .before .before .before .before .before .padded .result) (c .before .before .before .before .before .before .before .before .if1 .left)) in
-    (start .pre .0, λ j h. below-more _ (start .args .i) (start .pre .1 .0) here j (omega arith))
+    (start .pre .0, λ j h. below-more _ (start .args .i) (start .pre .1 .0) (good-padded (c .before .before .before .before .before .before .before .before)) j (omega arith))
 
 returns-5 : tie.Need-returns-5
-unfolding kind
 returns-5 c =
+    let start = c .before .before .before .before .before .before .before .before .before .before .before .before .before .before in
     rw (
-      row-accepted-parts (c .before .before .before .before .before .before .before .before .before .before .before .before .before .before .args .s) (c .before .before .before .before .before .before .before .before .before .before .before .before .before .before .args .table .now) (c .before .before .before .before .before .before .before .before .before .before .before .before .before .before .args .i),
+      row-accepted-parts (start .args .s) (start .args .table .now) (start .args .i),
+      good-padded (c .before .before .before .before .before .before .before .before .before .before),
+      good-kind (c .before .before .before .before .before .before .before .before),
+      good-zeros (c .before .before .before .before .before),
+      good-name (c .before .before),
       ← (c .before .named-before .ensures),
-      ← (c .before .before .before .before .before .before .before .before .before .before .before .before .row-at .ensures),
-      ← (c .before .before .before .before .before .before .before .before .before .before .before .padded .ensures),
-      not-false (c .before .before .before .before .before .before .before .before .before .before .before .padded .result) (c .before .before .before .before .before .before .before .before .before .before .if1 .left),
-      le-leb _ _ (c .before .before .before .before .before .before .before .before .if2 .left),
-      ← (rest (c .before .before .before .before .before .before)),
-      not-false (c .before .before .before .before .before .before .zeros .result) (c .before .before .before .before .before .if3 .left),
-      ← (asked (c .before .before .before)),
-      not-false (c .before .before .before .name-accepted .result) (c .before .before .if4 .left),
       c .if5 .taken,
     )
 
@@ -136,20 +146,17 @@ product-in-range-requires : tie.Need-product-in-range-requires
 product-in-range-requires c κs = long (c .before .before .before .before .before .before .before .before .before .before .before .before)
 
 returns-6 : tie.Need-returns-6
-unfolding kind
 returns-6 c =
+    let start = c .before .before .before .before .before .before .before .before .before .before .before .before .before .before .before in
     rw (
-      row-accepted-parts (c .before .before .before .before .before .before .before .before .before .before .before .before .before .before .before .args .s) (c .before .before .before .before .before .before .before .before .before .before .before .before .before .before .before .args .table .now) (c .before .before .before .before .before .before .before .before .before .before .before .before .before .before .before .args .i),
+      row-accepted-parts (start .args .s) (start .args .table .now) (start .args .i),
+      good-padded (c .before .before .before .before .before .before .before .before .before .before .before),
+      good-kind (c .before .before .before .before .before .before .before .before .before),
+      good-zeros (c .before .before .before .before .before .before),
+      good-name (c .before .before .before),
       ← (c .before .before .named-before .ensures),
-      ← (c .before .before .before .before .before .before .before .before .before .before .before .before .before .row-at .ensures),
-      ← (c .before .before .before .before .before .before .before .before .before .before .before .before .padded .ensures),
-      not-false (c .before .before .before .before .before .before .before .before .before .before .before .before .padded .result) (c .before .before .before .before .before .before .before .before .before .before .before .if1 .left),
-      le-leb _ _ (c .before .before .before .before .before .before .before .before .before .if2 .left),
-      ← (rest (c .before .before .before .before .before .before .before)),
-      not-false (c .before .before .before .before .before .before .before .zeros .result) (c .before .before .before .before .before .before .if3 .left),
-      ← (asked (c .before .before .before .before)),
-      not-false (c .before .before .before .before .name-accepted .result) (c .before .before .before .if4 .left),
       c .before .if5 .left,
+      ← (c .before .before .before .before .before .before .before .before .before .before .before .before .before .row-at .ensures),
       ← (c .product-in-range .ensures),
     )
 

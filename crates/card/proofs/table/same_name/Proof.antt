@@ -22,7 +22,11 @@ words :
     && eqb (low-first (take 8 (drop 9 row))) (low-first (take 8 (drop 9 other)))))
 words c =
     let start = c .before .before in
-    same-words (start .args .row .now) (start .args .other .now) (start .pre .0 .0) (start .pre .1 .0) (start .pre .0 .1) (start .pre .1 .1) (λ k. c .before .shared-slice-known .given k .fits) (λ k. c .shared-slice-known2 .given k .fits)
+    let row-known = start .pre .0 in
+    let other-known = start .pre .1 in
+    same-words (start .args .row .now) (start .args .other .now) (row-known .0) (other-known .0) (row-known .1) (other-known .1)
+    (λ k. c .before .shared-slice-known .given k .fits)
+    (λ k. c .shared-slice-known2 .given k .fits)
 
 shared-slice-read-if1 : tie.Need-shared-slice-read-if1
 shared-slice-read-if1 c = omega arith
@@ -42,7 +46,14 @@ word-at-requires-2 c κs = omega arith
 
 returns-2 : tie.Need-returns-2
 unfolding name-size
-returns-2 c = rw (words (c .before .before .before .before .before .before), eq-eqb _ _ (c .before .before .before .if1 .left), ← (c .before .before .word-at .ensures), ← (c .before .word-at2 .ensures), ne-eqb _ _ (c .if2 .taken))
+returns-2 c =
+    rw (
+      words (c .before .before .before .before .before .before),
+      eq-eqb _ _ (c .before .before .before .if1 .left),
+      ← (c .before .before .word-at .ensures),
+      ← (c .before .word-at2 .ensures),
+      ne-eqb _ _ (c .if2 .taken),
+    )
 
 word-at-requires-3 : tie.Need-word-at-requires-3
 word-at-requires-3 c κs = omega arith
@@ -52,7 +63,16 @@ word-at-requires-4 c κs = omega arith
 
 returns-3 : tie.Need-returns-3
 unfolding name-size
-returns-3 c = rw (words (c .before .before .before .before .before .before .before .before), eq-eqb _ _ (c .before .before .before .before .before .if1 .left), ← (c .before .before .before .before .word-at .ensures), ← (c .before .before .before .word-at2 .ensures), eq-eqb _ _ (c .before .before .if2 .left), ← (c .before .word-at3 .ensures), ← (c .word-at4 .ensures))
+returns-3 c =
+    rw (
+      words (c .before .before .before .before .before .before .before .before),
+      eq-eqb _ _ (c .before .before .before .before .before .if1 .left),
+      ← (c .before .before .before .before .word-at .ensures),
+      ← (c .before .before .before .word-at2 .ensures),
+      eq-eqb _ _ (c .before .before .if2 .left),
+      ← (c .before .word-at3 .ensures),
+      ← (c .word-at4 .ensures),
+    )
 
 pub same-name-spec : {M : Type 1} → statement M
 same-name-spec =

@@ -29,7 +29,12 @@ mul-t6 c =
 add-t7 : tie.Need-add-t7
 unfolding kind
 add-t7 c =
-    rw (c .before .before .before .before .before .kind-multiplier .ensures, c .before .before .before .before .row-multiplier .ensures) (omega (arith, down-most (c .before .before .before .before .before .before .before .before .args .row .now)))
+    let start = c .before .before .before .before .before .before .before .before in
+    rw (
+      c .before .before .before .before .before .kind-multiplier .ensures,
+      c .before .before .before .before .row-multiplier .ensures,
+    )
+    (omega (arith, down-most (start .args .row .now)))
 
 returns : tie.Need-returns
 unfolding kind

@@ -21,19 +21,44 @@ within-requires c κs = search needs
 
 returns : tie.Need-returns
 unfolding kind
-returns c = rw (in-range-product (c .before .before .before .before .before .before .args .row .now), ← (c .before .before .before .kind-multiplier .ensures), ← (c .before .before .row-multiplier .ensures), ← (c .before .within .ensures), not-true (c .before .within .result) (c .if1 .taken))
+returns c =
+    let start = c .before .before .before .before .before .before in
+    rw (
+      in-range-product (start .args .row .now),
+      ← (c .before .before .before .kind-multiplier .ensures),
+      ← (c .before .before .row-multiplier .ensures),
+      ← (c .before .within .ensures),
+      not-true (c .before .within .result) (c .if1 .taken),
+    )
 
 add-result : tie.Need-add-result
 unfolding kind
-add-result c = rw (c .before .before .before .before .before .kind-multiplier .ensures, c .before .before .before .before .row-multiplier .ensures) (omega (arith, down-most (c .before .before .before .before .before .before .before .before .args .row .now)))
+add-result c =
+    let start = c .before .before .before .before .before .before .before .before in
+    rw (
+      c .before .before .before .before .before .kind-multiplier .ensures,
+      c .before .before .before .before .row-multiplier .ensures,
+    )
+    (omega (arith, down-most (start .args .row .now)))
 
 add-result-2 : tie.Need-add-result-2
 unfolding kind
-add-result-2 c = rw (c .before .before .before .before .before .row-multiplier .ensures) (omega (arith, up-most (c .before .before .before .before .before .before .before .before .before .args .row .now)))
+add-result-2 c =
+    let start = c .before .before .before .before .before .before .before .before .before in
+    rw (c .before .before .before .before .before .row-multiplier .ensures)
+    (omega (arith, up-most (start .args .row .now)))
 
 returns-2 : tie.Need-returns-2
 unfolding kind
-returns-2 c = rw (in-range-product (c .before .before .before .before .before .before .before .before .before .args .row .now), ← (c .before .before .before .before .before .before .kind-multiplier .ensures), ← (c .before .before .before .before .before .row-multiplier .ensures), ← (c .before .before .before .before .within .ensures), not-false (c .before .before .before .before .within .result) (c .before .before .before .if1 .left))
+returns-2 c =
+    let start = c .before .before .before .before .before .before .before .before .before in
+    rw (
+      in-range-product (start .args .row .now),
+      ← (c .before .before .before .before .before .before .kind-multiplier .ensures),
+      ← (c .before .before .before .before .before .row-multiplier .ensures),
+      ← (c .before .before .before .before .within .ensures),
+      not-false (c .before .before .before .before .within .result) (c .before .before .before .if1 .left),
+    )
 
 pub product-in-range-spec : {M : Type 1} → statement M
 product-in-range-spec =

@@ -29,7 +29,13 @@ shared-slice-read-if2-2 : tie.Need-shared-slice-read-if2-2 Inv-loop μ-loop
 shared-slice-read-if2-2 c = omega arith
 
 returns-2 : tie.Need-returns-2 Inv-loop μ-loop
-returns-2 c = rw (← (c .before .before .before .before .loop .inv .2), same-from (c .before .before .before .before .before .before .args .a .now) (c .before .before .before .before .before .before .args .b .now) (c .before .before .before .before .loop .i) (omega arith) (omega arith), ne-eqb _ _ (c .if2 .taken))
+returns-2 c =
+    let start = c .before .before .before .before .before .before in
+    rw (
+      ← (c .before .before .before .before .loop .inv .2),
+      same-from (start .args .a .now) (start .args .b .now) (c .before .before .before .before .loop .i) (omega arith) (omega arith),
+      ne-eqb _ _ (c .if2 .taken),
+    )
 
 add-i : tie.Need-add-i Inv-loop μ-loop
 add-i c = omega arith
@@ -38,10 +44,21 @@ loop-less : tie.Need-loop-less Inv-loop μ-loop
 loop-less c = omega arith
 
 loop-again : tie.Need-loop-again Inv-loop μ-loop
-loop-again c = (omega arith, omega arith, rw (← (c .before .before .before .before .loop .inv .2), same-from (c .before .before .before .before .before .before .args .a .now) (c .before .before .before .before .before .before .args .b .now) (c .before .before .before .before .loop .i) (omega arith) (omega arith), eq-eqb _ _ (c .if2 .left)))
+loop-again c =
+    let args = c .before .before .before .before .before .before .args in
+    let loop = c .before .before .before .before .loop in (
+      omega arith,
+      omega arith,
+      rw (← (loop .inv .2), same-from (args .a .now) (args .b .now) (loop .i) (omega arith) (omega arith), eq-eqb _ _ (c .if2 .left)),
+    )
 
 returns-3 : tie.Need-returns-3 Inv-loop μ-loop
-returns-3 c = rw (← (c .before .loop .inv .2), same-done (c .before .before .before .args .a .now) (c .before .before .before .args .b .now) (c .before .loop .i) (omega arith) (omega arith))
+returns-3 c =
+    let start = c .before .before .before in
+    rw (
+      ← (c .before .loop .inv .2),
+      same-done (start .args .a .now) (start .args .b .now) (c .before .loop .i) (omega arith) (omega arith),
+    )
 
 pub same-spec : {M : Type 1} → statement M
 same-spec =

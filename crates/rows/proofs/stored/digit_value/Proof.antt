@@ -19,10 +19,14 @@ returns-3 : tie.Need-returns-3
 returns-3 c = rw (value-none (c .before .args .b) (between-below 48 57 (c .before .args .b) (omega arith)) (between-below 97 102 (c .before .args .b) (omega arith)))
 
 returns-4 : tie.Need-returns-4
-returns-4 c = rw (value-none (c .before .before .before .args .b) (between-above 48 57 (c .before .before .before .args .b) (omega arith)) (between-below 97 102 (c .before .before .before .args .b) (omega arith)))
+returns-4 c =
+    let start = c .before .before .before in
+    rw (value-none (start .args .b) (between-above 48 57 (start .args .b) (omega arith)) (between-below 97 102 (start .args .b) (omega arith)))
 
 returns-5 : tie.Need-returns-5
-returns-5 c = rw (value-none (c .before .before .before .before .args .b) (between-above 48 57 (c .before .before .before .before .args .b) (omega arith)) (between-above 97 102 (c .before .before .before .before .args .b) (omega arith)))
+returns-5 c =
+    let start = c .before .before .before .before in
+    rw (value-none (start .args .b) (between-above 48 57 (start .args .b) (omega arith)) (between-above 97 102 (start .args .b) (omega arith)))
 
 pub digit-value-spec : {M : Type 1} → statement M
 digit-value-spec = tie.close (tie.spec sub-result returns returns-2 returns-3 returns-4 returns-5)

@@ -33,7 +33,10 @@ digit-value-requires : tie.Need-digit-value-requires Inv-loop μ-loop
 digit-value-requires c κs = tt
 
 mul-row : tie.Need-mul-row Inv-loop μ-loop
-mul-row c = rw (c .digit-value .ensures) (omega (arith, digit-below (c .before .before .before .before .before .before .args .line .now) (2 * c .before .before .before .loop .i) (c .before .before .before .before .before .before .pre .1) (c .before .before .before .before .before .before .pre .0 .0) (omega arith)))
+mul-row c =
+    let start = c .before .before .before .before .before .before in
+    rw (c .digit-value .ensures)
+    (omega (arith, digit-below (start .args .line .now) (2 * c .before .before .before .loop .i) (start .pre .1) (start .pre .0 .0) (omega arith)))
 
 shared-slice-read-digit-value-2 : tie.Need-shared-slice-read-digit-value-2 Inv-loop μ-loop
 shared-slice-read-digit-value-2 c = omega arith
@@ -42,7 +45,13 @@ digit-value-requires-2 : tie.Need-digit-value-requires-2 Inv-loop μ-loop
 digit-value-requires-2 c κs = tt
 
 add-row : tie.Need-add-row Inv-loop μ-loop
-add-row c = rw (c .before .before .digit-value .ensures, c .digit-value2 .ensures) (omega (arith, digit-below (c .before .before .before .before .before .before .before .before .args .line .now) (2 * c .before .before .before .before .before .loop .i) (c .before .before .before .before .before .before .before .before .pre .1) (c .before .before .before .before .before .before .before .before .pre .0 .0) (omega arith), digit-below (c .before .before .before .before .before .before .before .before .args .line .now) (2 * c .before .before .before .before .before .loop .i + 1) (c .before .before .before .before .before .before .before .before .pre .1) (c .before .before .before .before .before .before .before .before .pre .0 .0) (omega arith)))
+add-row c =
+    let start = c .before .before .before .before .before .before .before .before in
+    rw (
+      c .before .before .digit-value .ensures,
+      c .digit-value2 .ensures,
+    )
+    (omega (arith, digit-below (start .args .line .now) (2 * c .before .before .before .before .before .loop .i) (start .pre .1) (start .pre .0 .0) (omega arith), digit-below (start .args .line .now) (2 * c .before .before .before .before .before .loop .i + 1) (start .pre .1) (start .pre .0 .0) (omega arith)))
 
 slice-write-row : tie.Need-slice-write-row Inv-loop μ-loop
 slice-write-row c = omega arith

@@ -36,7 +36,13 @@ unfolding conjunction-accepted letters-of is
 returns-2 c =
     let left = c .before .before .before .loop .left in
     let letters = c .before .before .before .loop .letters in
-    rw (← (c .before .before .before .loop .inv), all-letters (is LETTER) left letters (omega arith), ← (c .before .is-letter .ensures), not-true (c .before .is-letter .result) (c .if3 .taken), and-false)
+    rw (
+      ← (c .before .before .before .loop .inv),
+      all-letters (is LETTER) left letters (omega arith),
+      ← (c .before .is-letter .ensures),
+      not-true (c .before .is-letter .result) (c .if3 .taken),
+      and-false,
+    )
 
 sub-left : tie.Need-sub-left Inv-loop μ-loop
 sub-left c = omega arith
@@ -49,7 +55,12 @@ unfolding is
 loop-again c =
     let left = c .before .before .before .loop .left in
     let letters = c .before .before .before .loop .letters in
-    rw (← (c .before .before .before .loop .inv), all-letters (is LETTER) left letters (omega arith), ← (c .before .is-letter .ensures), not-false (c .before .is-letter .result) (c .if3 .left))
+    rw (
+      ← (c .before .before .before .loop .inv),
+      all-letters (is LETTER) left letters (omega arith),
+      ← (c .before .is-letter .ensures),
+      not-false (c .before .is-letter .result) (c .if3 .left),
+    )
 
 returns-3 : tie.Need-returns-3 Inv-loop μ-loop
 unfolding conjunction-accepted between letters-of all low-bytes

@@ -35,7 +35,15 @@ returns-2 : tie.Need-returns-2 Inv-loop μ-loop
 unfolding conjunctions-accepted
 returns-2 c =
     let loop = c .before .before .before .before .loop in
-    rw (← (loop .inv .3), conjunctions-next conjunction-accepted (c .before .before .before .before .before .before .args .s) (loop .i) (omega arith) (omega arith), ← (c .before .before .conjunction-at .ensures), ← (c .before .conjunction-accepted .ensures), not-true (c .before .conjunction-accepted .result) (c .if2 .taken), and-false)
+    let start = c .before .before .before .before .before .before in
+    rw (
+      ← (loop .inv .3),
+      conjunctions-next conjunction-accepted (start .args .s) (loop .i) (omega arith) (omega arith),
+      ← (c .before .before .conjunction-at .ensures),
+      ← (c .before .conjunction-accepted .ensures),
+      not-true (c .before .conjunction-accepted .result) (c .if2 .taken),
+      and-false,
+    )
 
 add-i : tie.Need-add-i Inv-loop μ-loop
 add-i c = omega arith
@@ -45,16 +53,30 @@ loop-less c = omega arith
 
 loop-again : tie.Need-loop-again Inv-loop μ-loop
 loop-again c =
-    let loop = c .before .before .before .before .loop in (
+    let s = c .before .before .before .before .before .before .args .s in
+    let loop = c .before .before .before .before .loop in
+    let asked = c .before .conjunction-accepted in (
       refl,
       omega arith,
       omega arith,
-      rw (← (loop .inv .3), conjunctions-next conjunction-accepted (c .before .before .before .before .before .before .args .s) (loop .i) (omega arith) (omega arith), ← (c .before .before .conjunction-at .ensures), ← (c .before .conjunction-accepted .ensures), not-false (c .before .conjunction-accepted .result) (c .if2 .left)),
+      rw (
+        ← (loop .inv .3),
+        conjunctions-next conjunction-accepted s (loop .i) (omega arith) (omega arith),
+        ← (c .before .before .conjunction-at .ensures),
+        ← (asked .ensures),
+        not-false (asked .result) (c .if2 .left),
+      ),
     )
 
 returns-3 : tie.Need-returns-3 Inv-loop μ-loop
 unfolding conjunctions-accepted
-returns-3 c = rw (← (c .before .loop .inv .3), conjunctions-done conjunction-accepted (c .before .before .before .args .s) (c .before .loop .i) (omega arith), le-leb _ _ (c .before .loop .inv .1))
+returns-3 c =
+    let start = c .before .before .before in
+    rw (
+      ← (c .before .loop .inv .3),
+      conjunctions-done conjunction-accepted (start .args .s) (c .before .loop .i) (omega arith),
+      le-leb _ _ (c .before .loop .inv .1),
+    )
 
 pub conjunctions-accepted-spec : {M : Type 1} → statement M
 conjunctions-accepted-spec =

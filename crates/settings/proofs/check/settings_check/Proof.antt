@@ -18,15 +18,35 @@ returns c = rw (← (c .before .before .delimiters-accepted .ensures), not-true 
 
 returns-2 : tie.Need-returns-2
 unfolding outcome settings-check unless _>>_
-returns-2 c = rw (← (c .before .before .before .delimiters-accepted .ensures), not-false (c .before .before .before .delimiters-accepted .result) (c .before .if1 .left), ← (c .before .before .conjunctions-accepted .ensures), not-true (c .before .before .conjunctions-accepted .result) (c .if2 .taken))
+returns-2 c =
+    rw (
+      ← (c .before .before .before .delimiters-accepted .ensures),
+      not-false (c .before .before .before .delimiters-accepted .result) (c .before .if1 .left),
+      ← (c .before .before .conjunctions-accepted .ensures),
+      not-true (c .before .before .conjunctions-accepted .result) (c .if2 .taken),
+    )
 
 returns-3 : tie.Need-returns-3
 unfolding outcome settings-check unless _>>_
-returns-3 c = rw (← (c .before .before .before .before .before .delimiters-accepted .ensures), not-false (c .before .before .before .before .before .delimiters-accepted .result) (c .before .before .before .if1 .left), ← (c .before .before .before .before .conjunctions-accepted .ensures), not-false (c .before .before .before .before .conjunctions-accepted .result) (c .before .before .if2 .left), lt-leb _ _ (c .if3 .taken))
+returns-3 c =
+    rw (
+      ← (c .before .before .before .before .before .delimiters-accepted .ensures),
+      not-false (c .before .before .before .before .before .delimiters-accepted .result) (c .before .before .before .if1 .left),
+      ← (c .before .before .before .before .conjunctions-accepted .ensures),
+      not-false (c .before .before .before .before .conjunctions-accepted .result) (c .before .before .if2 .left),
+      lt-leb _ _ (c .if3 .taken),
+    )
 
 returns-4 : tie.Need-returns-4
 unfolding outcome settings-check unless _>>_
-returns-4 c = rw (← (c .before .before .before .before .before .delimiters-accepted .ensures), not-false (c .before .before .before .before .before .delimiters-accepted .result) (c .before .before .before .if1 .left), ← (c .before .before .before .before .conjunctions-accepted .ensures), not-false (c .before .before .before .before .conjunctions-accepted .result) (c .before .before .if2 .left), le-leb _ _ (c .if3 .left))
+returns-4 c =
+    rw (
+      ← (c .before .before .before .before .before .delimiters-accepted .ensures),
+      not-false (c .before .before .before .before .before .delimiters-accepted .result) (c .before .before .before .if1 .left),
+      ← (c .before .before .before .before .conjunctions-accepted .ensures),
+      not-false (c .before .before .before .before .conjunctions-accepted .result) (c .before .before .if2 .left),
+      le-leb _ _ (c .if3 .left),
+    )
 
 pub settings-check-spec : {M : Type 1} → statement M
 settings-check-spec =
