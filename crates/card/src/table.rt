@@ -182,8 +182,9 @@ pub fn table_check(s: Settings, table: &[u8]) -> Checked
 pub fn card_check(s: Settings, table: &[u8]) -> Checked
     ensures { λ r. ⌜ outcome r ≡ card-check s (now (table .entry)) ⌝ }
 {
-    match settings_check(s) {
-        Checked::Refused(cause) => Checked::Refused(cause),
-        Checked::Accepted => table_check(s, table),
-    }
+    let settings = settings_check(s);
+    let Checked::Accepted = settings else {
+        return settings;
+    };
+    table_check(s, table)
 }

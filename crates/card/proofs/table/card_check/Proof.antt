@@ -9,18 +9,18 @@ use Rattle.card.proofs.table.card_check.Tie as tie
 settings-check-requires : tie.Need-settings-check-requires
 settings-check-requires c κs = search needs
 
-enum-known-cause : tie.Need-enum-known-cause
-enum-known-cause c = search needs
-
 enum-told : tie.Need-enum-told
 enum-told c = search needs
 
-table-check-requires : tie.Need-table-check-requires
-table-check-requires c κs = search needs
+enum-told-2 : tie.Need-enum-told-2
+enum-told-2 c = search needs
 
 returns : tie.Need-returns
 unfolding card-check _>>_ outcome
-returns c = rw (← (c .before .before .before .settings-check .ensures), c .before .cause .given .1)
+returns c = rw (← (c .before .before .settings-check .ensures), c .enum-told2 .given .1)
+
+table-check-requires : tie.Need-table-check-requires
+table-check-requires c κs = search needs
 
 returns-2 : tie.Need-returns-2
 unfolding card-check _>>_ outcome
@@ -29,10 +29,4 @@ returns-2 c = rw (← (c .before .before .before .settings-check .ensures), c .b
 pub card-check-spec : {M : Type 1} → statement M
 card-check-spec =
     tie.close
-    (tie.spec
-    settings-check-requires
-    enum-known-cause
-    enum-told
-    table-check-requires
-    returns
-    returns-2)
+    (tie.spec settings-check-requires enum-told enum-told-2 returns table-check-requires returns-2)
