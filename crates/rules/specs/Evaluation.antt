@@ -1,4 +1,4 @@
--- "Evaluation": from what was typed to a length, exactly, and the sum. Assumes nothing.
+-- "Evaluation": from what was typed to a length, exactly, and the sum. A digit is a byte: 48 is `0`. Assumes nothing.
 use mathlib.Core.Bool.{Bool, true, false, not, xor, _&&_, Bool·beq}
 use mathlib.Core.List.{List, [], _∷_, _++_}
 use Prim.Native.Nat.{ℕ, zero, suc, _+_, _*_, _-_, _/_, _%_, _^_}

@@ -1,4 +1,5 @@
--- "Reading one part": steps 1 to 8, each with its refusals and places. Assumes nothing.
+-- "Reading one part": steps 1 to 8, each with its refusals and places. A byte is written as its number: 45 is `-`, 48 `0`, 101 `e`.
+-- A step that another goes through stands before it, so 3 comes before 2. Assumes nothing.
 use mathlib.Core.Bool.{Bool, true, false, not, _&&_, _||_}
 use mathlib.Core.List.{List, [], _∷_}
 use Prim.Native.Nat.{ℕ, suc, _+_, _*_, _-_}

@@ -1,4 +1,5 @@
--- "Writer and shift total": what the writer writes, and what the buffer and the record then hold. Assumes nothing.
+-- "Writer and shift total": what the writer writes, and what the buffer and the record then hold. A byte is written as its number:
+-- 43 is `+`, 45 `-`, 46 `.`, 48 `0`. Assumes nothing.
 use mathlib.Core.Bool.{Bool, true, false}
 use mathlib.Core.List.{List, [], _∷_, _++_}
 use Prim.Native.Nat.{ℕ, zero, suc, _+_, _-_, _/_, _%_, _^_}
