@@ -16,19 +16,16 @@ use Rattle.rules.specs.Laws.Apart.{none, nanos-none}
 use Rattle.rules.specs.Laws.Lengths.{limit, size-clamped}
 use Rattle.value.specs.declared.number.Shifted.{Shifted}
 use Rattle.value.specs.declared.number.Shifted.the-variants as shifted
-use Rattle.value.specs.Numbers.{attos-of, shifted-of}
+use Rattle.value.specs.Numbers.{typed-attos, attos-of, shifted-of}
 
 -- ---- the typed exponent goes to the powers of its sign
 
 module _ (text : List ℕ) (d : DurationRepr) where
-  abbrev typed : ℕ → ℕ → ℕ
-  typed up down = attos (spelled 0 (digits-of text (d .whole) (d .fract))) (d .fract .end - d .fract .start) up down
-
-  pub typed-down : d .exponent .negative ≡ true → typed (d .multiplier .up) (d .multiplier .down + d .exponent .power) ≡ attos-of text d
+  pub typed-down : d .exponent .negative ≡ true → typed-attos text (d .whole) (d .fract) (d .multiplier .up) (d .multiplier .down + d .exponent .power) ≡ attos-of text d
   unfolding attos-of up down if_then_else_
   typed-down e = rw (e, add-zero)
 
-  pub typed-up : d .exponent .negative ≡ false → typed (d .multiplier .up + d .exponent .power) (d .multiplier .down) ≡ attos-of text d
+  pub typed-up : d .exponent .negative ≡ false → typed-attos text (d .whole) (d .fract) (d .multiplier .up + d .exponent .power) (d .multiplier .down) ≡ attos-of text d
   unfolding attos-of up down if_then_else_
   typed-up e = rw (e, add-zero)
 

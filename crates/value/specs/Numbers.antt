@@ -53,11 +53,13 @@ pub record Spans (text : List ℕ) (whole : Whole) (fract : Fract) : Type 0 wher
   pub fract-ends : fract .end ≤ length text
   pub digits : all (is DIGIT) (digits-of text whole fract) ≡ true
 
--- the attoseconds of what was typed, before it is multiplied
+-- A of document 01, for typed digits and these powers of ten
+abbrev pub typed-attos : List ℕ → Whole → Fract → ℕ → ℕ → ℕ
+typed-attos text whole fract up down = attos (spelled 0 (digits-of text whole fract)) (fract-size fract) up down
+
+-- those of what was typed, before it is multiplied
 unfoldable pub attos-of : List ℕ → DurationRepr → ℕ
-attos-of text d =
-    attos (spelled 0 (digits-of text (d .whole) (d .fract))) (d .fract .end - d .fract .start) (up (d .exponent) (d .multiplier))
-    (down (d .exponent) (d .multiplier))
+attos-of text d = typed-attos text (d .whole) (d .fract) (up (d .exponent) (d .multiplier)) (down (d .exponent) (d .multiplier))
 
 -- so many attoseconds, if 64 bits hold their seconds
 unfoldable pub shifted-of : ℕ → Shifted

@@ -25,7 +25,7 @@ use Rattle.value.specs.declared.digits.Taken.{Taken}
 use Rattle.value.specs.declared.number.Cut.{Cut}
 use Rattle.value.specs.declared.number.Shifted.{Shifted}
 use Rattle.value.specs.declared.number.Shifted.the-variants as shifted
-use Rattle.value.specs.Numbers.{as-word, taken, places, whole-size, fract-size, cut-at, Spans, shifted-of}
+use Rattle.value.specs.Numbers.{as-word, taken, places, whole-size, fract-size, cut-at, Spans, shifted-of, typed-attos}
 use Rattle.value.specs.Digits.{ten-pos, ten-grows, ten-sum, run-passes, run-after-zeros, zeros-first, all-take, all-drop, all-left, all-right, take-both, drop-both, slice-before, slice-after, passes-before, passes-after, cut-within, cut-left, spelled-append, spelled-from, spelled-grows, spelled-below, spelled-in-room}
 
 -- ---- a number as a word of 64 bits
@@ -238,20 +238,17 @@ shifted-word a = go (ltb (a / 10 ^ 18) (2 ^ 64))
     go true = refl
     go false = refl
 
--- A of document 01, for a typed number
-abbrev attos-of : List ℕ → Whole → Fract → ℕ → ℕ → ℕ
-attos-of text whole fract up down = attos (spelled 0 (digits-of text whole fract)) (fract-size fract) up down
-
+-- A of document 01, for a typed number, is its first places
 module _ {text : List ℕ} {whole : Whole} {fract : Fract} (s : Spans text whole fract) (up down : ℕ) where
   -- so many places of the digits
-  moved : {count : ℕ} → count ≡ whole-size whole + up + 18 - down → attos-of text whole fract up down ≡ places count (digits-of text whole fract)
+  moved : {count : ℕ} → count ≡ whole-size whole + up + 18 - down → typed-attos text whole fract up down ≡ places count (digits-of text whole fract)
   unfolding attos
   moved e =
       places-cut (18 + up) (fract-size fract + down) (digits-of text whole fract) (s .digits)
       ∙ ap (λ k. places k (digits-of text whole fract)) (omega (arith, digits-length s))
 
   -- the point stands after some digits, or after zeros behind them: the seconds before it, and eighteen decimals after it
-  pub moved-along : down ≤ whole-size whole + up → {word seconds : Word} {decimals : ℕ} → word ≡ as-word (places (whole-size whole + up - down) (digits-of text whole fract)) → word ≡ seconds → decimals ≡ places 18 (drop (whole-size whole + up - down) (digits-of text whole fract)) → with-attos seconds decimals ≡ shifted-of (attos-of text whole fract up down)
+  pub moved-along : down ≤ whole-size whole + up → {word seconds : Word} {decimals : ℕ} → word ≡ as-word (places (whole-size whole + up - down) (digits-of text whole fract)) → word ≡ seconds → decimals ≡ places 18 (drop (whole-size whole + up - down) (digits-of text whole fract)) → with-attos seconds decimals ≡ shifted-of (typed-attos text whole fract up down)
   moved-along h found e f =
       sym
       (ap shifted-of (moved {count = point + 18} (omega arith))
@@ -262,7 +259,7 @@ module _ {text : List ℕ} {whole : Whole} {fract : Fract} (s : Spans text whole
       point = whole-size whole + up - down
 
   -- the point stands before zeros that come before the digits: decimals alone, and less room for them
-  pub moved-before : whole-size whole + up ≤ down → {room decimals : ℕ} → room ≡ 18 - (down - (whole-size whole + up)) → decimals ≡ places room (digits-of text whole fract) → shifted.Fits 0 decimals ≡ shifted-of (attos-of text whole fract up down)
+  pub moved-before : whole-size whole + up ≤ down → {room decimals : ℕ} → room ≡ 18 - (down - (whole-size whole + up)) → decimals ≡ places room (digits-of text whole fract) → shifted.Fits 0 decimals ≡ shifted-of (typed-attos text whole fract up down)
   moved-before h {room} e f =
       sym
       (ap shifted-of (moved {count = room} (omega arith))
