@@ -21,6 +21,7 @@ use rules::Refusal;
 use rules::Settings;
 use settings::Checked;
 use settings::check::settings_check;
+use settings::sets::either;
 use settings::sets::holds;
 
 const MOST_ROWS: usize = 64;
@@ -71,12 +72,13 @@ fn unnameable(s: Settings) -> ByteSet
 {
     let inner = s.inner;
     let outer = s.outer;
-    ByteSet {
-        word0: inner.word0 | outer.word0 | NUMBER_BYTES,
-        word1: inner.word1 | outer.word1,
-        word2: inner.word2 | outer.word2,
-        word3: inner.word3 | outer.word3,
-    }
+    let number = ByteSet {
+        word0: NUMBER_BYTES,
+        word1: 0,
+        word2: 0,
+        word3: 0,
+    };
+    either(either(inner, outer), number)
 }
 
 // Whether the set holds none of the name's bytes.

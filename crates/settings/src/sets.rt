@@ -2,6 +2,7 @@
 ghost use mathlib.Core.Path.{_≡_};
 ghost use Prim.Native.Nat.{_/_};
 ghost use Rattle.rules.specs.SettingsAndUnitTable.{word, holds, delimits};
+ghost use Rattle.settings.specs.Sets.{either};
 use rules::ByteSet;
 
 // The word of the set that has the byte's bit.
@@ -20,6 +21,18 @@ pub fn holds(set: ByteSet, b: u8) -> bool
     ensures { λ r. ⌜ r ≡ holds set b ⌝ }
 {
     (word_of(set, b) >> (b % 64)) % 2 == 1
+}
+
+// The bytes that one of two sets holds.
+pub fn either(a: ByteSet, b: ByteSet) -> ByteSet
+    ensures { λ r. ⌜ r ≡ either a b ⌝ }
+{
+    ByteSet {
+        word0: a.word0 | b.word0,
+        word1: a.word1 | b.word1,
+        word2: a.word2 | b.word2,
+        word3: a.word3 | b.word3,
+    }
 }
 
 // Whether every byte that the set holds may delimit. Each run of bytes that may not is a run of bits of one word, which is

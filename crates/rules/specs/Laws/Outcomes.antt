@@ -38,6 +38,17 @@ pub all-map : {A : Type 0} {P Q : A → Type 0} {m : Outcome A} → All P m → 
 all-map (all-got {a = a} p) f = all-got (f a p)
 all-map all-refused f = all-refused
 
+-- ---- what follows what was got, and a refusal
+
+module _ {A B : Type 0} {m : Outcome A} (next : A → Outcome B) where
+  pub bind-got : {a : A} → m ≡ got a → (m >>= next) ≡ next a
+  unfolding _>>=_
+  bind-got e = rw e
+
+  pub bind-refused : {cause : Refusal} → m ≡ refused cause → (m >>= next) ≡ refused cause
+  unfolding _>>=_
+  bind-refused e = rw e
+
 -- ---- moved by k places
 
 unfoldable pub later : ℕ → Refusal → Refusal

@@ -42,6 +42,9 @@ pub eqb-iff : (a b c d : ℕ) → (a ≡ b → c ≡ d) → (c ≡ d → a ≡ b
 eqb-iff a b c d f g =
     same-test (eqb a b) (eqb c d) (λ e. eq-eqb c d (f (eqb-true a b e))) (λ e. eq-eqb a b (g (eqb-true c d e)))
 
+pub eqb-sym : (a b : ℕ) → eqb a b ≡ eqb b a
+eqb-sym a b = eqb-iff a b b a sym sym
+
 pub between-from : (low high b : ℕ) → between low high b ≡ true → low ≤ b
 unfolding between
 between-from low high b e = leb-true low b (and-left (leb low b) (leb b high) e)

@@ -2,10 +2,11 @@
 use mathlib.Core.Path.{_≡_, refl, sym, ap, _∙_}
 use mathlib.Core.Bool.{Bool, true, false, not, _&&_, _||_, Bool·beq}
 use Prim.Native.Nat.{ℕ, zero, suc, _+_, _*_, _-_, _/_, _%_, _^_, _≤_, _<_}
-use native.Mathlib.Nat.{add-zero, zero-add, add-suc, suc-add, mod-one, mod-lt, le-of-suc-le-suc}
+use native.Mathlib.Nat.{add-zero, zero-add, add-suc, suc-add, mod-one, mod-lt, le-of-suc-le-suc, zero-div}
 use native.Mathlib.Numerals.{add-one}
 use native.Mathlib.Omega.{arith}
 use lib.Dec.{eqb, lit<, lit≤}
+use lib.Bits.{bitOr, or-shr, or-mod}
 use lib.Pow.{shr-shr, mod-pow-add}
 use borrow.Author.Tests.{ne-eqb, not-true}
 use Rattle.rules.specs.declared.ByteSet.{ByteSet}
@@ -13,6 +14,7 @@ use Rattle.rules.specs.Common.{if_then_else_, between}
 use Rattle.rules.specs.SettingsAndUnitTable.{LETTER, class, is, word, holds, may-delimit, delimits}
 use Rattle.rules.specs.Laws.Choices.{and-left, and-right}
 use Rattle.rules.specs.Laws.Tests.{and-assoc, or-assoc, or-true, or-false, eqb-iff}
+use Rattle.settings.specs.Sets.{either}
 
 -- each of the n bytes from b on passes
 unfoldable pub runs : (ℕ → Bool) → ℕ → ℕ → Bool
@@ -127,3 +129,50 @@ agree f g from n e b low high =
 pub letter-byte : (b : ℕ) → b < 256 → is LETTER b ≡ (between 65 90 b || between 97 122 b)
 unfolding runs is class between if_then_else_
 letter-byte b h = agree (is LETTER) (λ b. between 65 90 b || between 97 122 b) 0 256 refl b (omega arith) h
+
+-- ---- two sets as one
+
+bit-or : (x y k : ℕ) → eqb (bitOr x y / 2 ^ k % 2) 1 ≡ (eqb (x / 2 ^ k % 2) 1 || eqb (y / 2 ^ k % 2) 1)
+bit-or x y k = rw (or-shr x y k, or-mod (x / 2 ^ k) (y / 2 ^ k) 1) (go (x / 2 ^ k % 2) (y / 2 ^ k % 2) (mod-lt (x / 2 ^ k) (lit< tt)) (mod-lt (y / 2 ^ k) (lit< tt)))
+  where
+    go : (a b : ℕ) → a < 2 → b < 2 → eqb (bitOr a b) 1 ≡ (eqb a 1 || eqb b 1)
+    go zero zero p q = refl
+    go zero (suc zero) p q = refl
+    go (suc zero) zero p q = refl
+    go (suc zero) (suc zero) p q = refl
+    go zero (suc (suc b)) p q = absurd (omega arith)
+    go (suc zero) (suc (suc b)) p q = absurd (omega arith)
+    go (suc (suc a)) b p q = absurd (omega arith)
+
+either-word : (a b : ByteSet) (i : ℕ) → word (either a b) i ≡ bitOr (word a i) (word b i)
+unfolding word either
+either-word a b zero = refl
+either-word a b (suc zero) = refl
+either-word a b (suc (suc zero)) = refl
+either-word a b (suc (suc (suc i))) = refl
+
+pub either-holds : (a b : ByteSet) (x : ℕ) → holds (either a b) x ≡ (holds a x || holds b x)
+unfolding holds
+either-holds a b x = rw (either-word a b (x / 64), bit-or (word a (x / 64)) (word b (x / 64)) (x % 64))
+
+-- a set of bytes below 64 alone: what its one word says, and nothing else
+pub first-word : (w : ℕ) (test : ℕ → Bool) → runs (λ b. Bool·beq (eqb (w / 2 ^ b % 2) 1) (test b)) 0 64 ≡ true → runs (λ b. Bool·beq false (test b)) 64 192 ≡ true → (b : ℕ) → b < 256 → holds (record { word0 = w; word1 = 0; word2 = 0; word3 = 0 }) b ≡ test b
+unfolding holds word
+first-word w test low high b h = go (b / 64) refl
+  where
+    set : ByteSet
+    set = record { word0 = w; word1 = 0; word2 = 0; word3 = 0 }
+
+    none : (k : ℕ) → eqb (0 / 2 ^ k % 2) 1 ≡ false
+    none k = rw (zero-div (2 ^ k))
+
+    above : 64 ≤ b → false ≡ test b
+    above k = agree (λ b. false) test 64 192 high b k h
+
+    go : (i : ℕ) → b / 64 ≡ i → eqb (word set i / 2 ^ (b % 64) % 2) 1 ≡ test b
+    go zero e =
+        let same-bit : b % 64 ≡ b = omega arith in
+        rw same-bit (agree (λ b. eqb (w / 2 ^ b % 2) 1) test 0 64 low b (omega arith) (omega arith))
+    go (suc zero) e = none (b % 64) ∙ above (omega arith)
+    go (suc (suc zero)) e = none (b % 64) ∙ above (omega arith)
+    go (suc (suc (suc i))) e = none (b % 64) ∙ above (omega arith)

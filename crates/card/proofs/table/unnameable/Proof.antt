@@ -1,12 +1,18 @@
--- `card::table::unnameable` meets its contract: the words of both sets joined. Assumes nothing.
-use mathlib.Core.Path.{refl}
-use Rattle.card.specs.Fields.{unnameable}
+-- `card::table::unnameable` meets its contract: both sets, and the bytes of a number, as one. Assumes nothing.
+use borrow.Author.Needs.{needs}
+use Rattle.card.specs.Fields.{number-set, unnameable}
 use Rattle.card.proofs.table.unnameable.Statement.{statement}
 use Rattle.card.proofs.table.unnameable.Tie as tie
 
+either-requires : tie.Need-either-requires
+either-requires c κs = search needs
+
+either-requires-2 : tie.Need-either-requires-2
+either-requires-2 c κs = search needs
+
 returns : tie.Need-returns
-unfolding unnameable
-returns c = refl
+unfolding unnameable number-set
+returns c = cc
 
 pub unnameable-spec : {M : Type 1} → statement M
-unnameable-spec = tie.close (tie.spec returns)
+unnameable-spec = tie.close (tie.spec either-requires either-requires-2 returns)

@@ -1,0 +1,12 @@
+-- What the contracts of the steps need besides the definitions of document 01, and laws of those definitions.
+pub mod Outcomes
+pub mod Bytes
+pub mod Sets
+pub mod Delimiters
+pub mod Words
+pub mod Signs
+pub mod Numbers
+pub mod Exponents
+pub mod Infinity
+pub mod Connections
+pub mod Units

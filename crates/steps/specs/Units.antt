@@ -1,0 +1,162 @@
+-- Laws of the unit step: the stretch, `ago`, and what the lookup finds. Assumes nothing.
+use mathlib.Core.Path.{_≡_, refl, sym, ap, _∙_}
+use mathlib.Core.Bool.{Bool, true, false, not, _||_, Bool·beq, false≢true}
+use mathlib.Core.List.{List, [], _∷_}
+use Prim.Native.Nat.{ℕ, suc, _+_, _≤_, _<_}
+use borrow.Author.Tests.{le-leb, lt-leb}
+use lib.ListN.{length, getD, drop}
+use lib.Seq.{slice, getD-drop}
+use Rattle.rules.specs.declared.ByteSet.{ByteSet}
+use Rattle.rules.specs.declared.Settings.{Settings}
+use Rattle.rules.specs.declared.Multiplier.{Multiplier}
+use Rattle.rules.specs.declared.Unit as declared-unit
+use Rattle.rules.specs.declared.Found.{Found}
+use Rattle.rules.specs.declared.Found.the-variants.{Row, Nowhere}
+use Rattle.rules.specs.declared.Refusal.{Refusal}
+use Rattle.rules.specs.Common.{if_then_else_, between, ascii, ends, sees, front, run}
+use Rattle.rules.specs.NumbersHandedBack.{Outcome, got, refused}
+use Rattle.rules.specs.SettingsAndUnitTable.{class, is, is-next-duration, holds, kind-multiplier, rows, row, product, in-range, lookup}
+use Rattle.rules.specs.ReadingOnePart.{says, delimiters, in-stretch, closes-unit, negated, ago-step, unit-found, unit-step}
+use Rattle.rules.specs.Laws.Ahead.{says-within}
+use Rattle.rules.specs.Laws.Lists.{Bytes}
+use Rattle.rules.specs.Laws.Outcomes.{bind-got, bind-refused}
+use Rattle.rules.specs.Laws.Tests.{or-false}
+use Rattle.rules.specs.Laws.Texts.{sees-here}
+use Rattle.settings.specs.Sets.{either}
+use Rattle.settings.specs.Laws.Sets.{runs, either-holds, first-word}
+use Rattle.steps.specs.Sets.{passes}
+
+-- kind times row is in range, of each row
+abbrev pub Products : List ℕ → Type 0
+Products table = (i : ℕ) → i < rows table → in-range (product (row table i)) ≡ true
+
+-- ---- where a name ends
+
+-- `+`, `-` and the digits
+abbrev pub next-set : ByteSet
+next-set = record { word0 = 287992881640112128; word1 = 0; word2 = 0; word3 = 0 }
+
+next-holds : (b : ℕ) → b < 256 → holds next-set b ≡ is-next-duration b
+unfolding runs is-next-duration is class between if_then_else_
+next-holds b h = first-word 287992881640112128 is-next-duration refl refl b h
+
+module _ (s : Settings) {inner outer : ByteSet} (i : s .inner ≡ inner) (o : s .outer ≡ outer) (b : ℕ) (h : b < 256) where
+  inner-at : holds inner b ≡ holds (s .inner) b
+  inner-at = ap (λ set. holds set b) (sym i)
+
+  outer-at : holds outer b ≡ holds (s .outer) b
+  outer-at = ap (λ set. holds set b) (sym o)
+
+  not-not : (t : Bool) → t ≡ not (not t)
+  not-not true = refl
+  not-not false = refl
+
+  pub stops-with : s .ago ≡ true → holds (either (either outer next-set) inner) b ≡ not (in-stretch s b)
+  unfolding in-stretch
+  stops-with a = rw (either-holds, either-holds, next-holds b h, inner-at, outer-at, a) (not-not _)
+
+  pub stops-without : s .ago ≡ false → holds (either outer next-set) b ≡ not (in-stretch s b)
+  unfolding in-stretch
+  stops-without a = rw (either-holds, next-holds b h, outer-at, a, or-false) (not-not _)
+
+-- tests that agree at each byte of a text give one run
+front-alike : (test other : ℕ → Bool) (rest : List ℕ) → ((k : ℕ) → test (getD rest k 0) ≡ other (getD rest k 0)) → front test rest ≡ front other rest
+unfolding front
+front-alike test other [] h = refl
+front-alike test other (b ∷ rest) h = rw (h 0, front-alike test other rest (λ k. h (suc k)))
+
+run-alike : (test other : ℕ → Bool) (text : List ℕ) (place : ℕ) → ((k : ℕ) → test (getD text k 0) ≡ other (getD text k 0)) → run test text place ≡ run other text place
+unfolding run
+run-alike test other text place h = rw (front-alike test other (drop place text) (λ k. rw (getD-drop place text k 0) (h (place + k))))
+
+outside : (a b : Bool) → a ≡ not b → Bool·beq a false ≡ b
+outside true true e = absurd (false≢true (sym e))
+outside true false e = refl
+outside false true e = refl
+outside false false e = absurd (false≢true e)
+
+-- the bytes that do not stop a name are those of the stretch
+pub stretch-ends : (s : Settings) (set : ByteSet) (text : List ℕ) (place : ℕ) → Bytes text → ((b : ℕ) → b < 256 → holds set b ≡ not (in-stretch s b)) → run (passes set false) text place ≡ run (in-stretch s) text place
+unfolding passes
+stretch-ends s set text place bytes h = run-alike _ _ text place (λ k. outside _ _ (h (getD text k 0) (bytes k)))
+
+-- ---- what must follow `ago`
+
+module _ (s : Settings) {outer : ByteSet} (o : s .outer ≡ outer) (text : List ℕ) (place : ℕ) where
+  pub closes-end : length text ≤ place → true ≡ closes-unit s text place
+  unfolding closes-unit ends
+  closes-end h = rw (le-leb (length text) place h)
+
+  module _ (h : place < length text) where
+    closes-here : (holds outer (getD text place 0) || is-next-duration (getD text place 0)) ≡ closes-unit s text place
+    unfolding closes-unit ends
+    closes-here =
+        ap (λ set. holds set (getD text place 0) || is-next-duration (getD text place 0)) (sym o)
+        ∙ rw (lt-leb (length text) place h, sees-here (λ b. holds (s .outer) b || is-next-duration b) text place h)
+
+    pub closes-outer : holds outer (getD text place 0) ≡ true → true ≡ closes-unit s text place
+    closes-outer e = rw e at closes-here
+
+    pub closes-next : holds outer (getD text place 0) ≡ false → is-next-duration (getD text place 0) ≡ closes-unit s text place
+    closes-next e = rw e at closes-here
+
+-- ---- `ago`
+
+-- the word lies within the text
+pub ago-within : (text : List ℕ) (word : ℕ) → word ≤ length text → says (ascii "ago") text word ≡ true → word + 3 ≤ length text
+unfolding ascii
+ago-within text word h w = says-within (ascii "ago") text word h w
+
+-- the row as it is, and the place before the delimiters
+abbrev pub back : Multiplier → ℕ → Outcome declared-unit.Unit
+back m place = got (record { multiplier = m; next = place })
+
+module _ (s : Settings) {inner : ByteSet} (i : s .inner ≡ inner) (text : List ℕ) (m : Multiplier) (place : ℕ) where
+  pub ago-off : s .ago ≡ false → back m place ≡ ago-step s text m place
+  unfolding ago-step if_then_else_
+  ago-off a = rw a
+
+  module _ (a : s .ago ≡ true) where
+    inner-sees : {t : Bool} → sees (holds inner) text place ≡ t → sees (holds (s .inner)) text place ≡ t
+    inner-sees e = ap (λ set. sees (holds set) text place) i ∙ e
+
+    taken : {d : Outcome ℕ} → delimiters inner text place ≡ d → delimiters (s .inner) text place ≡ d
+    taken e = ap (λ set. delimiters set text place) i ∙ e
+
+    pub ago-none : sees (holds inner) text place ≡ false → back m place ≡ ago-step s text m place
+    unfolding ago-step if_then_else_
+    ago-none e = rw (a, inner-sees e)
+
+    module _ (e : sees (holds inner) text place ≡ true) where
+      pub ago-refused : {cause : Refusal} → delimiters inner text place ≡ refused cause → refused cause ≡ ago-step s text m place
+      unfolding ago-step if_then_else_
+      ago-refused d = rw (a, inner-sees e, bind-refused _ (taken d))
+
+      module _ {word : ℕ} (d : delimiters inner text place ≡ got word) where
+        pub ago-other : says (ascii "ago") text word ≡ false → back m place ≡ ago-step s text m place
+        unfolding ago-step if_then_else_
+        ago-other w = rw (a, inner-sees e, bind-got _ (taken d), w)
+
+        module _ (w : says (ascii "ago") text word ≡ true) where
+          pub ago-open : closes-unit s text (word + 3) ≡ false → back m place ≡ ago-step s text m place
+          unfolding ago-step if_then_else_ closes-unit
+          ago-open c = rw (a, inner-sees e, bind-got _ (taken d), w, c)
+
+          pub ago-there : closes-unit s text (word + 3) ≡ true → {n : Multiplier} → n ≡ negated m → got (record { multiplier = n; next = word + 3 }) ≡ ago-step s text m place
+          unfolding ago-step if_then_else_ closes-unit
+          ago-there c f = rw (a, inner-sees e, bind-got _ (taken d), w, c, f)
+
+-- ---- what the lookup finds
+
+module _ (s : Settings) (table text : List ℕ) (place : ℕ) {end : ℕ} (e : end ≡ run (in-stretch s) text place) {found : Found} (f : found ≡ lookup table (slice place end text)) where
+  stretch : lookup table (slice place (run (in-stretch s) text place) text) ≡ found
+  stretch = ap (λ n. lookup table (slice place n text)) (sym e) ∙ sym f
+
+  pub unit-none : found ≡ Nowhere → {kind : ℕ} → s .«default_kind» ≡ kind → {m : Multiplier} → m ≡ kind-multiplier kind → got (record { multiplier = m; next = place }) ≡ unit-step s table text place
+  unfolding unit-step unit-found
+  unit-none n k g = rw (stretch, n, g) (ap (λ kind. got (record { multiplier = kind-multiplier kind; next = place })) (sym k))
+
+  module _ {i : ℕ} (r : found ≡ Row i) where
+    pub unit-row : {m : Multiplier} → m ≡ product (row table i) → ago-step s text m end ≡ unit-step s table text place
+    unfolding unit-step unit-found
+    unit-row g = rw (stretch, r, ← e, g)

@@ -1,0 +1,124 @@
+// Step 4: the exponent.
+ghost use mathlib.Core.Path.{_≡_};
+ghost use lib.ListN.{drop};
+ghost use Rattle.rules.specs.declared.Settings.{Settings};
+ghost use Rattle.rules.specs.Common.{sees};
+ghost use Rattle.rules.specs.ReadingOnePart.{same-letter, exponent-limit, exponent-passed, exponent-digits, exponent-number, exponent-step};
+ghost use Rattle.steps.specs.Outcomes.{scaled};
+ghost use Rattle.steps.specs.Exponents.{exponent-sign};
+use crate::bytes::is_digit;
+use crate::bytes::is_sign;
+use crate::bytes::lower;
+use rules::Exponent;
+use rules::Refusal;
+use rules::Scaled;
+use rules::Signed;
+
+pub enum ScaledRead {
+    Got(Scaled),
+    Refused(Refusal),
+}
+
+fn exponent_limit(negative: bool) -> u32
+    ensures { λ r. ⌜ r ≡ exponent-limit negative ⌝ }
+{
+    if negative { 32_768 } else { 32_767 }
+}
+
+fn exponent_passed(negative: bool, place: usize) -> Refusal
+    ensures { λ r. ⌜ r ≡ exponent-passed negative place ⌝ }
+{
+    if negative {
+        Refusal::ExponentBelow(place)
+    } else {
+        Refusal::ExponentAbove(place)
+    }
+}
+
+fn exponent_at(negative: bool, power: u16, next: usize) -> ScaledRead
+    ensures { λ r. ⌜ r ≡ ScaledRead.Got (record { exponent = record { negative = negative; power = power }; next = next }) ⌝ }
+{
+    ScaledRead::Got(Scaled {
+        exponent: Exponent { negative, power },
+        next,
+    })
+}
+
+// The first digit at which the power passes its limit decides, so the power stays small.
+fn exponent_digits(text: &[u8], negative: bool, place: usize) -> ScaledRead
+    ensures { λ r. ⌜ scaled r ≡ exponent-digits negative (drop place (now (text .entry))) 0 place ⌝ }
+{
+    let limit = exponent_limit(negative);
+    let mut power: u32 = 0;
+    let mut next = place;
+    while next < text.len() {
+        let byte = text[next];
+        if !is_digit(byte) {
+            return exponent_at(negative, power as u16, next);
+        }
+        let more = power * 10 + (byte - b'0') as u32;
+        if limit < more {
+            return ScaledRead::Refused(exponent_passed(negative, next));
+        }
+        power = more;
+        next += 1;
+    }
+    exponent_at(negative, power as u16, next)
+}
+
+fn parse_exponent(text: &[u8], negative: bool, place: usize) -> ScaledRead
+    ensures { λ r. ⌜ scaled r ≡ exponent-number (now (text .entry)) negative place ⌝ }
+{
+    if text.len() <= place {
+        return ScaledRead::Refused(Refusal::ExponentEnds(place));
+    }
+    if !is_digit(text[place]) {
+        return ScaledRead::Refused(Refusal::ExponentByte(place));
+    }
+    exponent_digits(text, negative, place)
+}
+
+fn is_exponent(text: &[u8], place: usize) -> bool
+    ensures { λ r. ⌜ r ≡ sees (same-letter 101) (now (text .entry)) place ⌝ }
+{
+    if text.len() <= place {
+        return false;
+    }
+    lower(text[place]) == b'e'
+}
+
+// The optional sign of an exponent.
+fn exponent_sign(text: &[u8], place: usize) -> Signed
+    ensures { λ r. ⌜ r ≡ exponent-sign (now (text .entry)) place ⌝ }
+{
+    if text.len() <= place {
+        return Signed {
+            negative: false,
+            next: place,
+        };
+    }
+    let byte = text[place];
+    if is_sign(byte) {
+        return Signed {
+            negative: byte == b'-',
+            next: place + 1,
+        };
+    }
+    Signed {
+        negative: false,
+        next: place,
+    }
+}
+
+pub fn parse_number_exponent(exponents: bool, text: &[u8], place: usize) -> ScaledRead
+    ensures { λ r. ⌜ ((s : Settings) → s .exponents ≡ exponents → scaled r ≡ exponent-step s (now (text .entry)) place) ⌝ }
+{
+    if !is_exponent(text, place) {
+        return exponent_at(false, 0, place);
+    }
+    if !exponents {
+        return ScaledRead::Refused(Refusal::ExponentOff(place));
+    }
+    let sign = exponent_sign(text, place + 1);
+    parse_exponent(text, sign.negative, sign.next)
+}
