@@ -1,15 +1,17 @@
 -- Laws of lengths: how many nanoseconds a length has, and that a sum stays between MIN and MAX. Assumes nothing.
 use mathlib.Core.Path.{_≡_, refl, sym, _∙_, ap}
 use mathlib.Core.Bool.{Bool, true, false, not, _&&_, Bool·beq}
+use mathlib.Core.List.{List}
 use Prim.Native.Nat.{ℕ, zero, suc, _+_, _*_, _-_, _/_, _%_, _^_, _≤_, _<_}
 use native.Mathlib.Nat.{le-refl, div-add-mod', mod-lt, div-lt-iff-lt-mul}
 use native.Mathlib.Omega.{arith}
 use lib.Dec.{leb, ltb, eqb, lit<}
 use borrow.Author.Tests.{lt-ltb, le-leb, leb-true, leb-false, eqb-true, eqb-false, ne-eqb, eq-eqb}
 use Rattle.rules.specs.declared.Length.{Length}
+use Rattle.rules.specs.declared.DurationRepr.{DurationRepr}
 use Rattle.rules.specs.Common.{if_then_else_}
 use Rattle.rules.specs.ThePartOfTheCrateWeTake.{nanoseconds-per-second, seconds-limit, zero-length, largest, size, well-formed}
-use Rattle.rules.specs.Evaluation.{length-of, sum}
+use Rattle.rules.specs.Evaluation.{length-of, evaluate, sum}
 use Rattle.rules.specs.Laws.Choices.{if-either}
 
 -- so many nanoseconds, or more, are too many for a length
@@ -34,6 +36,11 @@ size-clamped negative r h = rw (ne-eqb r 0 (λ e. above e), le-leb limit r h)
     above : r ≡ 0 → ⊥
     above e = omega arith
 
+pub largest-well-formed : (negative : Bool) → well-formed (largest negative) ≡ true
+unfolding well-formed size largest
+largest-well-formed true = refl
+largest-well-formed false = refl
+
 -- a length of any number of nanoseconds is well formed: MIN to MAX, and zero with a plus
 pub length-of-well-formed : (negative : Bool) (r : ℕ) → well-formed (length-of negative r) ≡ true
 unfolding length-of well-formed size zero-length largest
@@ -48,10 +55,6 @@ length-of-well-formed negative r =
     )
     (not-minus-zero negative)))
   where
-    largest-well-formed : (b : Bool) → well-formed (largest b) ≡ true
-    largest-well-formed true = refl
-    largest-well-formed false = refl
-
     not-minus-zero : (b : Bool) → not (b && false) ≡ true
     not-minus-zero true = refl
     not-minus-zero false = refl
@@ -63,6 +66,11 @@ length-of-within negative r = go (leb limit r) refl
     go : (b : Bool) → leb limit r ≡ b → size (length-of negative r) ≤ size (largest false)
     go true e = rw (size-clamped negative r (leb-true limit r e)) (le-refl _)
     go false e = rw (size-of negative r (leb-false limit r e)) (omega (arith, leb-false limit r e))
+
+-- so is what anything typed comes to
+pub evaluate-well-formed : (text : List ℕ) (d : DurationRepr) → well-formed (evaluate text d) ≡ true
+unfolding evaluate
+evaluate-well-formed text d = if-either (λ l. well-formed l ≡ true) (d .infinite) (λ _. largest-well-formed (d .negative)) (λ _. length-of-well-formed _ _)
 
 -- ---- the sum, clamped, stays between MIN and MAX
 

@@ -38,6 +38,11 @@ pub all-map : {A : Type 0} {P Q : A → Type 0} {m : Outcome A} → All P m → 
 all-map (all-got {a = a} p) f = all-got (f a p)
 all-map all-refused f = all-refused
 
+-- of whatever is got, nothing is asked
+pub always : {A : Type 0} (m : Outcome A) → All (λ _. Unit {0}) m
+always (got a) = all-got tt
+always (refused cause) = all-refused
+
 -- ---- what follows what was got, and a refusal
 
 module _ {A B : Type 0} {m : Outcome A} (next : A → Outcome B) where
@@ -48,6 +53,17 @@ module _ {A B : Type 0} {m : Outcome A} (next : A → Outcome B) where
   pub bind-refused : {cause : Refusal} → m ≡ refused cause → (m >>= next) ≡ refused cause
   unfolding _>>=_
   bind-refused e = rw e
+
+-- two ways to go on agree on whatever was got
+pub bind-same : {A B : Type 0} {P : A → Type 0} {m : Outcome A} {f g : A → Outcome B} → All P m → ((a : A) → P a → f a ≡ g a) → (m >>= f) ≡ (m >>= g)
+unfolding _>>=_
+bind-same (all-got {a = a} p) h = h a p
+bind-same all-refused h = refl
+
+pub bind-assoc : {A B C : Type 0} (m : Outcome A) (f : A → Outcome B) (g : B → Outcome C) → (m >>= f >>= g) ≡ (m >>= λ a. f a >>= g)
+unfolding _>>=_
+bind-assoc (got a) f g = refl
+bind-assoc (refused cause) f g = refl
 
 -- ---- moved by k places
 

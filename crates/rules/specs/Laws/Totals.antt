@@ -12,23 +12,13 @@ use Rattle.rules.specs.declared.Reading.{Reading}
 use Rattle.rules.specs.declared.Part.{Part}
 use Rattle.rules.specs.declared.Refusal.the-variants.{Nothing}
 use Rattle.rules.specs.Common.{if_then_else_, ends}
-use Rattle.rules.specs.ThePartOfTheCrateWeTake.{zero-length}
+use Rattle.rules.specs.ThePartOfTheCrateWeTake.{zero-length, well-formed}
 use Rattle.rules.specs.NumbersHandedBack.{Outcome, got, refused, _>>=_}
 use Rattle.rules.specs.ReadingOnePart.{part}
 use Rattle.rules.specs.Evaluation.{allowed, part-reading, sum, sum-all, parts, total}
-use Rattle.rules.specs.Laws.Outcomes.{All, all-got, all-refused, all-if, all-bind, all-of}
+use Rattle.rules.specs.Laws.Outcomes.{All, all-got, all-refused, all-if, all-bind, all-of, bind-same, bind-assoc}
 use Rattle.rules.specs.Laws.Ahead.{Beyond, part-beyond}
-
--- two ways to go on agree on whatever was got
-bind-same : {A B : Type 0} {P : A → Type 0} {m : Outcome A} {f g : A → Outcome B} → All P m → ((a : A) → P a → f a ≡ g a) → (m >>= f) ≡ (m >>= g)
-unfolding _>>=_
-bind-same (all-got {a = a} p) h = h a p
-bind-same all-refused h = refl
-
-bind-assoc : {A B C : Type 0} (m : Outcome A) (f : A → Outcome B) (g : B → Outcome C) → (m >>= f >>= g) ≡ (m >>= λ a. f a >>= g)
-unfolding _>>=_
-bind-assoc (got a) f g = refl
-bind-assoc (refused cause) f g = refl
+use Rattle.rules.specs.Laws.Lengths.{evaluate-well-formed}
 
 -- the first length added, then the others
 one-more : (so-far l : Length) (last : Bool) {others others′ : Outcome (List Length)} → others ≡ others′
@@ -47,6 +37,11 @@ module _ (s : Settings) (table text : List ℕ) where
   pub reading-beyond : (place : ℕ) → All (λ r. Beyond text place (r .next)) (part-reading s table text place)
   unfolding part-reading allowed
   reading-beyond place = all-bind (part-beyond s text table place) (λ p b. all-if (λ _. all-refused) (λ _. all-got b))
+
+  -- and its length is well formed
+  pub reading-well-formed : (place : ℕ) → All (λ r. well-formed (r .length) ≡ true) (part-reading s table text place)
+  unfolding part-reading allowed
+  reading-well-formed place = all-bind (part-beyond s text table place) (λ p _. all-if (λ _. all-refused) (λ _. all-got (evaluate-well-formed text (p .repr))))
 
   -- at the end there is nothing
   pub reading-ends : (place : ℕ) → length text ≤ place → part-reading s table text place ≡ refused (Nothing place)

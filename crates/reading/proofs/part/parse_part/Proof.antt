@@ -1,0 +1,48 @@
+-- `reading::part::parse_part` meets its contract: the part, evaluated, and tested. Assumes nothing.
+use mathlib.Core.Path.{refl, sym, ap, _∙_}
+use borrow.Author.Needs.{needs}
+use Rattle.rules.specs.Evaluation.{part-reading, allowed}
+use Rattle.rules.specs.Laws.Outcomes.{all-of, bind-got, bind-refused}
+use Rattle.reading.specs.Spans.{part-spans}
+use Rattle.reading.specs.Outcomes.{part}
+use Rattle.reading.proofs.part.parse_part.Statement.{statement}
+use Rattle.reading.proofs.part.parse_part.Tie as tie
+
+connected-part-requires : tie.Need-connected-part-requires
+connected-part-requires c κs = search needs
+
+enum-known-cause : tie.Need-enum-known-cause
+enum-known-cause c = search needs
+
+enum-known-part : tie.Need-enum-known-part
+enum-known-part c = search needs
+
+evaluate-requires : tie.Need-evaluate-requires
+evaluate-requires c κs = all-of (part-spans _ _ _ _) (sym (c .before .before .before .connected-part .ensures) ∙ ap part (c .before .part .given .1))
+
+allowed-requires : tie.Need-allowed-requires
+allowed-requires c κs = search needs
+
+returns : tie.Need-returns
+unfolding part-reading
+returns c = sym (bind-refused _ (sym (c .before .before .before .connected-part .ensures) ∙ ap part (c .before .cause .given .1)))
+
+returns-2 : tie.Need-returns-2
+unfolding part-reading
+returns-2 c =
+    let args = c .before .before .before .before .before .before .before .before .args in
+    c .allowed .ensures (args .s) refl
+    ∙ ap (allowed (args .s) (args .place) (c .before .before .before .part .given .0 .0 .next)) (c .before .evaluate .ensures)
+    ∙ sym (bind-got _ (sym (c .before .before .before .before .before .connected-part .ensures) ∙ ap part (c .before .before .before .part .given .1)))
+
+pub parse-part-spec : {M : Type 1} → statement M
+parse-part-spec =
+    tie.close
+    (tie.spec
+    connected-part-requires
+    enum-known-cause
+    enum-known-part
+    evaluate-requires
+    allowed-requires
+    returns
+    returns-2)

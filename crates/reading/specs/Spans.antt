@@ -1,0 +1,60 @@
+-- The digits of a part that is read lie in the text: what evaluation asks for. Assumes nothing.
+use mathlib.Core.Bool.{Bool}
+use mathlib.Core.List.{List}
+use Prim.Native.Nat.{ℕ, _+_, _≤_}
+use native.Mathlib.Nat.{le-refl}
+use native.Mathlib.Omega.{arith}
+use borrow.Author.Tests.{not-false}
+use lib.ListN.{length}
+use lib.Seq.{slice-empty}
+use Rattle.rules.specs.declared.Settings.{Settings}
+use Rattle.rules.specs.declared.Part.{Part}
+use Rattle.rules.specs.Common.{all, run}
+use Rattle.rules.specs.SettingsAndUnitTable.{DIGIT, POINT, is}
+use Rattle.rules.specs.ReadingOnePart.{fraction-step, number-step, infinite-part, finite-part, unsigned-part, part}
+use Rattle.rules.specs.Evaluation.{digits-of}
+use Rattle.rules.specs.Laws.Ahead.{sign-ahead}
+use Rattle.rules.specs.Laws.Outcomes.{All, all-got, all-refused, all-if, all-bind, always}
+use Rattle.rules.specs.Laws.Texts.{not-ends-lt, sees-in, run-within}
+use Rattle.value.specs.Numbers.{Spans}
+use Rattle.value.specs.Places.{spans-whole, spans-both}
+
+abbrev PartSpans : List ℕ → Part → Type 0
+PartSpans text p = Spans text (p .repr .whole) (p .repr .fract)
+
+module _ (s : Settings) (table text : List ℕ) where
+  number-spans : (place : ℕ) → place ≤ length text → All (λ n. Spans text (n .whole) (n .fract)) (number-step s text place)
+  unfolding number-step fraction-step
+  number-spans place h =
+      all-if (λ _. all-got (spans-whole text place (run (is DIGIT) text place) h (run-within (is DIGIT) text place h)))
+      (λ e. all-if (λ _. all-refused)
+      (λ _. all-if (λ _. all-refused)
+      (λ _. all-got (spans-both text place (run (is DIGIT) text place + 1) h (omega (arith, sees-in (is POINT) text (run (is DIGIT) text place) (not-false _ e)))))))
+
+  finite-spans : (negative : Bool) (place : ℕ) → place ≤ length text → All (PartSpans text) (finite-part s table text negative place)
+  unfolding finite-part
+  finite-spans negative place h =
+      all-bind (number-spans place h)
+      (λ number n. all-bind (always _)
+      (λ scaled _. all-bind (always _)
+      (λ name _. all-bind (always _)
+      (λ unit _. all-bind (always _)
+      (λ next _. all-got n)))))
+
+  no-digits : (place : ℕ) → place ≤ length text → Spans text (record { start = place; end = place }) (record { start = place; end = place })
+  unfolding digits-of all
+  no-digits place h = record {
+    whole-starts = le-refl place;
+    whole-ends = h;
+    fract-starts = le-refl place;
+    fract-ends = h;
+    digits = rw (slice-empty place text);
+  }
+
+  pub part-spans : (place : ℕ) → All (PartSpans text) (part s table text place)
+  unfolding part unsigned-part infinite-part
+  part-spans place =
+      all-if (λ _. all-refused)
+      (λ e. all-bind (sign-ahead s text place (not-ends-lt text place e))
+      (λ signed a. all-if (λ _. finite-spans (signed .negative) (signed .next) (a .within))
+      (λ _. all-if (λ _. all-bind (always _) (λ next _. all-got (no-digits (signed .next) (a .within)))) (λ _. all-refused))))

@@ -1,0 +1,276 @@
+-- A part up to its connection, as the steps give it, and that with the connection it is document 01's part. Assumes nothing.
+use mathlib.Core.Path.{_≡_, refl, sym, _∙_}
+use mathlib.Core.Bool.{Bool, true, false, _&&_, _||_, false≢true}
+use mathlib.Core.List.{List}
+use mathlib.Core.Logic.{_⊎_, ⊎-elim}
+use Prim.Native.Nat.{ℕ, _+_, _≤_, _<_}
+use native.Mathlib.Omega.{arith}
+use borrow.Author.Tests.{le-leb, lt-leb, leb-true, leb-false, eqb-true, ne-eqb}
+use lib.Dec.{leb, eqb}
+use lib.ListN.{length, getD, drop-of-length-le}
+use lib.Seq.{drop-cons}
+use Rattle.rules.specs.declared.Settings.{Settings}
+use Rattle.rules.specs.declared.Signed.{Signed}
+use Rattle.rules.specs.declared.Part.{Part}
+use Rattle.rules.specs.declared.Refusal.{Refusal}
+use Rattle.rules.specs.declared.Refusal.the-variants.{Nothing, NoNumber}
+use Rattle.rules.specs.Common.{if_then_else_, ascii, between, ends, sees}
+use Rattle.rules.specs.NumbersHandedBack.{Outcome, got, refused, _>>=_}
+use Rattle.rules.specs.SettingsAndUnitTable.{DIGIT, SIGN, POINT, LETTER, OTHER, class, is, lower, kind-multiplier}
+use Rattle.rules.specs.ReadingOnePart.{same-letter, prefix, says, gap, sign-step, number-step, exponent-step, unit-step, connection, infinite-part, finite-part, unsigned-part, part}
+use Rattle.rules.specs.Laws.Ahead.{says-within}
+use Rattle.rules.specs.Laws.Choices.{and-left, and-both}
+use Rattle.rules.specs.Laws.Outcomes.{all-got, all-refused, all-if, all-bind, all-of, always, bind-got, bind-refused}
+use Rattle.rules.specs.Laws.Tests.{and-false}
+use Rattle.rules.specs.Laws.Texts.{sees-here, sees-end}
+use Rattle.steps.specs.Signs.{sign-other}
+use Rattle.steps.specs.Infinity.{infinity-word, infinity-then}
+use Rattle.reading.specs.declared.start.Start.{Start}
+
+-- ---- the start
+
+-- the class of the byte at a place; at the end there is none
+unfoldable pub class-at : List ℕ → ℕ → ℕ
+class-at text place = if ends text place then OTHER else class (getD text place 0)
+
+-- the sign, and the class of what follows it
+abbrev pub start-of : List ℕ → Signed → Start
+start-of text signed = record { negative = signed .negative; class = class-at text (signed .next); next = signed .next }
+
+unfoldable pub signed-start : Settings → List ℕ → ℕ → Outcome Start
+signed-start s text place = sign-step s text place >>= λ signed. got (start-of text signed)
+
+unfoldable pub part-start : Settings → List ℕ → ℕ → Outcome Start
+part-start s text place = if ends text place then refused (Nothing place) else signed-start s text place
+
+-- ---- up to the connection
+
+unfoldable pub infinite : Settings → Bool → ℕ → ℕ → Part
+infinite s negative place next = record {
+  repr =
+      record {
+        negative = negative;
+        infinite = true;
+        whole = record { start = place; end = place };
+        fract = record { start = place; end = place };
+        exponent = record { negative = false; power = 0 };
+        multiplier = kind-multiplier (s .«default_kind»);
+      };
+  next = next;
+}
+
+unfoldable pub typed-infinite : Settings → List ℕ → Bool → ℕ → Outcome Part
+typed-infinite s text negative place = infinity-word s text place >>= λ next. got (infinite s negative place next)
+
+unfoldable pub typed-word : Settings → List ℕ → Bool → ℕ → Outcome Part
+typed-word s text negative place =
+    if s .infinity && says (ascii "inf") text place then typed-infinite s text negative place else refused (NoNumber place)
+
+unfoldable pub typed-finite : Settings → List ℕ → List ℕ → Bool → ℕ → Outcome Part
+typed-finite s table text negative place = do
+  number ← number-step s text place
+  scaled ← exponent-step s text (number .next)
+  name ← gap (s .«before_unit») s text (scaled .next)
+  unit ← unit-step s table text name
+  got
+      (record {
+        repr =
+            record {
+              negative = negative;
+              infinite = false;
+              whole = number .whole;
+              fract = number .fract;
+              exponent = scaled .exponent;
+              multiplier = unit .multiplier;
+            };
+        next = unit .next;
+      })
+
+unfoldable pub typed-unsigned : Settings → List ℕ → List ℕ → Bool → ℕ → Outcome Part
+typed-unsigned s table text negative place =
+    if sees (λ b. is DIGIT b || is POINT b) text place then typed-finite s table text negative place else typed-word s text negative place
+
+unfoldable pub typed-part : Settings → List ℕ → List ℕ → ℕ → Outcome Part
+typed-part s table text place = part-start s text place >>= λ start. typed-unsigned s table text (start .negative) (start .next)
+
+-- ---- with the connection
+
+unfoldable pub connected : Settings → List ℕ → Part → Outcome Part
+connected s text typed = connection s text (typed .next) >>= λ next. got (record { repr = typed .repr; next = next })
+
+module _ (s : Settings) (table text : List ℕ) where
+  then-connected : {A : Type 0} (m : Outcome A) {f : A → Outcome Part} (g : A → Outcome Part) → ((a : A) → f a ≡ (g a >>= connected s text)) → (m >>= f) ≡ (m >>= g >>= connected s text)
+  unfolding _>>=_
+  then-connected (got a) g h = h a
+  then-connected (refused cause) g h = refl
+
+  if-connected : (b : Bool) {x y : Outcome Part} (x′ y′ : Outcome Part) → x ≡ (x′ >>= connected s text) → y ≡ (y′ >>= connected s text) → (if b then x else y) ≡ ((if b then x′ else y′) >>= connected s text)
+  unfolding if_then_else_
+  if-connected true x′ y′ p q = p
+  if-connected false x′ y′ p q = q
+
+  infinite-connected : (negative : Bool) (place : ℕ) → infinite-part s text negative place ≡ (typed-infinite s text negative place >>= connected s text)
+  unfolding infinite-part typed-infinite connected infinite _>>=_
+  infinite-connected negative place = rw (infinity-then s text place) (go (infinity-word s text place))
+    where
+      go : (m : Outcome ℕ) → (m >>= (λ next. connection s text next) >>= λ next. got (infinite s negative place next)) ≡ (m >>= (λ next. got (infinite s negative place next)) >>= connected s text)
+      go (got next) = refl
+      go (refused cause) = refl
+
+  finite-connected : (negative : Bool) (place : ℕ) → finite-part s table text negative place ≡ (typed-finite s table text negative place >>= connected s text)
+  unfolding finite-part typed-finite connected _>>=_
+  finite-connected negative place =
+      then-connected (number-step s text place) _
+      (λ number. then-connected (exponent-step s text (number .next)) _
+      (λ scaled. then-connected (gap (s .«before_unit») s text (scaled .next)) _
+      (λ name. then-connected (unit-step s table text name) _ (λ unit. refl))))
+
+  unsigned-connected : (negative : Bool) (place : ℕ) → unsigned-part s table text negative place ≡ (typed-unsigned s table text negative place >>= connected s text)
+  unfolding unsigned-part typed-unsigned typed-word _>>=_
+  unsigned-connected negative place =
+      if-connected _ _ _ (finite-connected negative place) (if-connected _ _ _ (infinite-connected negative place) refl)
+
+  -- a part is what was typed, and its connection
+  pub part-connected : (place : ℕ) → part s table text place ≡ (typed-part s table text place >>= connected s text)
+  unfolding part typed-part part-start signed-start _>>=_ if_then_else_
+  part-connected place = go (ends text place) (sign-step s text place)
+    where
+      go : (b : Bool) → (m : Outcome Signed) → (if b then refused (Nothing place) else (m >>= λ signed. unsigned-part s table text (signed .negative) (signed .next))) ≡ ((if b then refused (Nothing place) else (m >>= λ signed. got (start-of text signed))) >>= (λ start. typed-unsigned s table text (start .negative) (start .next)) >>= connected s text)
+      go true m = refl
+      go false (got signed) = unsigned-connected (signed .negative) (signed .next)
+      go false (refused cause) = refl
+
+-- ---- laws of the start
+
+module _ (text : List ℕ) (place : ℕ) where
+  pub class-end : length text ≤ place → OTHER ≡ class-at text place
+  unfolding class-at ends if_then_else_
+  class-end h = rw (le-leb (length text) place h)
+
+  pub class-here : place < length text → class (getD text place 0) ≡ class-at text place
+  unfolding class-at ends if_then_else_
+  class-here h = rw (lt-leb (length text) place h)
+
+module _ (s : Settings) (text : List ℕ) (place : ℕ) where
+  pub signed-refused : {cause : Refusal} → sign-step s text place ≡ refused cause → refused cause ≡ signed-start s text place
+  unfolding signed-start
+  signed-refused e = sym (bind-refused _ e)
+
+  pub signed-got : {signed : Signed} → sign-step s text place ≡ got signed → {class : ℕ} → class ≡ class-at text (signed .next) → got (record { negative = signed .negative; class = class; next = signed .next }) ≡ signed-start s text place
+  unfolding signed-start
+  signed-got e f = rw f (sym (bind-got _ e))
+
+  pub start-nothing : length text ≤ place → refused (Nothing place) ≡ part-start s text place
+  unfolding part-start ends if_then_else_
+  start-nothing h = rw (le-leb (length text) place h)
+
+  module _ (h : place < length text) where
+    pub start-signed : signed-start s text place ≡ part-start s text place
+    unfolding part-start ends if_then_else_
+    start-signed = rw (lt-leb (length text) place h)
+
+    pub start-plain : {c : ℕ} → c ≡ class (getD text place 0) → (c ≡ SIGN → ⊥) → got (record { negative = false; class = c; next = place }) ≡ part-start s text place
+    unfolding is
+    start-plain f other =
+        signed-got (sym (sign-other s text place h (ne-eqb _ SIGN (λ e. other (f ∙ e))))) (f ∙ class-here text place h) ∙ start-signed
+
+  -- the class is that of the byte at the next place
+  pub start-class : {start : Start} → part-start s text place ≡ got start → start .class ≡ class-at text (start .next)
+  unfolding part-start signed-start
+  start-class e = all-of {P = λ start. start .class ≡ class-at text (start .next)} (all-if (λ _. all-refused) (λ _. all-bind (always (sign-step s text place)) (λ signed _. all-got refl))) e
+
+-- ---- the class decides how the part goes on
+
+-- a byte of `inf` is a letter
+inf-letter : (b : ℕ) → same-letter 105 b ≡ true → class b ≡ LETTER
+unfolding same-letter lower class between if_then_else_
+inf-letter b e = go (between 65 90 b) refl
+  where
+    capital : between 65 90 b ≡ true → lower b ≡ b + 32
+    capital f = rw f
+
+    small : between 65 90 b ≡ false → lower b ≡ b
+    small f = rw f
+
+    go : (c : Bool) → between 65 90 b ≡ c → class b ≡ LETTER
+    go true f =
+        let seventy-three : b ≡ 73 = omega (arith, eqb-true 105 (lower b) e, capital f) in
+        rw seventy-three
+    go false f =
+        let hundred-five : b ≡ 105 = omega (arith, eqb-true 105 (lower b) e, small f) in
+        rw hundred-five
+
+inf-there : (text : List ℕ) (place : ℕ) → says (ascii "inf") text place ≡ true → (place < length text) × (same-letter 105 (getD text place 0) ≡ true)
+unfolding says ascii prefix
+inf-there text place e = go (leb (length text) place) refl
+  where
+    go : (c : Bool) → leb (length text) place ≡ c → (place < length text) × (same-letter 105 (getD text place 0) ≡ true)
+    go true f = absurd (false≢true (rw (drop-of-length-le text (leb-true (length text) place f)) at e))
+    go false f =
+        let h : place < length text = leb-false (length text) place f in
+        (h, and-left _ _ (rw (drop-cons text place 0 h) at e))
+
+pub inf-within : (text : List ℕ) (place : ℕ) → says (ascii "inf") text place ≡ true → place + 3 ≤ length text
+unfolding ascii
+inf-within text place e = says-within (ascii "inf") text place (omega (arith, inf-there text place e .0)) e
+
+module _ (s : Settings) (table text : List ℕ) (negative : Bool) (place : ℕ) where
+  -- what stands at the place, from its class
+  numeric : Bool
+  numeric = sees (λ b. is DIGIT b || is POINT b) text place
+
+  numeric-class : numeric ≡ (eqb (class-at text place) DIGIT || eqb (class-at text place) POINT)
+  unfolding numeric class-at ends is if_then_else_
+  numeric-class = go (leb (length text) place) refl
+    where
+      go : (c : Bool) → leb (length text) place ≡ c → numeric ≡ (eqb (if c then OTHER else class (getD text place 0)) DIGIT || eqb (if c then OTHER else class (getD text place 0)) POINT)
+      go true f = sees-end _ text place (leb-true (length text) place f)
+      go false f = sees-here _ text place (leb-false (length text) place f)
+
+  pub unsigned-number : (class-at text place ≡ DIGIT) ⊎ (class-at text place ≡ POINT) → typed-finite s table text negative place ≡ typed-unsigned s table text negative place
+  unfolding typed-unsigned numeric if_then_else_
+  unsigned-number f = rw (numeric-class ∙ either f)
+    where
+      either : (class-at text place ≡ DIGIT) ⊎ (class-at text place ≡ POINT) → (eqb (class-at text place) DIGIT || eqb (class-at text place) POINT) ≡ true
+      either f = ⊎-elim (λ e. rw e) (λ e. rw e) f
+
+  not-numeric : (class-at text place ≡ DIGIT → ⊥) → (class-at text place ≡ POINT → ⊥) → typed-word s text negative place ≡ typed-unsigned s table text negative place
+  unfolding typed-unsigned numeric if_then_else_
+  not-numeric d p = rw (numeric-class, ne-eqb _ DIGIT d, ne-eqb _ POINT p)
+
+  pub unsigned-word : class-at text place ≡ LETTER → typed-word s text negative place ≡ typed-unsigned s table text negative place
+  unsigned-word e = not-numeric (λ d. letter-apart (sym e ∙ d)) (λ p. letter-apart′ (sym e ∙ p))
+    where
+      letter-apart : LETTER ≡ DIGIT → ⊥
+      letter-apart f = omega arith
+
+      letter-apart′ : LETTER ≡ POINT → ⊥
+      letter-apart′ f = omega arith
+
+  pub unsigned-none : (class-at text place ≡ DIGIT → ⊥) → (class-at text place ≡ POINT → ⊥) → (class-at text place ≡ LETTER → ⊥) → refused (NoNumber place) ≡ typed-unsigned s table text negative place
+  unfolding typed-word if_then_else_
+  unsigned-none d p l = no-word (says (ascii "inf") text place) refl ∙ not-numeric d p
+    where
+      no-word : (b : Bool) → says (ascii "inf") text place ≡ b → refused (NoNumber place) ≡ typed-word s text negative place
+      no-word true e = absurd (l (sym (class-here text place (inf-there text place e .0)) ∙ inf-letter _ (inf-there text place e .1)))
+      no-word false e = rw (e, and-false)
+
+-- ---- a word
+
+module _ (s : Settings) (text : List ℕ) (negative : Bool) (place : ℕ) where
+  pub word-off : s .infinity ≡ false → refused (NoNumber place) ≡ typed-word s text negative place
+  unfolding typed-word if_then_else_
+  word-off off = rw off
+
+  pub word-other : says (ascii "inf") text place ≡ false → refused (NoNumber place) ≡ typed-word s text negative place
+  unfolding typed-word if_then_else_
+  word-other e = rw (e, and-false)
+
+  module _ (on : s .infinity ≡ true) (e : says (ascii "inf") text place ≡ true) where
+    pub word-refused : {cause : Refusal} → infinity-word s text place ≡ refused cause → refused cause ≡ typed-word s text negative place
+    unfolding typed-word typed-infinite if_then_else_
+    word-refused w = rw (and-both on e) (sym (bind-refused _ w))
+
+    pub word-got : {next : ℕ} → infinity-word s text place ≡ got next → got (infinite s negative place next) ≡ typed-word s text negative place
+    unfolding typed-word typed-infinite if_then_else_
+    word-got w = rw (and-both on e) (sym (bind-got _ w))

@@ -1,0 +1,64 @@
+// How a part starts: its sign, and the class of the byte after it, which decides how the part goes on.
+ghost use mathlib.Core.Path.{_≡_};
+ghost use Rattle.rules.specs.declared.Settings.{Settings};
+ghost use Rattle.reading.specs.Outcomes.{started};
+ghost use Rattle.reading.specs.Typed.{class-at, signed-start, part-start};
+use rules::ByteSet;
+use rules::Refusal;
+use steps::sign::SignRead;
+use steps::sign::parse_number_sign;
+use tables::OTHER;
+use tables::SIGN;
+use tables::class_of;
+
+// The typed sign, and the class of the byte at the next place.
+pub struct Start {
+    pub negative: bool,
+    pub class: u8,
+    pub next: usize,
+}
+
+pub enum StartRead {
+    Got(Start),
+    Refused(Refusal),
+}
+
+fn class_at(text: &[u8], place: usize) -> u8
+    ensures { λ r. ⌜ r ≡ class-at (now (text .entry)) place ⌝ }
+{
+    if text.len() <= place {
+        return OTHER;
+    }
+    class_of(text[place])
+}
+
+fn signed_start(after_sign: bool, inner: ByteSet, text: &[u8], place: usize) -> StartRead
+    ensures { λ r. ⌜ ((s : Settings) → s .«after_sign» ≡ «after_sign» → s .inner ≡ inner → started r ≡ signed-start s (now (text .entry)) place) ⌝ }
+{
+    match parse_number_sign(after_sign, inner, text, place) {
+        SignRead::Refused(cause) => StartRead::Refused(cause),
+        SignRead::Got(signed) => StartRead::Got(Start {
+            negative: signed.negative,
+            class: class_at(text, signed.next),
+            next: signed.next,
+        }),
+    }
+}
+
+// Most parts have no sign, and their class is asked once.
+pub fn part_start(after_sign: bool, inner: ByteSet, text: &[u8], place: usize) -> StartRead
+    ensures { λ r. ⌜ ((s : Settings) → s .«after_sign» ≡ «after_sign» → s .inner ≡ inner → started r ≡ part-start s (now (text .entry)) place) ⌝ }
+{
+    if text.len() <= place {
+        return StartRead::Refused(Refusal::Nothing(place));
+    }
+    let class = class_of(text[place]);
+    match class {
+        SIGN => signed_start(after_sign, inner, text, place),
+        _ => StartRead::Got(Start {
+            negative: false,
+            class,
+            next: place,
+        }),
+    }
+}

@@ -1,0 +1,37 @@
+// A text's total: its parts one after another, each sum clamped in order.
+ghost use mathlib.Core.Path.{_≡_};
+ghost use Rattle.rules.specs.Evaluation.{total};
+ghost use Rattle.steps.specs.Units.{Products};
+ghost use Rattle.reading.specs.Outcomes as outcomes;
+use crate::part::ReadingRead;
+use crate::part::parse_part;
+use lengths::duration::saturating_add;
+use lengths::duration::zero;
+use rules::Length;
+use rules::Refusal;
+use rules::Settings;
+
+pub enum TotalRead {
+    Got(Length),
+    Refused(Refusal),
+}
+
+pub fn parse_multiple(s: Settings, table: &[u8], text: &[u8]) -> TotalRead
+    requires { ⌜ Products (now table) ⌝ }
+    ensures { λ r. ⌜ outcomes.total r ≡ total s (now (table .entry)) (now (text .entry)) ⌝ }
+{
+    let mut sum = zero();
+    let mut place = 0;
+    loop {
+        match parse_part(s, table, text, place) {
+            ReadingRead::Refused(cause) => return TotalRead::Refused(cause),
+            ReadingRead::Got(reading) => {
+                sum = saturating_add(sum, reading.length);
+                if text.len() <= reading.next {
+                    return TotalRead::Got(sum);
+                }
+                place = reading.next;
+            }
+        }
+    }
+}
