@@ -29,6 +29,9 @@ const MOST_TENS: u64 = 1_844_674_407_370_955_161;
 
 const LAST_DIGIT: u64 = 5;
 
+// The byte `0`.
+const ZERO: u64 = 48;
+
 fn wide(byte: u8) -> u64
     ensures { λ r. ⌜ r ≡ byte ⌝ }
 {
@@ -96,7 +99,7 @@ pub fn append_digits(so_far: u64, text: &[u8], start: usize, end: usize) -> Word
     let mut number = so_far;
     let mut place = start;
     while place < end {
-        let digit = wide(text[place] - b'0');
+        let digit = wide(text[place]) - ZERO;
         if MOST_TENS <= number {
             if MOST_TENS < number {
                 return Word::TooLarge;
@@ -123,7 +126,7 @@ pub fn take_digits(so_far: u64, room: usize, text: &[u8], start: usize, end: usi
     let mut number = so_far;
     let mut place = start;
     while place < stop {
-        number = number * 10 + wide(text[place] - b'0');
+        number = number * 10 + (wide(text[place]) - ZERO);
         place += 1;
     }
     Taken {

@@ -40,11 +40,11 @@ mul-number c = record { fits = omega (arith, unread-grows (c .before .loop .inv 
 shared-slice-read-wide : tie.Need-shared-slice-read-wide Inv-loop μ-loop
 shared-slice-read-wide c = omega arith
 
-sub-wide : tie.Need-sub-wide Inv-loop μ-loop
-sub-wide c = digit-low _ (unread-digit (c .before .before .loop .inv .0) (search needs) (omega arith))
-
 wide-requires : tie.Need-wide-requires Inv-loop μ-loop
 wide-requires c κs = search needs
+
+sub-number : tie.Need-sub-number Inv-loop μ-loop
+sub-number c = rw (c .wide .ensures) (digit-low _ (unread-digit (c .before .before .before .loop .inv .0) (search needs) (omega arith)))
 
 add-number : tie.Need-add-number Inv-loop μ-loop
 add-number c = record { fits = omega (arith, unread-grows (c .before .before .before .loop .inv .0) (search needs) (omega arith)) }
@@ -81,8 +81,8 @@ take-digits-spec =
     loop-holds
     mul-number
     shared-slice-read-wide
-    sub-wide
     wide-requires
+    sub-number
     add-number
     add-place
     loop-less
