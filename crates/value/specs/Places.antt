@@ -2,14 +2,14 @@
 -- at a point, and a number moved by a power of ten. Assumes nothing.
 use mathlib.Core.Path.{_≡_, refl, ap, ap₂, sym, _∙_}
 use mathlib.Core.Bool.{Bool, true, false}
-use mathlib.Core.List.{List, _++_}
+use mathlib.Core.List.{List, _++_, append-assoc}
 use Prim.Native.Nat.{ℕ, _+_, _*_, _-_, _/_, _%_, _^_, _≤_, _<_, min}
 use native.Mathlib.Nat.{zero-add, mul-assoc, zero-mul, add-mul, le-refl, le-trans, lt-of-lt-of-le, lt-of-le-of-lt, mul-lt-mul-of-pos-right, div-eq-of-lt, mul-div-cancel, le-mul-of-pos-right, sub-add-eq}
 use native.Mathlib.Omega.{arith}
 use borrow.Author.Tests.{ltb-true, ltb-false, lt-ltb, le-ltb, leb-true, leb-false}
 use lib.Arith.{digits-div, digits-mod}
 use lib.Dec.{leb, ltb, eqb, lit≤}
-use lib.ListN.{length, take, drop, length-append, length-take, length-drop, drop-of-length-le}
+use lib.ListN.{length, take, drop, length-append, length-take, length-drop, take-append-drop, drop-of-length-le}
 use lib.Pow.{pow-add}
 use lib.Seq.{slice, slice-empty, length-slice, take-add, take-all, take-nil}
 use Rattle.rules.specs.declared.Whole.{Whole}
@@ -122,17 +122,17 @@ pub places-both : (k : ℕ) (xs ys : List ℕ) → places k (xs ++ ys) ≡ spell
 unfolding places
 places-both k xs ys = rw (take-both k xs ys, length-append xs ys, sub-add-eq k (length xs) (length ys))
 
--- digits taken from both, one after the other, are those places; and what was taken leaves room for eighteen in all
+-- digits taken from both, one after the other, are those places; and what was taken leaves room for nineteen in all
 pub taken-both : (room : ℕ) (xs ys : List ℕ) {front both : Taken} → front ≡ taken 0 room xs → both ≡ taken (front .number) (front .room) ys → both .number * 10 ^ both .room ≡ places room (xs ++ ys)
 unfolding taken
 taken-both room xs ys e f = rw (f, e, places-both room xs ys, spelled-append 0 (take room xs) (take (room - length xs) ys))
 
-pub taken-in-room : (n room : ℕ) (ds : List ℕ) → (room ≤ 18) × (n < 10 ^ (18 - room)) → all (is DIGIT) ds ≡ true → {t : Taken} → t ≡ taken n room ds → (t .room ≤ 18) × (t .number < 10 ^ (18 - t .room))
+pub taken-in-room : (n room : ℕ) (ds : List ℕ) → (room ≤ 19) × (n < 10 ^ (19 - room)) → all (is DIGIT) ds ≡ true → {t : Taken} → t ≡ taken n room ds → (t .room ≤ 19) × (t .number < 10 ^ (19 - t .room))
 unfolding taken
-taken-in-room n room ds (h, b) d e = rw e (omega arith, spelled-in-room 18 n room ds h b d)
+taken-in-room n room ds (h, b) d e = rw e (omega arith, spelled-in-room 19 n room ds h b d)
 
-pub room-filled : (n room : ℕ) → (room ≤ 18) × (n < 10 ^ (18 - room)) → n * 10 ^ room < 10 ^ 18
-room-filled n room (h, b) = rw (ten-sum (18 - room) room 18 (omega arith)) (mul-lt-mul-of-pos-right b (ten-pos room))
+pub room-filled : (n room : ℕ) → (room ≤ 19) × (n < 10 ^ (19 - room)) → n * 10 ^ room < 10 ^ 19
+room-filled n room (h, b) = rw (ten-sum (19 - room) room 19 (omega arith)) (mul-lt-mul-of-pos-right b (ten-pos room))
 
 pub taken-is : (n room : ℕ) (ds : List ℕ) {number left : ℕ} → number ≡ spelled n (take room ds) → left ≡ room - length ds → _≡_ {A = Taken} (record { number = number; room = left }) (taken n room ds)
 unfolding taken
@@ -154,14 +154,14 @@ cut-is whole fract point {in-whole} {in-fract} e f =
     cc
 
 -- both as one number: an overflow of the first is one of both
-module _ (text : List ℕ) (whole : Whole) (fract : Fract) {word : Word} (found : word ≡ as-word (spelled 0 (whole-of text whole))) where
-  pub typed-too-large : word ≡ TooLarge → TooLarge ≡ as-word (spelled 0 (digits-of text whole fract))
+module _ (so-far : ℕ) (text : List ℕ) (whole : Whole) (fract : Fract) {word : Word} (found : word ≡ as-word (spelled so-far (whole-of text whole))) where
+  pub typed-too-large : word ≡ TooLarge → TooLarge ≡ as-word (spelled so-far (digits-of text whole fract))
   unfolding digits-of
-  typed-too-large e = rw (spelled-append 0 (whole-of text whole) (fract-of text fract)) (still-too-large _ _ (spelled-grows _ (fract-of text fract)) (sym e ∙ found))
+  typed-too-large e = rw (spelled-append so-far (whole-of text whole) (fract-of text fract)) (still-too-large _ _ (spelled-grows _ (fract-of text fract)) (sym e ∙ found))
 
-  pub typed-on : {front : ℕ} → word ≡ Fits front → spelled front (fract-of text fract) ≡ spelled 0 (digits-of text whole fract)
+  pub typed-on : {front : ℕ} → word ≡ Fits front → spelled front (fract-of text fract) ≡ spelled so-far (digits-of text whole fract)
   unfolding digits-of
-  typed-on e = rw (spelled-append 0 (whole-of text whole) (fract-of text fract), ← (fits-word _ (sym e ∙ found)))
+  typed-on e = rw (spelled-append so-far (whole-of text whole) (fract-of text fract), ← (fits-word _ (sym e ∙ found)))
 
 module _ {text : List ℕ} {whole : Whole} {fract : Fract} (s : Spans text whole fract) where
   whole-length : length (whole-of text whole) ≡ whole-size whole
@@ -181,6 +181,23 @@ module _ {text : List ℕ} {whole : Whole} {fract : Fract} (s : Spans text whole
   pub fract-digits : all (is DIGIT) (fract-of text fract) ≡ true
   unfolding digits-of
   fract-digits = all-right (is DIGIT) (whole-of text whole) (fract-of text fract) (s .digits)
+
+  -- after the first k whole digits the others are a typed number, whose digits go on from those
+  module _ (k : ℕ) {cut : ℕ} (at : cut ≡ whole .start + min k (whole-size whole)) where
+    pub spans-rest : Spans text (record { start = cut; end = whole .end }) fract
+    unfolding digits-of
+    spans-rest = record {
+      whole-starts = cut-within (whole .start) (whole .end) k at (s .whole-starts);
+      whole-ends = s .whole-ends;
+      fract-starts = s .fract-starts;
+      fract-ends = s .fract-ends;
+      digits = all-append (is DIGIT) _ _ (passes-after (whole .start) (whole .end) k text at (is DIGIT) whole-digits) fract-digits;
+    }
+
+    pub spelled-rest : {first : Taken} → first ≡ taken 0 k (whole-of text whole) → spelled (first .number) (digits-of text (record { start = cut; end = whole .end }) fract) ≡ spelled 0 (digits-of text whole fract)
+    unfolding digits-of taken
+    spelled-rest e =
+        rw (e, ← (slice-after (whole .start) (whole .end) k text at), ← (spelled-append 0 (take k (whole-of text whole)) (drop k (whole-of text whole) ++ fract-of text fract)), ← (append-assoc (take k (whole-of text whole)) (drop k (whole-of text whole)) (fract-of text fract)), take-append-drop k (whole-of text whole))
 
   module _ (point : ℕ) {cut : Cut} (at : cut ≡ cut-at whole fract point) where
     in-whole : cut .whole ≡ whole .start + min point (whole-size whole)

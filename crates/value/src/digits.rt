@@ -18,7 +18,7 @@ pub enum Word {
     TooLarge,
 }
 
-// A number of decimals, and how many more it has room for.
+// A number of a few digits, and how many more it has room for.
 pub struct Taken {
     pub number: u64,
     pub room: usize,
@@ -114,10 +114,10 @@ pub fn append_digits(so_far: u64, text: &[u8], start: usize, end: usize) -> Word
     Word::Fits(number)
 }
 
-// At most so many digits of a span as there is room for, after the decimals that spelled so_far. Eighteen decimals always
-// fit, so that nothing is tested on the way.
+// At most so many digits of a span as there is room for, after those that spelled so_far. Nineteen digits always fit, so that
+// nothing is tested on the way.
 pub fn take_digits(so_far: u64, room: usize, text: &[u8], start: usize, end: usize) -> Taken
-    requires { ⌜ (room ≤ 18) × («so_far» < 10 ^ (18 - room)) ⌝ }
+    requires { ⌜ (room ≤ 19) × («so_far» < 10 ^ (19 - room)) ⌝ }
     requires { ⌜ end ≤ length (now text) ⌝ }
     requires { ⌜ all (is DIGIT) (slice start end (now text)) ≡ true ⌝ }
     ensures { λ r. ⌜ r ≡ taken «so_far» room (slice start end (now (text .entry))) ⌝ }

@@ -28,13 +28,15 @@ struct Cut {
 // How many decimals a number keeps.
 const DECIMALS: usize = 18;
 
-// How many decimals nanoseconds have, and how many digits may stand before those, for nineteen in all, which a u64 holds.
+// How many decimals nanoseconds have, and how many digits may stand before those for MOST_ZEROS in all.
 const NANO_DECIMALS: usize = 9;
 
 const WHOLE_DIGITS: usize = 10;
 
-// The largest power of ten that a u64 holds.
+// The largest power of ten that a u64 holds, and so the most digits that it holds whatever they are.
 const MOST_ZEROS: usize = 19;
+
+const FEW_DIGITS: usize = 8;
 
 const LARGEST: u64 = 18_446_744_073_709_551_615;
 
@@ -87,15 +89,31 @@ fn saturating_sub(a: usize, b: usize) -> usize
     a - b
 }
 
-// Whole and fraction digits as one number.
-fn typed_digits(text: &[u8], whole: Whole, fract: Fract) -> Word
+// Whole and fraction digits as one number, after the digits that spelled so_far.
+fn typed_digits(so_far: u64, text: &[u8], whole: Whole, fract: Fract) -> Word
     requires { ⌜ Spans (now text) whole fract ⌝ }
-    ensures { λ r. ⌜ r ≡ as-word (spelled 0 (digits-of (now (text .entry)) whole fract)) ⌝ }
+    ensures { λ r. ⌜ r ≡ as-word (spelled «so_far» (digits-of (now (text .entry)) whole fract)) ⌝ }
 {
-    let Word::Fits(front) = append_digits(0, text, whole.start, whole.end) else {
+    let Word::Fits(front) = append_digits(so_far, text, whole.start, whole.end) else {
         return Word::TooLarge;
     };
     append_digits(front, text, fract.start, fract.end)
+}
+
+// The same of a number that may have many digits: the first nineteen fit untested. For a few this would not pay.
+fn whole_digits(text: &[u8], whole: Whole, fract: Fract) -> Word
+    requires { ⌜ Spans (now text) whole fract ⌝ }
+    ensures { λ r. ⌜ r ≡ as-word (spelled 0 (digits-of (now (text .entry)) whole fract)) ⌝ }
+{
+    if whole.end - whole.start <= FEW_DIGITS {
+        return typed_digits(0, text, whole, fract);
+    }
+    let first = take_digits(0, MOST_ZEROS, text, whole.start, whole.end);
+    let rest = Whole {
+        start: place_within(whole.start, whole.end, MOST_ZEROS),
+        end: whole.end,
+    };
+    typed_digits(first.number, text, rest, fract)
 }
 
 // The digits before a point, and zeros.
@@ -103,7 +121,7 @@ fn seconds_before(text: &[u8], whole: Whole, fract: Fract, zeros: usize) -> Word
     requires { ⌜ Spans (now text) whole fract ⌝ }
     ensures { λ r. ⌜ r ≡ as-word (spelled 0 (digits-of (now (text .entry)) whole fract) * 10 ^ zeros) ⌝ }
 {
-    let Word::Fits(number) = typed_digits(text, whole, fract) else {
+    let Word::Fits(number) = typed_digits(0, text, whole, fract) else {
         return Word::TooLarge;
     };
     put_zeros(number, zeros)
@@ -166,7 +184,7 @@ fn shift_whole(text: &[u8], whole: Whole, fract: Fract) -> Shifted
     requires { ⌜ Spans (now text) whole fract ⌝ }
     ensures { λ r. ⌜ r ≡ shifted-of (spelled 0 (digits-of (now (text .entry)) whole fract) * 10 ^ 18) ⌝ }
 {
-    let Word::Fits(seconds) = typed_digits(text, whole, fract) else {
+    let Word::Fits(seconds) = whole_digits(text, whole, fract) else {
         return Shifted::TooLarge;
     };
     Shifted::Fits { seconds, attos: 0 }
@@ -179,7 +197,7 @@ fn shift_few(text: &[u8], whole: Whole, fract: Fract, decimals: usize) -> Shifte
     requires { ⌜ (decimals ≤ 9) × (whole-size whole + fract-size fract ≤ 10 + decimals) ⌝ }
     ensures { λ r. ⌜ r ≡ shifted-of (spelled 0 (digits-of (now (text .entry)) whole fract) * 10 ^ (18 - decimals)) ⌝ }
 {
-    let Word::Fits(number) = typed_digits(text, whole, fract) else {
+    let Word::Fits(number) = typed_digits(0, text, whole, fract) else {
         return Shifted::TooLarge;
     };
     let nanos = number * pow10(NANO_DECIMALS - decimals);

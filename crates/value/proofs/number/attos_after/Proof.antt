@@ -1,5 +1,5 @@
 -- `value::number::attos_after` meets its contract: as many digits of both spans as there is room for, with zeros for the others, are their
--- first places, which eighteen places hold. Assumes nothing.
+-- first places, which nineteen places hold. Assumes nothing.
 use mathlib.Core.Path.{_≡_, sym, _∙_}
 use Prim.Native.Nat.{_≤_, _<_, _*_, _^_, _-_}
 use native.Mathlib.Nat.{lt-trans, zero-mul, mul-one}
@@ -16,17 +16,17 @@ use Rattle.value.proofs.number.attos_after.Tie as tie
 take-digits-requires : tie.Need-take-digits-requires
 take-digits-requires c κs =
     let spans = c .before .pre .0 in
-    ((c .before .pre .1, ten-pos _), (spans .whole-ends, whole-digits spans))
+    ((omega arith, ten-pos _), (spans .whole-ends, whole-digits spans))
 
 take-digits-requires-2 : tie.Need-take-digits-requires-2
 take-digits-requires-2 c κs =
     let spans = c .before .before .pre .0 in (
-      taken-in-room 0 _ _ (c .before .before .pre .1, ten-pos _) (whole-digits spans) (c .take-digits .ensures),
+      taken-in-room 0 _ _ (omega arith, ten-pos _) (whole-digits spans) (c .take-digits .ensures),
       (spans .fract-ends, fract-digits spans),
     )
 
--- eighteen decimals have room for what both spans gave
-room : (c : tie.After-take-digits2) → (c .take-digits2 .result .room ≤ 18) × (c .take-digits2 .result .number < 10 ^ (18 - c .take-digits2 .result .room))
+-- nineteen digits have room for what both spans gave
+room : (c : tie.After-take-digits2) → (c .take-digits2 .result .room ≤ 19) × (c .take-digits2 .result .number < 10 ^ (19 - c .take-digits2 .result .room))
 room c =
     taken-in-room _ _ _ (take-digits-requires-2 (c .before) (c .take-digits2 .lifetimes) .0)
     (fract-digits (c .before .before .before .pre .0))

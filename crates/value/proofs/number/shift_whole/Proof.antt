@@ -7,8 +7,8 @@ use Rattle.value.specs.Places.{shifted-is}
 use Rattle.value.proofs.number.shift_whole.Statement.{statement}
 use Rattle.value.proofs.number.shift_whole.Tie as tie
 
-typed-digits-requires : tie.Need-typed-digits-requires
-typed-digits-requires c κs = search needs
+whole-digits-requires : tie.Need-whole-digits-requires
+whole-digits-requires c κs = search needs
 
 enum-known-seconds : tie.Need-enum-known-seconds
 enum-known-seconds c = search needs
@@ -17,13 +17,13 @@ enum-told : tie.Need-enum-told
 enum-told c = search needs
 
 returns : tie.Need-returns
-returns c = shifted-is _ (sym (add-zero _)) (lit< tt) (c .before .before .typed-digits .ensures) (c .enum-told .given .1)
+returns c = shifted-is _ (sym (add-zero _)) (lit< tt) (c .before .before .whole-digits .ensures) (c .enum-told .given .1)
 
 returns-2 : tie.Need-returns-2
 returns-2 c =
     let fits = c .before in
-    shifted-is _ (sym (add-zero _)) (lit< tt) (fits .before .before .typed-digits .ensures) (fits .seconds .given .1)
+    shifted-is _ (sym (add-zero _)) (lit< tt) (fits .before .before .whole-digits .ensures) (fits .seconds .given .1)
 
 pub shift-whole-spec : {M : Type 1} → statement M
 shift-whole-spec =
-    tie.close (tie.spec typed-digits-requires enum-known-seconds enum-told returns returns-2)
+    tie.close (tie.spec whole-digits-requires enum-known-seconds enum-told returns returns-2)

@@ -16,7 +16,7 @@ enum-told : tie.Need-enum-told
 enum-told c = search needs
 
 returns : tie.Need-returns
-returns c = typed-too-large _ _ _ (c .before .before .append-digits .ensures) (c .enum-told .given .1)
+returns c = typed-too-large _ _ _ _ (c .before .before .append-digits .ensures) (c .enum-told .given .1)
 
 append-digits-requires-2 : tie.Need-append-digits-requires-2
 append-digits-requires-2 c κs =
@@ -26,7 +26,7 @@ append-digits-requires-2 c κs =
 returns-2 : tie.Need-returns-2
 returns-2 c =
     c .append-digits2 .ensures
-    ∙ ap as-word (typed-on _ _ _ (c .before .before .before .before .append-digits .ensures) (c .before .before .front .given .1))
+    ∙ ap as-word (typed-on _ _ _ _ (c .before .before .before .before .append-digits .ensures) (c .before .before .front .given .1))
 
 pub typed-digits-spec : {M : Type 1} → statement M
 typed-digits-spec =
