@@ -153,6 +153,19 @@ cut-is whole fract point {in-whole} {in-fract} e f =
     let zeros = cut-left (fract .start) (fract .end) (point - (in-whole - whole .start)) f ∙ ap (λ m. m - fract-size fract) more in
     cc
 
+-- the part of each span before a cut, and the part after it
+abbrev whole-before : Whole → Cut → Whole
+whole-before whole cut = record { start = whole .start; end = cut .whole }
+
+abbrev fract-before : Fract → Cut → Fract
+fract-before fract cut = record { start = fract .start; end = cut .fract }
+
+abbrev whole-after : Whole → Cut → Whole
+whole-after whole cut = record { start = cut .whole; end = whole .end }
+
+abbrev fract-after : Fract → Cut → Fract
+fract-after fract cut = record { start = cut .fract; end = fract .end }
+
 -- both as one number: an overflow of the first is one of both
 module _ (so-far : ℕ) (text : List ℕ) (whole : Whole) (fract : Fract) {word : Word} (found : word ≡ as-word (spelled so-far (whole-of text whole))) where
   pub typed-too-large : word ≡ TooLarge → TooLarge ≡ as-word (spelled so-far (digits-of text whole fract))
@@ -209,7 +222,7 @@ module _ {text : List ℕ} {whole : Whole} {fract : Fract} (s : Spans text whole
     in-fract = rw at
 
     -- the parts before the point are a typed number, and those after it
-    pub spans-before : Spans text (record { start = whole .start; end = cut .whole }) (record { start = fract .start; end = cut .fract })
+    pub spans-before : Spans text (whole-before whole cut) (fract-before fract cut)
     unfolding digits-of
     spans-before = record {
       whole-starts = omega (arith, in-whole);
@@ -219,7 +232,7 @@ module _ {text : List ℕ} {whole : Whole} {fract : Fract} (s : Spans text whole
       digits = all-append (is DIGIT) _ _ (passes-before (whole .start) (whole .end) point text in-whole (is DIGIT) whole-digits) (passes-before (fract .start) (fract .end) _ text in-fract (is DIGIT) fract-digits);
     }
 
-    pub spans-after : Spans text (record { start = cut .whole; end = whole .end }) (record { start = cut .fract; end = fract .end })
+    pub spans-after : Spans text (whole-after whole cut) (fract-after fract cut)
     unfolding digits-of
     spans-after = record {
       whole-starts = cut-within (whole .start) (whole .end) point in-whole (s .whole-starts);
@@ -230,13 +243,13 @@ module _ {text : List ℕ} {whole : Whole} {fract : Fract} (s : Spans text whole
     }
 
     -- the first spells the places before the point, with the zeros, and the second has the digits after it
-    places-before : places point (digits-of text whole fract) ≡ spelled 0 (digits-of text (record { start = whole .start; end = cut .whole }) (record { start = fract .start; end = cut .fract })) * 10 ^ cut .zeros
+    places-before : places point (digits-of text whole fract) ≡ spelled 0 (digits-of text (whole-before whole cut) (fract-before fract cut)) * 10 ^ cut .zeros
     unfolding digits-of cut-at
     places-before =
         places-both point (whole-of text whole) (fract-of text fract)
         ∙ rw (whole-length, fract-length, slice-before (whole .start) (whole .end) point text in-whole, slice-before (fract .start) (fract .end) (point - whole-size whole) text in-fract, at)
 
-    digits-after : drop point (digits-of text whole fract) ≡ digits-of text (record { start = cut .whole; end = whole .end }) (record { start = cut .fract; end = fract .end })
+    digits-after : drop point (digits-of text whole fract) ≡ digits-of text (whole-after whole cut) (fract-after fract cut)
     unfolding digits-of
     digits-after =
         drop-both point (whole-of text whole) (fract-of text fract)
@@ -306,7 +319,7 @@ module _ {text : List ℕ} {whole : Whole} {fract : Fract} (s : Spans text whole
             let none : point ≡ 0 = omega (arith, leb-false down (whole-size whole + up) e) in
             rw (none, places-none (digits-of text whole fract)) (zero-mul (10 ^ room) ∙ sym (zero-mul (10 ^ 18)))
 
-    pub moved-is : {cut : Cut} → cut ≡ cut-at whole fract point → {word seconds : Word} {decimals : ℕ} → word ≡ as-word (spelled 0 (digits-of text (record { start = whole .start; end = cut .whole }) (record { start = fract .start; end = cut .fract })) * 10 ^ cut .zeros) → word ≡ seconds → decimals ≡ places room (digits-of text (record { start = cut .whole; end = whole .end }) (record { start = cut .fract; end = fract .end })) → with-attos seconds decimals ≡ shifted-of (typed-attos text whole fract up down)
+    pub moved-is : {cut : Cut} → cut ≡ cut-at whole fract point → {word seconds : Word} {decimals : ℕ} → word ≡ as-word (spelled 0 (digits-of text (whole-before whole cut) (fract-before fract cut)) * 10 ^ cut .zeros) → word ≡ seconds → decimals ≡ places room (digits-of text (whole-after whole cut) (fract-after fract cut)) → with-attos seconds decimals ≡ shifted-of (typed-attos text whole fract up down)
     moved-is at found e f =
         rw f
         (shifted-is _ (moved ∙ rw (places-before s point at, digits-after s point at))

@@ -28,14 +28,18 @@ struct Cut {
 // How many decimals a number keeps.
 const DECIMALS: usize = 18;
 
-// How many decimals nanoseconds have, and how many digits may stand before those for MOST_ZEROS in all.
+// How many decimals nanoseconds have, and how many digits may stand before those for MOST_DIGITS in all.
 const NANO_DECIMALS: usize = 9;
 
 const WHOLE_DIGITS: usize = 10;
 
-// The largest power of ten that a u64 holds, and so the most digits that it holds whatever they are.
+// The largest power of ten that a u64 holds.
 const MOST_ZEROS: usize = 19;
 
+// As many digits a u64 holds whatever they are.
+const MOST_DIGITS: usize = 19;
+
+// Up to here it costs less to test each digit than to go through the first ones apart.
 const FEW_DIGITS: usize = 8;
 
 const LARGEST: u64 = 18_446_744_073_709_551_615;
@@ -100,7 +104,7 @@ fn typed_digits(so_far: u64, text: &[u8], whole: Whole, fract: Fract) -> Word
     append_digits(front, text, fract.start, fract.end)
 }
 
-// The same of a number that may have many digits: the first nineteen fit untested. For a few this would not pay.
+// The same of a number that may have many digits, of which the first fit untested.
 fn whole_digits(text: &[u8], whole: Whole, fract: Fract) -> Word
     requires { ⌜ Spans (now text) whole fract ⌝ }
     ensures { λ r. ⌜ r ≡ as-word (spelled 0 (digits-of (now (text .entry)) whole fract)) ⌝ }
@@ -108,9 +112,9 @@ fn whole_digits(text: &[u8], whole: Whole, fract: Fract) -> Word
     if whole.end - whole.start <= FEW_DIGITS {
         return typed_digits(0, text, whole, fract);
     }
-    let first = take_digits(0, MOST_ZEROS, text, whole.start, whole.end);
+    let first = take_digits(0, MOST_DIGITS, text, whole.start, whole.end);
     let rest = Whole {
-        start: place_within(whole.start, whole.end, MOST_ZEROS),
+        start: place_within(whole.start, whole.end, MOST_DIGITS),
         end: whole.end,
     };
     typed_digits(first.number, text, rest, fract)
