@@ -5,12 +5,12 @@
 use card::table::card_check;
 use libc::STDIN_FILENO;
 use libc::STDOUT_FILENO;
-use rows::stored::restore_row;
 use rules::ByteSet;
 use rules::Conjunction;
 use rules::Refusal;
 use rules::Settings;
 use settings::Checked;
+use stored::restore_row;
 
 // Where each field of a card's line stands, two digits to a byte.
 const INNER_AT: usize = 0;

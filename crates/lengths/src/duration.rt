@@ -60,19 +60,19 @@ fn signed(negative: bool, seconds: u64, nanoseconds: u32) -> Length
     }
 }
 
-// The nanoseconds may hold whole seconds. Whether the seconds fit is known before they are added.
+// The nanoseconds may hold one second more, and then have what is left after it: a test and a difference, and no division.
+// Whether the seconds fit is known before they are added.
 fn limited(negative: bool, seconds: u64, extra: u64, nanoseconds: u32) -> Length
+    requires { ⌜ nanoseconds < 2 * 10 ^ 9 ⌝ }
     ensures { λ r. ⌜ r ≡ length-of negative ((seconds + extra) * 10 ^ 9 + nanoseconds) ⌝ }
 {
-    let room = u64::MAX - seconds;
-    if extra <= room {
-        let carry = (nanoseconds / NANOS_PER_SEC) as u64;
-        if carry <= room - extra {
-            return signed(
-                negative,
-                seconds + extra + carry,
-                nanoseconds % NANOS_PER_SEC,
-            );
+    if extra <= u64::MAX - seconds {
+        let sum = seconds + extra;
+        if nanoseconds < NANOS_PER_SEC {
+            return signed(negative, sum, nanoseconds);
+        }
+        if sum < u64::MAX {
+            return signed(negative, sum + 1, nanoseconds - NANOS_PER_SEC);
         }
     }
     largest(negative)

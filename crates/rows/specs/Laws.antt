@@ -1,4 +1,3 @@
--- Laws of rows, of lookup and of the stored form.
+-- Laws of rows and of lookup.
 pub mod Rows
 pub mod Lookup
-pub mod Stored

@@ -1,4 +1,3 @@
 -- What the contracts of rows need besides the definitions of document 01, and laws of those definitions.
 pub mod Powers
-pub mod Stored
 pub mod Laws

@@ -45,35 +45,27 @@ pub fn name_of(row: &[u8]) -> &[u8]
     &row[NAME_AT..]
 }
 
-// The number that two bytes spell, low byte first; then four, then eight, from halves: a whole word is read at once.
-fn low_first_2(part: &[u8]) -> u16
-    requires { ⌜ length (now part) ≡ 2 ⌝ }
-    ensures { λ r. ⌜ r ≡ low-first (now (part .entry)) ⌝ }
+// The number that two bytes of a row spell, low byte first, from this place of it on; then four, then eight, from halves: a
+// whole word is read at once.
+fn low_first_2(row: &[u8], at: usize) -> u16
+    requires { ⌜ at + 2 ≤ length (now row) ⌝ }
+    ensures { λ r. ⌜ r ≡ low-first (take 2 (drop at (now (row .entry)))) ⌝ }
 {
-    part[0] as u16 + part[1] as u16 * 256
+    row[at] as u16 + row[at + 1] as u16 * 256
 }
 
-fn low_first_4(part: &[u8]) -> u32
-    requires { ⌜ length (now part) ≡ 4 ⌝ }
-    ensures { λ r. ⌜ r ≡ low-first (now (part .entry)) ⌝ }
+fn low_first_4(row: &[u8], at: usize) -> u32
+    requires { ⌜ at + 4 ≤ length (now row) ⌝ }
+    ensures { λ r. ⌜ r ≡ low-first (take 4 (drop at (now (row .entry)))) ⌝ }
 {
-    low_first_2(&part[..2]) as u32 + low_first_2(&part[2..]) as u32 * 65_536
+    low_first_2(row, at) as u32 + low_first_2(row, at + 2) as u32 * 65_536
 }
 
-fn low_first_8(part: &[u8]) -> u64
-    requires { ⌜ length (now part) ≡ 8 ⌝ }
-    ensures { λ r. ⌜ r ≡ low-first (now (part .entry)) ⌝ }
-{
-    low_first_4(&part[..4]) as u64 + low_first_4(&part[4..]) as u64 * 4_294_967_296
-}
-
-// The number that eight bytes of a row spell, from this place of it on.
 pub fn word_at(row: &[u8], at: usize) -> u64
     requires { ⌜ at + 8 ≤ length (now row) ⌝ }
     ensures { λ r. ⌜ r ≡ low-first (take 8 (drop at (now (row .entry)))) ⌝ }
 {
-    let end = at + 8;
-    low_first_8(&row[at..end])
+    low_first_4(row, at) as u64 + low_first_4(row, at + 4) as u64 * 4_294_967_296
 }
 
 // The magnitude of a coefficient in two's complement: 9223372036854775808 and above stand below zero.
@@ -110,7 +102,7 @@ fn row_multiplier(row: &[u8]) -> Multiplier
     ensures { λ r. ⌜ r ≡ row-multiplier (now (row .entry)) ⌝ }
 {
     let coefficient = word_at(row, COEFFICIENT_AT);
-    let power = low_first_2(&row[POWER_AT..ZEROS_AT]);
+    let power = low_first_2(row, POWER_AT);
     Multiplier {
         negative: coefficient >= 9_223_372_036_854_775_808,
         coefficient: coefficient_magnitude(coefficient),

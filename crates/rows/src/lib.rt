@@ -1,4 +1,3 @@
-// Rows of the unit table: their fields, lookup by name, and the stored form.
+// Rows of the unit table: their fields, and lookup by name.
 pub mod fields;
 pub mod lookup;
-pub mod stored;

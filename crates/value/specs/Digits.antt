@@ -7,7 +7,7 @@ use Prim.Native.Nat.{ℕ, zero, suc, _+_, _*_, _-_, _^_, _≤_, _<_, min}
 use native.Mathlib.Nat.{add-assoc, add-zero, zero-add, suc-add, add-suc, mul-assoc, zero-mul, add-mul, pow-succ', le-refl, le-trans, lt-of-lt-of-le, one-le-pow, pow-le-pow-right, min-eq-left, zero-min, min-zero, suc-min-suc, sub-zero, zero-sub, suc-sub-suc}
 use native.Mathlib.Numerals.{add-one}
 use native.Mathlib.Omega.{arith}
-use borrow.Author.Tests.{le-leb, lt-leb, leb-true, leb-false, eqb-true, eqb-false}
+use borrow.Author.Tests.{le-leb, leb-true, leb-false, eqb-true, eqb-false}
 use lib.Dec.{leb, eqb, lit<}
 use lib.ListN.{length, getD, take, drop, length-take, drop-of-length-le}
 use lib.Pow.{pow-add}

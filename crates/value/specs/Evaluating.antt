@@ -1,33 +1,31 @@
 -- Laws of evaluation: what was typed, moved by its powers of ten, is either too large or seconds and attoseconds. Assumes nothing.
 use mathlib.Core.Path.{_≡_, refl, sym, _∙_, ap}
-use mathlib.Core.Bool.{Bool, true, false, not, xor, Bool·beq}
+use mathlib.Core.Bool.{Bool, true, false, xor}
 use mathlib.Core.List.{List}
-use Prim.Native.Nat.{ℕ, zero, suc, _+_, _*_, _-_, _/_, _%_, _^_, _≤_, _<_}
+use Prim.Native.Nat.{ℕ, _+_, _*_, _/_, _%_, _^_, _≤_, _<_}
 use native.Mathlib.Nat.{add-zero, one-mul, mul-le-mul-right, le-trans, le-of-eq, pos-of-ne-zero, le-div-iff-mul-le, div-add-mod', mod-lt}
 use native.Mathlib.Omega.{arith}
 use borrow.Author.Tests.{ltb-false}
 use lib.Dec.{ltb, lit<}
 use Rattle.rules.specs.declared.DurationRepr.{DurationRepr}
-use Rattle.rules.specs.declared.Length.{Length}
 use Rattle.rules.specs.Common.{if_then_else_}
 use Rattle.rules.specs.ThePartOfTheCrateWeTake.{zero-length, largest}
-use Rattle.rules.specs.Evaluation.{spelled, digits-of, up, down, attos, nanos, length-of, evaluate}
+use Rattle.rules.specs.Evaluation.{up, down, attos, nanos, length-of, evaluate}
 use Rattle.rules.specs.Laws.Apart.{none, nanos-none}
 use Rattle.rules.specs.Laws.Lengths.{limit, size-clamped}
-use Rattle.value.specs.declared.number.Shifted.{Shifted}
 use Rattle.value.specs.declared.number.Shifted.the-variants as shifted
 use Rattle.value.specs.Numbers.{typed-attos, attos-of, shifted-of}
 
 -- ---- the typed exponent goes to the powers of its sign
 
 module _ (text : List ℕ) (d : DurationRepr) where
-  pub typed-down : d .exponent .negative ≡ true → typed-attos text (d .whole) (d .fract) (d .multiplier .up) (d .multiplier .down + d .exponent .power) ≡ attos-of text d
+  pub typed-down : d .exponent .negative ≡ true → {above below : ℕ} → above ≡ d .multiplier .up → below ≡ d .multiplier .down + d .exponent .power → typed-attos text (d .whole) (d .fract) above below ≡ attos-of text d
   unfolding attos-of up down if_then_else_
-  typed-down e = rw (e, add-zero)
+  typed-down e f g = rw (f, g, e, add-zero)
 
-  pub typed-up : d .exponent .negative ≡ false → typed-attos text (d .whole) (d .fract) (d .multiplier .up + d .exponent .power) (d .multiplier .down) ≡ attos-of text d
+  pub typed-up : d .exponent .negative ≡ false → {above below : ℕ} → above ≡ d .multiplier .up + d .exponent .power → below ≡ d .multiplier .down → typed-attos text (d .whole) (d .fract) above below ≡ attos-of text d
   unfolding attos-of up down if_then_else_
-  typed-up e = rw (e, add-zero)
+  typed-up e f g = rw (f, g, e, add-zero)
 
   -- ---- what the length is, case by case
 

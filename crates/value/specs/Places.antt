@@ -2,14 +2,14 @@
 -- at a point, and a number moved by a power of ten. Assumes nothing.
 use mathlib.Core.Path.{_≡_, refl, ap, ap₂, sym, _∙_}
 use mathlib.Core.Bool.{Bool, true, false}
-use mathlib.Core.List.{List, _++_}
+use mathlib.Core.List.{List, _++_, append-assoc}
 use Prim.Native.Nat.{ℕ, _+_, _*_, _-_, _/_, _%_, _^_, _≤_, _<_, min}
-use native.Mathlib.Nat.{zero-add, mul-assoc, zero-mul, add-mul, le-refl, le-trans, lt-of-lt-of-le, mul-lt-mul-of-pos-right, div-eq-of-lt, mod-eq-of-lt, le-mul-of-pos-right, sub-add-eq}
+use native.Mathlib.Nat.{zero-add, mul-assoc, zero-mul, add-mul, le-refl, le-trans, lt-of-lt-of-le, lt-of-le-of-lt, mul-lt-mul-of-pos-right, div-eq-of-lt, mul-div-cancel, le-mul-of-pos-right, sub-add-eq}
 use native.Mathlib.Omega.{arith}
 use borrow.Author.Tests.{ltb-true, ltb-false, lt-ltb, le-ltb, leb-true, leb-false}
 use lib.Arith.{digits-div, digits-mod}
-use lib.Dec.{leb, ltb, eqb, lit<}
-use lib.ListN.{length, take, drop, length-append, length-take, length-drop, drop-of-length-le}
+use lib.Dec.{leb, ltb, eqb, lit≤}
+use lib.ListN.{length, take, drop, length-append, length-take, length-drop, take-append-drop, drop-of-length-le}
 use lib.Pow.{pow-add}
 use lib.Seq.{slice, slice-empty, length-slice, take-add, take-all, take-nil}
 use Rattle.rules.specs.declared.Whole.{Whole}
@@ -54,6 +54,9 @@ still-too-large n m h e = go (ltb n (2 ^ 64)) refl
     go true f = cc (word-fits (refl {a = n}) (ltb-true n (2 ^ 64) f))
     go false f = word-too-large m (le-trans (ltb-false n (2 ^ 64) f) h)
 
+pub zeros-too-large : (n zeros : ℕ) → TooLarge ≡ as-word n → TooLarge ≡ as-word (n * 10 ^ zeros)
+zeros-too-large n zeros e = still-too-large n (n * 10 ^ zeros) (le-mul-of-pos-right n (ten-pos zeros)) e
+
 -- ---- the first places of a number
 
 pub places-none : (ds : List ℕ) → places 0 ds ≡ 0
@@ -90,12 +93,9 @@ places-split a b ds =
         none : spelled 0 (take b (drop a ds)) ≡ 0
         none = rw (drop-of-length-le ds {i = a} (omega (arith, leb-false a (length ds) e)), take-nil b)
 
--- cut before its last b places, and those places
+-- cut before its last b places
 pub places-first : (a b : ℕ) (ds : List ℕ) → all (is DIGIT) ds ≡ true → places (a + b) ds / 10 ^ b ≡ places a ds
 places-first a b ds e = rw (places-split a b ds) (digits-div (places a ds) (places-below b (drop a ds) (all-drop (is DIGIT) a ds e)))
-
-pub places-last : (a b : ℕ) (ds : List ℕ) → all (is DIGIT) ds ≡ true → places (a + b) ds % 10 ^ b ≡ places b (drop a ds)
-places-last a b ds e = rw (places-split a b ds) (digits-mod (places a ds) (places-below b (drop a ds) (all-drop (is DIGIT) a ds e)))
 
 -- as many places as there are digits, and zeros
 pub places-all : (k : ℕ) (ds : List ℕ) → spelled 0 ds * 10 ^ k ≡ places (length ds + k) ds
@@ -118,21 +118,21 @@ places-cut u d ds e = rw (places-all u ds) (go (leb d (length ds + u)) refl)
 -- ---- a number of two spans, cut at a point
 
 -- the first places of both: those of the first, those that are left of the second, and zeros
-pub places-both : (k : ℕ) (xs ys : List ℕ) → places k (xs ++ ys) ≡ spelled (spelled 0 (take k xs)) (take (k - length xs) ys) * 10 ^ (k - length xs - length ys)
+pub places-both : (k : ℕ) (xs ys : List ℕ) → places k (xs ++ ys) ≡ spelled 0 (take k xs ++ take (k - length xs) ys) * 10 ^ (k - length xs - length ys)
 unfolding places
-places-both k xs ys = rw (take-both k xs ys, spelled-append 0 (take k xs) (take (k - length xs) ys), length-append xs ys, sub-add-eq k (length xs) (length ys))
+places-both k xs ys = rw (take-both k xs ys, length-append xs ys, sub-add-eq k (length xs) (length ys))
 
--- digits taken from both, one after the other, are those places; and what was taken leaves room for eighteen in all
+-- digits taken from both, one after the other, are those places; and what was taken leaves room for nineteen in all
 pub taken-both : (room : ℕ) (xs ys : List ℕ) {front both : Taken} → front ≡ taken 0 room xs → both ≡ taken (front .number) (front .room) ys → both .number * 10 ^ both .room ≡ places room (xs ++ ys)
 unfolding taken
-taken-both room xs ys e f = rw (f, e, places-both room xs ys)
+taken-both room xs ys e f = rw (f, e, places-both room xs ys, spelled-append 0 (take room xs) (take (room - length xs) ys))
 
-pub taken-in-room : (n room : ℕ) (ds : List ℕ) → (room ≤ 18) × (n < 10 ^ (18 - room)) → all (is DIGIT) ds ≡ true → {t : Taken} → t ≡ taken n room ds → (t .room ≤ 18) × (t .number < 10 ^ (18 - t .room))
+pub taken-in-room : (n room : ℕ) (ds : List ℕ) → (room ≤ 19) × (n < 10 ^ (19 - room)) → all (is DIGIT) ds ≡ true → {t : Taken} → t ≡ taken n room ds → (t .room ≤ 19) × (t .number < 10 ^ (19 - t .room))
 unfolding taken
-taken-in-room n room ds (h, b) d e = rw e (omega arith, spelled-in-room 18 n room ds h b d)
+taken-in-room n room ds (h, b) d e = rw e (omega arith, spelled-in-room 19 n room ds h b d)
 
-pub room-filled : (n room : ℕ) → (room ≤ 18) × (n < 10 ^ (18 - room)) → n * 10 ^ room < 10 ^ 18
-room-filled n room (h, b) = rw (ten-sum (18 - room) room 18 (omega arith)) (mul-lt-mul-of-pos-right b (ten-pos room))
+pub room-filled : (n room : ℕ) → (room ≤ 19) × (n < 10 ^ (19 - room)) → n * 10 ^ room < 10 ^ 19
+room-filled n room (h, b) = rw (ten-sum (19 - room) room 19 (omega arith)) (mul-lt-mul-of-pos-right b (ten-pos room))
 
 pub taken-is : (n room : ℕ) (ds : List ℕ) {number left : ℕ} → number ≡ spelled n (take room ds) → left ≡ room - length ds → _≡_ {A = Taken} (record { number = number; room = left }) (taken n room ds)
 unfolding taken
@@ -153,6 +153,29 @@ cut-is whole fract point {in-whole} {in-fract} e f =
     let zeros = cut-left (fract .start) (fract .end) (point - (in-whole - whole .start)) f ∙ ap (λ m. m - fract-size fract) more in
     cc
 
+-- the part of each span before a cut, and the part after it
+abbrev whole-before : Whole → Cut → Whole
+whole-before whole cut = record { start = whole .start; end = cut .whole }
+
+abbrev fract-before : Fract → Cut → Fract
+fract-before fract cut = record { start = fract .start; end = cut .fract }
+
+abbrev whole-after : Whole → Cut → Whole
+whole-after whole cut = record { start = cut .whole; end = whole .end }
+
+abbrev fract-after : Fract → Cut → Fract
+fract-after fract cut = record { start = cut .fract; end = fract .end }
+
+-- both as one number: an overflow of the first is one of both
+module _ (so-far : ℕ) (text : List ℕ) (whole : Whole) (fract : Fract) {word : Word} (found : word ≡ as-word (spelled so-far (whole-of text whole))) where
+  pub typed-too-large : word ≡ TooLarge → TooLarge ≡ as-word (spelled so-far (digits-of text whole fract))
+  unfolding digits-of
+  typed-too-large e = rw (spelled-append so-far (whole-of text whole) (fract-of text fract)) (still-too-large _ _ (spelled-grows _ (fract-of text fract)) (sym e ∙ found))
+
+  pub typed-on : {front : ℕ} → word ≡ Fits front → spelled front (fract-of text fract) ≡ spelled so-far (digits-of text whole fract)
+  unfolding digits-of
+  typed-on e = rw (spelled-append so-far (whole-of text whole) (fract-of text fract), ← (fits-word _ (sym e ∙ found)))
+
 module _ {text : List ℕ} {whole : Whole} {fract : Fract} (s : Spans text whole fract) where
   whole-length : length (whole-of text whole) ≡ whole-size whole
   whole-length = length-slice (whole .start) (whole .end) text (s .whole-ends)
@@ -164,13 +187,30 @@ module _ {text : List ℕ} {whole : Whole} {fract : Fract} (s : Spans text whole
   unfolding digits-of
   digits-length = length-append (whole-of text whole) (fract-of text fract) ∙ ap₂ _+_ whole-length fract-length
 
-  whole-digits : all (is DIGIT) (whole-of text whole) ≡ true
+  pub whole-digits : all (is DIGIT) (whole-of text whole) ≡ true
   unfolding digits-of
   whole-digits = all-left (is DIGIT) (whole-of text whole) (fract-of text fract) (s .digits)
 
-  fract-digits : all (is DIGIT) (fract-of text fract) ≡ true
+  pub fract-digits : all (is DIGIT) (fract-of text fract) ≡ true
   unfolding digits-of
   fract-digits = all-right (is DIGIT) (whole-of text whole) (fract-of text fract) (s .digits)
+
+  -- after the first k whole digits the others are a typed number, whose digits go on from those
+  module _ (k : ℕ) {cut : ℕ} (at : cut ≡ whole .start + min k (whole-size whole)) where
+    pub spans-rest : Spans text (record { start = cut; end = whole .end }) fract
+    unfolding digits-of
+    spans-rest = record {
+      whole-starts = cut-within (whole .start) (whole .end) k at (s .whole-starts);
+      whole-ends = s .whole-ends;
+      fract-starts = s .fract-starts;
+      fract-ends = s .fract-ends;
+      digits = all-append (is DIGIT) _ _ (passes-after (whole .start) (whole .end) k text at (is DIGIT) whole-digits) fract-digits;
+    }
+
+    pub spelled-rest : {first : Taken} → first ≡ taken 0 k (whole-of text whole) → spelled (first .number) (digits-of text (record { start = cut; end = whole .end }) fract) ≡ spelled 0 (digits-of text whole fract)
+    unfolding digits-of taken
+    spelled-rest e =
+        rw (e, ← (slice-after (whole .start) (whole .end) k text at), ← (spelled-append 0 (take k (whole-of text whole)) (drop k (whole-of text whole) ++ fract-of text fract)), ← (append-assoc (take k (whole-of text whole)) (drop k (whole-of text whole)) (fract-of text fract)), take-append-drop k (whole-of text whole))
 
   module _ (point : ℕ) {cut : Cut} (at : cut ≡ cut-at whole fract point) where
     in-whole : cut .whole ≡ whole .start + min point (whole-size whole)
@@ -181,47 +221,39 @@ module _ {text : List ℕ} {whole : Whole} {fract : Fract} (s : Spans text whole
     unfolding cut-at
     in-fract = rw at
 
-    -- the parts before the point lie in the text, and digits stand in all four parts
-    pub whole-before : (cut .whole ≤ length text) × (all (is DIGIT) (slice (whole .start) (cut .whole) text) ≡ true)
-    whole-before =
-        (le-trans (cut-within (whole .start) (whole .end) point in-whole (s .whole-starts)) (s .whole-ends), passes-before (whole .start) (whole .end) point text in-whole (is DIGIT) whole-digits)
+    -- the parts before the point are a typed number, and those after it
+    pub spans-before : Spans text (whole-before whole cut) (fract-before fract cut)
+    unfolding digits-of
+    spans-before = record {
+      whole-starts = omega (arith, in-whole);
+      whole-ends = le-trans (cut-within (whole .start) (whole .end) point in-whole (s .whole-starts)) (s .whole-ends);
+      fract-starts = omega (arith, in-fract);
+      fract-ends = le-trans (cut-within (fract .start) (fract .end) _ in-fract (s .fract-starts)) (s .fract-ends);
+      digits = all-append (is DIGIT) _ _ (passes-before (whole .start) (whole .end) point text in-whole (is DIGIT) whole-digits) (passes-before (fract .start) (fract .end) _ text in-fract (is DIGIT) fract-digits);
+    }
 
-    pub fract-before : (cut .fract ≤ length text) × (all (is DIGIT) (slice (fract .start) (cut .fract) text) ≡ true)
-    fract-before =
-        (le-trans (cut-within (fract .start) (fract .end) _ in-fract (s .fract-starts)) (s .fract-ends), passes-before (fract .start) (fract .end) _ text in-fract (is DIGIT) fract-digits)
+    pub spans-after : Spans text (whole-after whole cut) (fract-after fract cut)
+    unfolding digits-of
+    spans-after = record {
+      whole-starts = cut-within (whole .start) (whole .end) point in-whole (s .whole-starts);
+      whole-ends = s .whole-ends;
+      fract-starts = cut-within (fract .start) (fract .end) _ in-fract (s .fract-starts);
+      fract-ends = s .fract-ends;
+      digits = all-append (is DIGIT) _ _ (passes-after (whole .start) (whole .end) point text in-whole (is DIGIT) whole-digits) (passes-after (fract .start) (fract .end) _ text in-fract (is DIGIT) fract-digits);
+    }
 
-    pub whole-after : all (is DIGIT) (slice (cut .whole) (whole .end) text) ≡ true
-    whole-after = passes-after (whole .start) (whole .end) point text in-whole (is DIGIT) whole-digits
-
-    pub fract-after : all (is DIGIT) (slice (cut .fract) (fract .end) text) ≡ true
-    fract-after = passes-after (fract .start) (fract .end) _ text in-fract (is DIGIT) fract-digits
-
-    -- the digits before the point with the zeros, and the digits after it
-    places-before : places point (digits-of text whole fract) ≡ spelled (spelled 0 (slice (whole .start) (cut .whole) text)) (slice (fract .start) (cut .fract) text) * 10 ^ cut .zeros
+    -- the first spells the places before the point, with the zeros, and the second has the digits after it
+    places-before : places point (digits-of text whole fract) ≡ spelled 0 (digits-of text (whole-before whole cut) (fract-before fract cut)) * 10 ^ cut .zeros
     unfolding digits-of cut-at
     places-before =
         places-both point (whole-of text whole) (fract-of text fract)
         ∙ rw (whole-length, fract-length, slice-before (whole .start) (whole .end) point text in-whole, slice-before (fract .start) (fract .end) (point - whole-size whole) text in-fract, at)
 
-    pub digits-after : drop point (digits-of text whole fract) ≡ slice (cut .whole) (whole .end) text ++ slice (cut .fract) (fract .end) text
+    digits-after : drop point (digits-of text whole fract) ≡ digits-of text (whole-after whole cut) (fract-after fract cut)
     unfolding digits-of
     digits-after =
         drop-both point (whole-of text whole) (fract-of text fract)
         ∙ rw (whole-length, slice-after (whole .start) (whole .end) point text in-whole, slice-after (fract .start) (fract .end) (point - whole-size whole) text in-fract)
-
-    -- an overflow on the way is one at the end
-    module _ {word : Word} (found : word ≡ as-word (spelled 0 (slice (whole .start) (cut .whole) text))) where
-      pub whole-too-large : word ≡ TooLarge → TooLarge ≡ as-word (places point (digits-of text whole fract))
-      whole-too-large e =
-          rw places-before
-          (still-too-large _ _ (le-trans (spelled-grows _ (slice (fract .start) (cut .fract) text)) (le-mul-of-pos-right _ (ten-pos (cut .zeros)))) (sym e ∙ found))
-
-      module _ {front : ℕ} (e : word ≡ Fits front) {both : Word} (more : both ≡ as-word (spelled front (slice (fract .start) (cut .fract) text))) where
-        pub both-too-large : both ≡ TooLarge → TooLarge ≡ as-word (places point (digits-of text whole fract))
-        both-too-large f = rw (places-before, ← (fits-word _ (sym e ∙ found))) (still-too-large _ _ (le-mul-of-pos-right _ (ten-pos (cut .zeros))) (sym f ∙ more))
-
-        pub both-fit : {number : ℕ} → both ≡ Fits number → number * 10 ^ cut .zeros ≡ places point (digits-of text whole fract)
-        both-fit f = rw (places-before, ← (fits-word _ (sym e ∙ found)), ← (fits-word _ (sym f ∙ more)))
 
 -- ---- a number moved by a power of ten
 
@@ -238,36 +270,61 @@ shifted-word a = go (ltb (a / 10 ^ 18) (2 ^ 64))
     go true = refl
     go false = refl
 
--- A of document 01, for a typed number, is its first places
-module _ {text : List ℕ} {whole : Whole} {fract : Fract} (s : Spans text whole fract) (up down : ℕ) where
-  -- so many places of the digits
-  moved : {count : ℕ} → count ≡ whole-size whole + up + 18 - down → typed-attos text whole fract up down ≡ places count (digits-of text whole fract)
-  unfolding attos
-  moved e =
-      places-cut (18 + up) (fract-size fract + down) (digits-of text whole fract) (s .digits)
-      ∙ ap (λ k. places k (digits-of text whole fract)) (omega (arith, digits-length s))
+-- so many seconds, as a word, and attoseconds
+pub shifted-is : (seconds : ℕ) {a attos : ℕ} → a ≡ seconds * 10 ^ 18 + attos → attos < 10 ^ 18 → {word found : Word} → word ≡ as-word seconds → word ≡ found → with-attos found attos ≡ shifted-of a
+shifted-is seconds {a} {attos} sum below e f =
+    sym (ap shifted-of sum ∙ shifted-word (seconds * 10 ^ 18 + attos) ∙ ap₂ with-attos (ap as-word (digits-div seconds below) ∙ sym e ∙ f) (digits-mod seconds below))
 
-  -- the point stands after some digits, or after zeros behind them: the seconds before it, and eighteen decimals after it
-  pub moved-along : down ≤ whole-size whole + up → {word seconds : Word} {decimals : ℕ} → word ≡ as-word (places (whole-size whole + up - down) (digits-of text whole fract)) → word ≡ seconds → decimals ≡ places 18 (drop (whole-size whole + up - down) (digits-of text whole fract)) → with-attos seconds decimals ≡ shifted-of (typed-attos text whole fract up down)
-  moved-along h found e f =
-      sym
-      (ap shifted-of (moved {count = point + 18} (omega arith))
-      ∙ shifted-word (places (point + 18) (digits-of text whole fract))
-      ∙ ap₂ with-attos (ap as-word (places-first point 18 (digits-of text whole fract) (s .digits)) ∙ sym found ∙ e) (places-last point 18 (digits-of text whole fract) (s .digits) ∙ sym f))
-    where
-      point : ℕ
-      point = whole-size whole + up - down
+-- with k decimals, of which there are no more than eighteen, nothing is cut off
+pub attos-exact : (n f up down k : ℕ) → f + down ≡ up + k → k ≤ 18 → n * 10 ^ (18 - k) ≡ attos n f up down
+unfolding attos
+attos-exact n f up down k e h =
+    sym (rw (ten-sum (18 - k) (f + down) (18 + up) (omega arith), ← (mul-assoc n (10 ^ (18 - k)) (10 ^ (f + down)))) (mul-div-cancel (n * 10 ^ (18 - k)) (ten-pos (f + down))))
 
-  -- the point stands before zeros that come before the digits: decimals alone, and less room for them
-  pub moved-before : whole-size whole + up ≤ down → {room decimals : ℕ} → room ≡ 18 - (down - (whole-size whole + up)) → decimals ≡ places room (digits-of text whole fract) → shifted.Fits 0 decimals ≡ shifted-of (typed-attos text whole fract up down)
-  moved-before h {room} e f =
-      sym
-      (ap shifted-of (moved {count = room} (omega arith))
-      ∙ shifted-word (places room (digits-of text whole fract))
-      ∙ ap₂ with-attos (ap as-word (div-eq-of-lt below) ∙ sym (word-fits refl (lit< tt))) (mod-eq-of-lt below ∙ sym f))
-    where
-      below : places room (digits-of text whole fract) < 10 ^ 18
-      below = lt-of-lt-of-le (places-below room (digits-of text whole fract) (s .digits)) (ten-grows {i = room} {j = 18} (omega arith))
+-- with no more than nine they are whole nanoseconds
+pub nanos-attos : (n k : ℕ) → k ≤ 9 → {nanos : ℕ} → nanos ≡ n * 10 ^ (9 - k) → n * 10 ^ (18 - k) ≡ nanos / 10 ^ 9 * 10 ^ 18 + nanos % 10 ^ 9 * 10 ^ 9
+nanos-attos n k h {nanos} e = rw (ten-sum (9 - k) 9 (18 - k) (omega arith), ← (mul-assoc n (10 ^ (9 - k)) (10 ^ 9)), ← e) (omega arith)
+
+module _ {text : List ℕ} {whole : Whole} {fract : Fract} (s : Spans text whole fract) where
+  -- nineteen digits fit a word, also if the last are zeros put in
+  pub few-fit : (k : ℕ) → k ≤ 9 → whole-size whole + fract-size fract ≤ 10 + k → spelled 0 (digits-of text whole fract) * 10 ^ (9 - k) < 2 ^ 64
+  few-fit k h few =
+      let count = length (digits-of text whole fract) in
+      let n = spelled-below 0 0 (digits-of text whole fract) (s .digits) (ten-pos 0) in
+      lt-of-lt-of-le (mul-lt-mul-of-pos-right n (ten-pos (9 - k)))
+      (rw (← (ten-sum (0 + count) (9 - k) (0 + count + (9 - k)) refl)) (le-trans (ten-grows {i = 0 + count + (9 - k)} {j = 19} (omega (arith, digits-length s))) (lit≤ tt)))
+
+  pub few-never : (k : ℕ) → k ≤ 9 → whole-size whole + fract-size fract ≤ 10 + k → TooLarge ≡ as-word (spelled 0 (digits-of text whole fract)) → ⊥
+  few-never k h few e =
+      let n = spelled 0 (digits-of text whole fract) in
+      let z : _≡_ {A = ℕ} 0 1 = cc (word-fits (refl {a = n}) (lt-of-le-of-lt (le-mul-of-pos-right n (ten-pos (9 - k))) (few-fit k h few))) in
+      omega arith
+
+  module _ (up down : ℕ) {point room : ℕ} (here : point ≡ whole-size whole + up - down) (left : room ≡ 18 - (down - (whole-size whole + up))) where
+    -- A of document 01, for a typed number: its places before the point, and eighteen after it, less the zeros that come first
+    moved : typed-attos text whole fract up down ≡ places point (digits-of text whole fract) * 10 ^ 18 + places room (drop point (digits-of text whole fract))
+    unfolding attos
+    moved =
+        let sum : length (digits-of text whole fract) + (18 + up) - (fract-size fract + down) ≡ point + room = omega (arith, digits-length s) in
+        places-cut (18 + up) (fract-size fract + down) (digits-of text whole fract) (s .digits)
+        ∙ ap (λ k. places k (digits-of text whole fract)) sum
+        ∙ places-split point room (digits-of text whole fract)
+        ∙ ap (λ k. k + places room (drop point (digits-of text whole fract))) (go (leb down (whole-size whole + up)) refl)
+      where
+        go : (c : Bool) → leb down (whole-size whole + up) ≡ c → places point (digits-of text whole fract) * 10 ^ room ≡ places point (digits-of text whole fract) * 10 ^ 18
+        go true e =
+            let all-eighteen : room ≡ 18 = omega (arith, leb-true down (whole-size whole + up) e) in
+            ap (λ k. places point (digits-of text whole fract) * 10 ^ k) all-eighteen
+        go false e =
+            let none : point ≡ 0 = omega (arith, leb-false down (whole-size whole + up) e) in
+            rw (none, places-none (digits-of text whole fract)) (zero-mul (10 ^ room) ∙ sym (zero-mul (10 ^ 18)))
+
+    pub moved-is : {cut : Cut} → cut ≡ cut-at whole fract point → {word seconds : Word} {decimals : ℕ} → word ≡ as-word (spelled 0 (digits-of text (whole-before whole cut) (fract-before fract cut)) * 10 ^ cut .zeros) → word ≡ seconds → decimals ≡ places room (digits-of text (whole-after whole cut) (fract-after fract cut)) → with-attos seconds decimals ≡ shifted-of (typed-attos text whole fract up down)
+    moved-is at found e f =
+        rw f
+        (shifted-is _ (moved ∙ rw (places-before s point at, digits-after s point at))
+        (lt-of-lt-of-le (places-below room _ (spans-after s point at .digits)) (ten-grows {i = room} {j = 18} (omega arith)))
+        found e)
 
 -- ---- what is read is a typed number
 

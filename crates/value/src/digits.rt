@@ -18,7 +18,7 @@ pub enum Word {
     TooLarge,
 }
 
-// A number of decimals, and how many more it has room for.
+// A number of a few digits, and how many more it has room for.
 pub struct Taken {
     pub number: u64,
     pub room: usize,
@@ -28,6 +28,9 @@ pub struct Taken {
 const MOST_TENS: u64 = 1_844_674_407_370_955_161;
 
 const LAST_DIGIT: u64 = 5;
+
+// The byte `0`.
+const ZERO: u64 = 48;
 
 fn wide(byte: u8) -> u64
     ensures { λ r. ⌜ r ≡ byte ⌝ }
@@ -96,7 +99,7 @@ pub fn append_digits(so_far: u64, text: &[u8], start: usize, end: usize) -> Word
     let mut number = so_far;
     let mut place = start;
     while place < end {
-        let digit = wide(text[place] - b'0');
+        let digit = wide(text[place]) - ZERO;
         if MOST_TENS <= number {
             if MOST_TENS < number {
                 return Word::TooLarge;
@@ -111,10 +114,10 @@ pub fn append_digits(so_far: u64, text: &[u8], start: usize, end: usize) -> Word
     Word::Fits(number)
 }
 
-// At most so many digits of a span as there is room for, after the decimals that spelled so_far. Eighteen decimals always
-// fit, so that nothing is tested on the way.
+// At most so many digits of a span as there is room for, after those that spelled so_far. Nineteen digits always fit, so that
+// nothing is tested on the way.
 pub fn take_digits(so_far: u64, room: usize, text: &[u8], start: usize, end: usize) -> Taken
-    requires { ⌜ (room ≤ 18) × («so_far» < 10 ^ (18 - room)) ⌝ }
+    requires { ⌜ (room ≤ 19) × («so_far» < 10 ^ (19 - room)) ⌝ }
     requires { ⌜ end ≤ length (now text) ⌝ }
     requires { ⌜ all (is DIGIT) (slice start end (now text)) ≡ true ⌝ }
     ensures { λ r. ⌜ r ≡ taken «so_far» room (slice start end (now (text .entry))) ⌝ }
@@ -123,7 +126,7 @@ pub fn take_digits(so_far: u64, room: usize, text: &[u8], start: usize, end: usi
     let mut number = so_far;
     let mut place = start;
     while place < stop {
-        number = number * 10 + wide(text[place] - b'0');
+        number = number * 10 + (wide(text[place]) - ZERO);
         place += 1;
     }
     Taken {

@@ -15,14 +15,15 @@ fn shift_typed(text: &[u8], d: DurationRepr) -> Shifted
     requires { ⌜ Spans (now text) (d .whole) (d .fract) ⌝ }
     ensures { λ r. ⌜ r ≡ shifted-of (attos-of (now (text .entry)) d) ⌝ }
 {
-    let up = d.multiplier.up as u32;
-    let down = d.multiplier.down as u32;
+    let mut up = d.multiplier.up as u32;
+    let mut down = d.multiplier.down as u32;
     let typed = d.exponent.power as u32;
     if d.exponent.negative {
-        shift_number(text, d.whole, d.fract, up, down + typed)
+        down += typed;
     } else {
-        shift_number(text, d.whole, d.fract, up + typed, down)
+        up += typed;
     }
+    shift_number(text, d.whole, d.fract, up, down)
 }
 
 // A coefficient of zero makes any number zero, also one that is too large.

@@ -1,12 +1,12 @@
 -- Laws of rows and their fields. Assumes nothing.
 use mathlib.Core.Path.{_≡_, refl}
 use mathlib.Core.Bool.{Bool, true, false, xor, _&&_}
-use mathlib.Core.List.{List, [], _∷_}
-use Prim.Native.Nat.{ℕ, zero, suc, zero-le, _+_, _*_, _-_, _/_, _^_, _≤_, _<_}
-use native.Mathlib.Nat.{mul-add, mul-assoc, add-assoc, pow-succ', zero-add, le-of-suc-le-suc, mul-comm, le-div-iff-mul-le}
+use mathlib.Core.List.{List, [], _∷_, _++_}
+use Prim.Native.Nat.{ℕ, zero-le, _+_, _*_, _-_, _/_, _^_, _≤_, _<_}
+use native.Mathlib.Nat.{mul-add, mul-assoc, add-assoc, pow-succ', zero-add, mul-comm, le-div-iff-mul-le}
 use native.Mathlib.Omega.{arith}
-use lib.ListN.{length, getD, take, drop, length-take, length-drop, drop-of-length-le}
-use lib.Seq.{drop-cons, take-all}
+use lib.ListN.{length, getD, take, drop, length-take, length-drop}
+use lib.Seq.{drop-cons, drop-drop, take-add}
 use lib.Dec.{leb, ltb, lit<}
 use borrow.Author.Tests.{le-leb, lt-leb, leb-true, leb-false, ltb-true, lt-ltb}
 use Rattle.rules.specs.declared.Multiplier.{Multiplier}
@@ -26,24 +26,21 @@ pub length-row : (table : List ℕ) (i : ℕ) → i < rows table → length (row
 unfolding row
 length-row table i h = simp (length-take, length-drop) (omega (arith, row-within table i h))
 
--- a number from its first k bytes and the others
-low-first-split : (l : List ℕ) (k : ℕ) → k ≤ length l → low-first l ≡ low-first (take k l) + 256 ^ k * low-first (drop k l)
+-- a number from the bytes of two parts
+low-first-append : (xs ys : List ℕ) → low-first (xs ++ ys) ≡ low-first xs + 256 ^ length xs * low-first ys
 unfolding low-first
-low-first-split l zero h = omega arith
-low-first-split [] (suc k) h = absurd (omega arith)
-low-first-split (b ∷ l) (suc k) h = rw (low-first-split l k (le-of-suc-le-suc h), mul-add, pow-succ', mul-assoc, add-assoc)
+low-first-append [] ys = omega arith
+low-first-append (b ∷ xs) ys = rw (low-first-append xs ys, mul-add, pow-succ', mul-assoc, add-assoc)
 
--- the same, of two parts lent one after the other
-pub low-first-halves : (l : List ℕ) (k : ℕ) → k ≤ length l → low-first l ≡ low-first (take k l) + 256 ^ k * low-first (take (length l - k) (drop k l))
-low-first-halves l k h = rw (take-all (length l - k) (drop k l) (simp length-drop (omega arith))) (low-first-split l k h)
+-- from a place on, the number of twice as many bytes is that of one half and that of the other
+pub low-first-twice : (l : List ℕ) (at k : ℕ) → at + k ≤ length l → low-first (take (k + k) (drop at l)) ≡ low-first (take k (drop at l)) + 256 ^ k * low-first (take k (drop (at + k) l))
+low-first-twice l at k h =
+    let full : length (take k (drop at l)) ≡ k = simp (length-take, length-drop) (omega arith) in
+    rw (take-add k k (drop at l), low-first-append (take k (drop at l)) (take k (drop k (drop at l))), full, drop-drop k at l)
 
-pub low-first-one : (l : List ℕ) (k : ℕ) → k < length l → low-first (drop k l) ≡ getD l k 0 + 256 * low-first (drop (suc k) l)
+pub low-first-byte : (l : List ℕ) (at : ℕ) → at < length l → low-first (take 1 (drop at l)) ≡ getD l at 0
 unfolding low-first
-low-first-one l k h = rw (drop-cons l k 0 h)
-
-pub low-first-none : (l : List ℕ) (k : ℕ) → length l ≤ k → low-first (drop k l) ≡ 0
-unfolding low-first
-low-first-none l k h = rw (drop-of-length-le l h)
+low-first-byte l at h = rw (drop-cons l at 0 h) (omega arith)
 
 -- ---- powers and products
 

@@ -66,11 +66,12 @@ product-requires c κs = search needs
 cut-words-requires : tie.Need-cut-words-requires
 cut-words-requires c κs = rw (c .product .ensures) (seconds-fit (search needs) (search needs))
 
-limited-requires : tie.Need-limited-requires
-limited-requires c κs = search needs
-
 either-way : (c : tie.Joined5) → c .if5 .size ≡ cut (c .before .before .before .before .before .args .coefficient * c .before .before .before .before .before .args .attos)
 either-way c = ⊎-elim (λ w. cc) (λ w. cc) (c .if5 .came)
+
+limited-requires : tie.Need-limited-requires
+unfolding cut
+limited-requires c κs = rw (either-way c) (omega arith)
 
 returns-5 : tie.Need-returns-5
 unfolding cut

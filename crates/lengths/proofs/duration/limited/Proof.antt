@@ -8,39 +8,43 @@ use Rattle.rules.specs.Laws.Lengths.{size-clamped}
 use Rattle.lengths.proofs.duration.limited.Statement.{statement}
 use Rattle.lengths.proofs.duration.limited.Tie as tie
 
-sub-room : tie.Need-sub-room
-sub-room c = search needs
+sub-if1 : tie.Need-sub-if1
+sub-if1 c = search needs
 
-cast-carry : tie.Need-cast-carry
-cast-carry c = search needs
-
-add-signed : tie.Need-add-signed
-add-signed c = search needs
-
-add-signed-2 : tie.Need-add-signed-2
-add-signed-2 c = search needs
+add-sum : tie.Need-add-sum
+add-sum c = search needs
 
 signed-requires : tie.Need-signed-requires
 signed-requires c κs = search needs
 
 returns : tie.Need-returns
-returns c = c .signed .ensures ∙ ap (length-of _) (omega arith)
+returns c = search needs
+
+add-signed : tie.Need-add-signed
+add-signed c = search needs
+
+signed-requires-2 : tie.Need-signed-requires-2
+signed-requires-2 c κs = search needs
+
+returns-2 : tie.Need-returns-2
+returns-2 c = c .signed2 .ensures ∙ ap (length-of _) (omega arith)
 
 largest-requires : tie.Need-largest-requires
 largest-requires c κs = search needs
 
-returns-2 : tie.Need-returns-2
-returns-2 c = c .largest .ensures ∙ sym (size-clamped _ _ (⊎-elim (λ w. omega arith) (λ w. omega arith) (c .before .if1 .came)))
+returns-3 : tie.Need-returns-3
+returns-3 c = c .largest .ensures ∙ sym (size-clamped _ _ (⊎-elim (λ w. omega arith) (λ w. omega arith) (c .before .if1 .came)))
 
 pub limited-spec : {M : Type 1} → statement M
 limited-spec =
     tie.close
     (tie.spec
-    sub-room
-    cast-carry
-    add-signed
-    add-signed-2
+    sub-if1
+    add-sum
     signed-requires
     returns
+    add-signed
+    signed-requires-2
+    returns-2
     largest-requires
-    returns-2)
+    returns-3)

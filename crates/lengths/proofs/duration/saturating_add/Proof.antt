@@ -1,6 +1,7 @@
 -- `lengths::duration::saturating_add` meets its contract: lengths of one sign add up, and of two signs the shorter is taken from the
 -- longer, whose sign stays. Assumes nothing.
 use mathlib.Core.Path.{sym, _∙_, ap}
+use Prim.Native.Nat.{_+_, _*_, _^_, _<_}
 use native.Mathlib.Omega.{arith}
 use borrow.Author.Needs.{needs}
 use borrow.Author.Tests.{leb-true, leb-false}
@@ -10,13 +11,15 @@ use Rattle.rules.specs.Laws.Apart.{proper, sum-alike, sum-first, sum-second}
 use Rattle.lengths.proofs.duration.saturating_add.Statement.{statement}
 use Rattle.lengths.proofs.duration.saturating_add.Tie as tie
 
+-- the nanoseconds of two lengths hold at most one second
+nanoseconds-below : (s : tie.Start) → s .args .a .nanoseconds + s .args .b .nanoseconds < 2 * 10 ^ 9
+nanoseconds-below s = omega (arith, proper (s .args .a) (s .pre .0), proper (s .args .b) (s .pre .1))
+
 add-limited : tie.Need-add-limited
-add-limited c =
-    let s = c .before .before .before .before .before in
-    omega (arith, proper (s .args .a) (s .pre .0), proper (s .args .b) (s .pre .1))
+add-limited c = omega (arith, nanoseconds-below (c .before .before .before .before .before))
 
 limited-requires : tie.Need-limited-requires
-limited-requires c κs = search needs
+limited-requires c κs = nanoseconds-below (c .before .before .before .before .before)
 
 returns : tie.Need-returns
 unfolding size

@@ -1,7 +1,8 @@
 -- `rows::fields::low_first_2` meets its contract: one byte and the next. Assumes nothing.
+use Prim.Native.Nat.{_+_}
 use native.Mathlib.Omega.{arith}
 use borrow.Author.Needs.{needs}
-use Rattle.rows.specs.Laws.Rows.{low-first-one, low-first-none}
+use Rattle.rows.specs.Laws.Rows.{low-first-twice, low-first-byte}
 use Rattle.rows.proofs.fields.low_first_2.Statement.{statement}
 use Rattle.rows.proofs.fields.low_first_2.Tie as tie
 
@@ -9,24 +10,27 @@ shared-slice-read-result : tie.Need-shared-slice-read-result
 shared-slice-read-result c = search needs
 
 cast-result : tie.Need-cast-result
-cast-result c = omega (arith, c .shared-slice-known .given 0)
+cast-result c = omega (arith, c .shared-slice-known .given (c .before .args .at))
+
+add-result : tie.Need-add-result
+add-result c = search needs
 
 shared-slice-read-result-2 : tie.Need-shared-slice-read-result-2
 shared-slice-read-result-2 c = search needs
 
 cast-result-2 : tie.Need-cast-result-2
-cast-result-2 c = omega (arith, c .shared-slice-known2 .given 1)
+cast-result-2 c = omega (arith, c .shared-slice-known2 .given (c .before .before .args .at + 1))
 
 mul-result : tie.Need-mul-result
-mul-result c = omega (arith, c .shared-slice-known2 .given 1)
+mul-result c = omega (arith, c .shared-slice-known2 .given (c .before .before .args .at + 1))
 
-add-result : tie.Need-add-result
-add-result c = omega (arith, c .shared-slice-known2 .given 0, c .shared-slice-known2 .given 1)
+add-result-2 : tie.Need-add-result-2
+add-result-2 c = omega (arith, c .shared-slice-known2 .given (c .before .before .args .at), c .shared-slice-known2 .given (c .before .before .args .at + 1))
 
 returns : tie.Need-returns
 returns c =
-    let l = c .before .before .args .part .now in
-    omega (arith, low-first-one l 0 (omega arith), low-first-one l 1 (omega arith), low-first-none l 2 (omega arith))
+    let a = c .before .before .args in
+    omega (arith, low-first-twice (a .row .now) (a .at) 1 (omega arith), low-first-byte (a .row .now) (a .at) (omega arith), low-first-byte (a .row .now) (a .at + 1) (omega arith))
 
 pub low-first-2-spec : {M : Type 1} → statement M
 low-first-2-spec =
@@ -34,8 +38,9 @@ low-first-2-spec =
     (tie.spec
     shared-slice-read-result
     cast-result
+    add-result
     shared-slice-read-result-2
     cast-result-2
     mul-result
-    add-result
+    add-result-2
     returns)

@@ -8,15 +8,6 @@ use Rattle.rows.proofs.fields.row_multiplier.Tie as tie
 word-at-requires : tie.Need-word-at-requires
 word-at-requires c κs = search needs
 
-sub-low-first-2 : tie.Need-sub-low-first-2
-sub-low-first-2 c = search needs
-
-part-low-first-2-start : tie.Need-part-low-first-2-start
-part-low-first-2-start c = search needs
-
-part-low-first-2-end : tie.Need-part-low-first-2-end
-part-low-first-2-end c = search needs
-
 low-first-2-requires : tie.Need-low-first-2-requires
 low-first-2-requires c κs = search needs
 
@@ -38,9 +29,6 @@ row-multiplier-spec =
     tie.close
     (tie.spec
     word-at-requires
-    sub-low-first-2
-    part-low-first-2-start
-    part-low-first-2-end
     low-first-2-requires
     coefficient-magnitude-requires
     risen-requires

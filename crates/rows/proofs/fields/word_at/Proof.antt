@@ -1,40 +1,16 @@
--- `rows::fields::word_at` meets its contract: the part has eight bytes. Assumes nothing.
-use mathlib.Core.Path.{_≡_, ap, _∙_}
-use Prim.Native.Nat.{_+_, _-_}
+-- `rows::fields::word_at` meets its contract: one half and the other. Assumes nothing.
 use native.Mathlib.Omega.{arith}
-use lib.ListN.{take, drop, length-take, length-drop}
-use Rattle.rules.specs.SettingsAndUnitTable.{low-first}
+use borrow.Author.Needs.{needs}
+use Rattle.rows.specs.Laws.Rows.{low-first-twice}
 use Rattle.rows.proofs.fields.word_at.Statement.{statement}
 use Rattle.rows.proofs.fields.word_at.Tie as tie
 
-add-end : tie.Need-add-end
-add-end c = omega arith
-
-sub-low-first-8 : tie.Need-sub-low-first-8
-sub-low-first-8 c = omega arith
-
-part-low-first-8-start : tie.Need-part-low-first-8-start
-part-low-first-8-start c = omega arith
-
-part-low-first-8-end : tie.Need-part-low-first-8-end
-part-low-first-8-end c = omega arith
-
-low-first-8-requires : tie.Need-low-first-8-requires
-low-first-8-requires c κs = simp (length-take, length-drop) (omega arith)
-
 returns : tie.Need-returns
 returns c =
-    let at = c .before .before .before .args .at in
-    let counted : at + 8 - at ≡ 8 = omega arith in
-    c .low-first-8 .ensures ∙ ap (λ n. low-first (take n (drop at (c .before .before .before .args .row .now)))) counted
+    let a = c .before .before .before .args in
+    omega (arith, low-first-twice (a .row .now) (a .at) 4 (omega arith), c .before .low-first-4 .ensures, c .low-first-42 .ensures)
 
 pub word-at-spec : {M : Type 1} → statement M
 word-at-spec =
     tie.close
-    (tie.spec
-    add-end
-    sub-low-first-8
-    part-low-first-8-start
-    part-low-first-8-end
-    low-first-8-requires
-    returns)
+    (tie.spec (λ c κs. search needs) (λ c. search needs) (λ c. search needs) (λ c κs. search needs) (λ c. search needs) (λ c. search needs) (λ c. search needs) returns)

@@ -25,11 +25,11 @@ loop-holds c = (record { spells = refl; digits = c .before .pre .1 }, search nee
 shared-slice-read-wide : tie.Need-shared-slice-read-wide Inv-loop μ-loop
 shared-slice-read-wide c = omega arith
 
-sub-wide : tie.Need-sub-wide Inv-loop μ-loop
-sub-wide c = digit-low _ (unread-digit (c .before .before .loop .inv .0) (search needs) (search needs))
-
 wide-requires : tie.Need-wide-requires Inv-loop μ-loop
 wide-requires c κs = search needs
+
+sub-digit : tie.Need-sub-digit Inv-loop μ-loop
+sub-digit c = rw (c .wide .ensures) (digit-low _ (unread-digit (c .before .before .before .loop .inv .0) (search needs) (search needs)))
 
 returns : tie.Need-returns Inv-loop μ-loop
 returns c = word-too-large _ (omega (arith, unread-grows (c .before .before .before .before .before .loop .inv .0) (search needs) (search needs)))
@@ -65,8 +65,8 @@ append-digits-spec =
     μ-loop
     loop-holds
     shared-slice-read-wide
-    sub-wide
     wide-requires
+    sub-digit
     returns
     returns-2
     mul-number

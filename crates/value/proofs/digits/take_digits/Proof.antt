@@ -1,5 +1,5 @@
 -- `value::digits::take_digits` meets its contract: at each turn what is unread up to the stop spells, after the number so far, the whole
--- number, which has at most eighteen places, so that no number on the way is larger. Assumes nothing.
+-- number, which has at most nineteen places, so that no number on the way is larger. Assumes nothing.
 use Prim.Native.Nat.{_-_, _≤_, _<_, _^_}
 use native.Mathlib.Omega.{arith}
 use borrow.Author.Needs.{needs}
@@ -16,7 +16,7 @@ use Rattle.value.proofs.digits.take_digits.Tie as tie
 abbrev Inv-loop : tie.InvT-loop
 Inv-loop so-far room text start end stop number₀ place₀ number place =
     Unread text stop (spelled so-far (take room (slice start end text))) number place
-    × (spelled so-far (take room (slice start end text)) < 10 ^ 18)
+    × (spelled so-far (take room (slice start end text)) < 10 ^ 19)
     × (start ≤ place)
 
 abbrev μ-loop : tie.MeasureT-loop
@@ -30,7 +30,7 @@ loop-holds c =
     let pre = c .before .before .pre in
     let stop = c .place-within .ensures in (
       record { spells = rw (slice-before _ _ _ _ stop); digits = passes-before _ _ _ _ stop (is DIGIT) (pre .1 .1) },
-      spelled-in-all 18 _ _ _ (pre .0 .0) (pre .0 .1) (pre .1 .1),
+      spelled-in-all 19 _ _ _ (pre .0 .0) (pre .0 .1) (pre .1 .1),
       search needs,
     )
 
@@ -40,11 +40,11 @@ mul-number c = record { fits = omega (arith, unread-grows (c .before .loop .inv 
 shared-slice-read-wide : tie.Need-shared-slice-read-wide Inv-loop μ-loop
 shared-slice-read-wide c = omega arith
 
-sub-wide : tie.Need-sub-wide Inv-loop μ-loop
-sub-wide c = digit-low _ (unread-digit (c .before .before .loop .inv .0) (search needs) (omega arith))
-
 wide-requires : tie.Need-wide-requires Inv-loop μ-loop
 wide-requires c κs = search needs
+
+sub-number : tie.Need-sub-number Inv-loop μ-loop
+sub-number c = rw (c .wide .ensures) (digit-low _ (unread-digit (c .before .before .before .loop .inv .0) (search needs) (omega arith)))
 
 add-number : tie.Need-add-number Inv-loop μ-loop
 add-number c = record { fits = omega (arith, unread-grows (c .before .before .before .loop .inv .0) (search needs) (omega arith)) }
@@ -81,8 +81,8 @@ take-digits-spec =
     loop-holds
     mul-number
     shared-slice-read-wide
-    sub-wide
     wide-requires
+    sub-number
     add-number
     add-place
     loop-less

@@ -1,4 +1,4 @@
--- `rows::stored::restore_row` meets its contract: the lengths, the newline and the digits, and only then the bytes. Assumes nothing.
+-- `stored::restore_row` meets its contract: the lengths, the newline and the digits, and only then the bytes. Assumes nothing.
 use mathlib.Core.Bool.{true}
 use mathlib.Core.Path.{_≡_, sym, _∙_}
 use Prim.Native.Nat.{_≤_}
@@ -7,11 +7,11 @@ use lib.ListN.{length-take, getD, length, take}
 use borrow.Author.Tests.{eq-eqb, ne-eqb, le-leb, lt-leb, not-true, not-false}
 use borrow.Author.Needs.{needs}
 use Rattle.rules.specs.Common.{all, if_then_else_}
-use Rattle.rows.specs.Stored.{spells, restores, row-after, line-accepted, restored}
-use Rattle.rows.specs.Laws.Stored.{row-kept}
+use Rattle.stored.specs.Lines.{spells, restores, row-after, line-accepted, restored}
+use Rattle.stored.specs.Laws.{row-kept}
 use Rattle.rules.specs.Laws.Tests.{and-false}
-use Rattle.rows.proofs.stored.restore_row.Statement.{statement}
-use Rattle.rows.proofs.stored.restore_row.Tie as tie
+use Rattle.stored.proofs.restore_row.Statement.{statement}
+use Rattle.stored.proofs.restore_row.Tie as tie
 
 returns : tie.Need-returns
 unfolding restores line-accepted

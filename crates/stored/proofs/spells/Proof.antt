@@ -1,4 +1,4 @@
--- `rows::stored::spells` meets its contract: the bytes from `i` on decide what all of them do. The measure is how many are left.
+-- `stored::spells` meets its contract: the bytes from `i` on decide what all of them do. The measure is how many are left.
 -- Assumes nothing.
 use mathlib.Core.Path.{_≡_, refl}
 use Prim.Native.Nat.{_≤_, _-_}
@@ -7,9 +7,9 @@ use lib.ListN.{length, drop}
 use borrow.Author.Tests.{lt-ltb, le-ltb}
 use Rattle.rules.specs.Common.{all}
 use Rattle.rules.specs.Laws.Lists.{all-from, all-done}
-use Rattle.rows.specs.Stored.{spells}
-use Rattle.rows.proofs.stored.spells.Statement.{statement}
-use Rattle.rows.proofs.stored.spells.Tie as tie
+use Rattle.stored.specs.Lines.{spells}
+use Rattle.stored.proofs.spells.Statement.{statement}
+use Rattle.stored.proofs.spells.Tie as tie
 
 abbrev Inv-loop : tie.InvT-loop
 Inv-loop part i₀ i = (i ≤ length part) × (all spells (drop i part) ≡ all spells part)

@@ -1,14 +1,14 @@
--- `rows::stored::put_bytes` meets its contract: before turn `i` the row begins with the bytes of the first `i` pairs of digits, and goes
+-- `stored::put_bytes` meets its contract: before turn `i` the row begins with the bytes of the first `i` pairs of digits, and goes
 -- on as it was. The measure is how many pairs are left. Assumes nothing.
 use mathlib.Core.List.{_++_}
 use mathlib.Core.Path.{_≡_, refl}
 use Prim.Native.Nat.{_+_, _*_, _-_, _≤_}
 use native.Mathlib.Omega.{arith}
 use lib.ListN.{length, take, drop, length-set}
-use Rattle.rows.specs.Laws.Stored.{bytes-turn, digit-below}
-use Rattle.rows.specs.Stored.{digit-value, paired}
-use Rattle.rows.proofs.stored.put_bytes.Statement.{statement}
-use Rattle.rows.proofs.stored.put_bytes.Tie as tie
+use Rattle.stored.specs.Laws.{bytes-turn, digit-below}
+use Rattle.stored.specs.Lines.{digit-value, paired}
+use Rattle.stored.proofs.put_bytes.Statement.{statement}
+use Rattle.stored.proofs.put_bytes.Tie as tie
 
 abbrev Inv-loop : tie.InvT-loop
 Inv-loop line row₀ i₀ row i = (i ≤ 32) × (length row ≡ length row₀) × (row ≡ paired (take (2 * i) line) ++ drop i row₀)

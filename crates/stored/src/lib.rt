@@ -6,8 +6,8 @@ ghost use Prim.Native.Nat.{_<_, _≤_};
 ghost use lib.ListN.{length, take, drop};
 ghost use Rattle.rules.specs.Common.{all};
 ghost use Rattle.rules.specs.SettingsAndUnitTable.{row-size, hexadecimal, two-digits};
-ghost use Rattle.rows.specs.Stored.{digits-size, digit-value, spells, paired, stores, line-after, restores, row-after};
-use crate::fields::ROW_SIZE;
+ghost use Rattle.stored.specs.Lines.{digits-size, digit-value, spells, paired, stores, line-after, restores, row-after};
+use rows::fields::ROW_SIZE;
 
 // How many digits a line has, how many bytes, and its last.
 const DIGITS_SIZE: usize = 64;

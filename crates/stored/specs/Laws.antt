@@ -14,7 +14,7 @@ use Rattle.rules.specs.Common.{if_then_else_, between, all}
 use Rattle.rules.specs.SettingsAndUnitTable.{row-size, hexadecimal, two-digits, stored}
 use Rattle.rules.specs.Laws.Choices.{if-either, and-left, and-right, all-first, all-others}
 use Rattle.rules.specs.Laws.Tables.{listed, entry}
-use Rattle.rows.specs.Stored.{digits-size, line-size, digit-value, spells, paired, line-accepted, restored, stores, line-after, restores, row-after}
+use Rattle.stored.specs.Lines.{digits-size, line-size, digit-value, spells, paired, line-accepted, restored, stores, line-after, restores, row-after}
 use Rattle.rules.specs.Laws.Lists.{Bytes}
 use Rattle.rules.specs.Laws.Tests.{between-from, between-to, between-in, between-above}
 use Rattle.rules.specs.Laws.Lists.{all-index}

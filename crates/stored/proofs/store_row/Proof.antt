@@ -1,4 +1,4 @@
--- `rows::stored::store_row` meets its contract: both lengths, then the digits and the newline. Assumes nothing.
+-- `stored::store_row` meets its contract: both lengths, then the digits and the newline. Assumes nothing.
 use mathlib.Core.Path.{_≡_, _∙_, ap}
 use Prim.Native.Nat.{_≤_, _*_}
 use native.Mathlib.Omega.{arith}
@@ -7,11 +7,11 @@ use borrow.Author.Tests.{eq-eqb, ne-eqb, le-leb, lt-leb}
 use borrow.Author.Needs.{needs}
 use Rattle.rules.specs.SettingsAndUnitTable.{stored, two-digits}
 use Rattle.rules.specs.Common.{if_then_else_}
-use Rattle.rows.specs.Laws.Stored.{line-kept, put-one, length-two-digits}
+use Rattle.stored.specs.Laws.{line-kept, put-one, length-two-digits}
 use Rattle.rules.specs.Laws.Tests.{and-false}
-use Rattle.rows.specs.Stored.{stores, line-after}
-use Rattle.rows.proofs.stored.store_row.Statement.{statement}
-use Rattle.rows.proofs.stored.store_row.Tie as tie
+use Rattle.stored.specs.Lines.{stores, line-after}
+use Rattle.stored.proofs.store_row.Statement.{statement}
+use Rattle.stored.proofs.store_row.Tie as tie
 
 returns : tie.Need-returns
 unfolding stores

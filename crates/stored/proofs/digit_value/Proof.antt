@@ -1,10 +1,10 @@
--- `rows::stored::digit_value` meets its contract: the two runs of digits, and the bytes before, between and after them. Assumes nothing.
+-- `stored::digit_value` meets its contract: the two runs of digits, and the bytes before, between and after them. Assumes nothing.
 use native.Mathlib.Omega.{arith}
 use borrow.Author.Needs.{needs}
 use Rattle.rules.specs.Laws.Tests.{between-below, between-above}
-use Rattle.rows.specs.Laws.Stored.{value-low, value-high, value-none}
-use Rattle.rows.proofs.stored.digit_value.Statement.{statement}
-use Rattle.rows.proofs.stored.digit_value.Tie as tie
+use Rattle.stored.specs.Laws.{value-low, value-high, value-none}
+use Rattle.stored.proofs.digit_value.Statement.{statement}
+use Rattle.stored.proofs.digit_value.Tie as tie
 
 sub-result : tie.Need-sub-result
 sub-result c = search needs

@@ -1,10 +1,10 @@
--- `rows::stored::hexadecimal` meets its contract: ten digits, then letters. Assumes nothing.
+-- `stored::hexadecimal` meets its contract: ten digits, then letters. Assumes nothing.
 use borrow.Author.Tests.{lt-ltb, le-ltb}
 use borrow.Author.Needs.{needs}
 use Rattle.rules.specs.SettingsAndUnitTable.{hexadecimal}
 use Rattle.rules.specs.Common.{if_then_else_}
-use Rattle.rows.proofs.stored.hexadecimal.Statement.{statement}
-use Rattle.rows.proofs.stored.hexadecimal.Tie as tie
+use Rattle.stored.proofs.hexadecimal.Statement.{statement}
+use Rattle.stored.proofs.hexadecimal.Tie as tie
 
 add-result : tie.Need-add-result
 add-result c = search needs

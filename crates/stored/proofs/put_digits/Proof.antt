@@ -1,4 +1,4 @@
--- `rows::stored::put_digits` meets its contract: before turn `i` the line begins with the digits of the first `i` bytes, and goes on as
+-- `stored::put_digits` meets its contract: before turn `i` the line begins with the digits of the first `i` bytes, and goes on as
 -- it was. The measure is how many bytes are left. Assumes nothing.
 use mathlib.Core.List.{_++_}
 use mathlib.Core.Path.{_≡_, refl}
@@ -7,9 +7,9 @@ use native.Mathlib.Omega.{arith}
 use lib.Seq.{take-all}
 use lib.ListN.{length, take, drop, length-set}
 use Rattle.rules.specs.SettingsAndUnitTable.{hexadecimal, two-digits}
-use Rattle.rows.specs.Laws.Stored.{digits-turn}
-use Rattle.rows.proofs.stored.put_digits.Statement.{statement}
-use Rattle.rows.proofs.stored.put_digits.Tie as tie
+use Rattle.stored.specs.Laws.{digits-turn}
+use Rattle.stored.proofs.put_digits.Statement.{statement}
+use Rattle.stored.proofs.put_digits.Tie as tie
 
 abbrev Inv-loop : tie.InvT-loop
 Inv-loop row line₀ i₀ line i = (i ≤ 32) × (length line ≡ length line₀) × (line ≡ two-digits (take i row) ++ drop (2 * i) line₀)
