@@ -17,6 +17,7 @@ mod plain;
 mod points;
 mod request;
 mod rng;
+mod stored;
 mod table;
 mod tally;
 
