@@ -12,18 +12,22 @@ const SIZES: [usize; 4] = [
     5_000,
 ];
 
-/// Totals and parts of such texts under a card.
+/// Such texts under a card: their totals, and of the runs also parts from the
+/// start, the last byte, the end and the first place beyond it.
 pub fn requests(card: &Card) -> Vec<Request> {
     let mut requests = Vec::new();
     for size in SIZES {
         for text in runs(card, size) {
-            requests.extend(places(size).map(|place| part(card, &text, place)));
-            requests.push(total(card, &text));
+            let places = [0, size - 1, size, size + 1].map(|place| Some(place as u64));
+            for place in places.into_iter().chain([None]) {
+                requests.push(Request::reading(place, card.clone(), text.clone()));
+            }
         }
     }
     for size in [MOST_TEXT_BYTES, MOST_TEXT_BYTES + 1] {
         for pattern in patterns(card) {
-            requests.push(total(card, &filled(&pattern, size)));
+            let text = filled(&pattern, size);
+            requests.push(Request::reading(None, card.clone(), text));
         }
     }
     requests
@@ -58,26 +62,4 @@ fn patterns(card: &Card) -> Vec<Vec<u8>> {
 
 fn filled(pattern: &[u8], size: usize) -> Vec<u8> {
     pattern.iter().copied().cycle().take(size).collect()
-}
-
-/// The start, the last byte, the end and the first place beyond it.
-fn places(size: usize) -> impl Iterator<Item = u64> {
-    [0, size - 1, size, size + 1]
-        .into_iter()
-        .map(|place| place as u64)
-}
-
-fn total(card: &Card, text: &[u8]) -> Request {
-    Request::Total {
-        card: card.clone(),
-        text: text.to_vec(),
-    }
-}
-
-fn part(card: &Card, text: &[u8], place: u64) -> Request {
-    Request::Part {
-        place,
-        card: card.clone(),
-        text: text.to_vec(),
-    }
 }

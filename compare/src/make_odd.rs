@@ -31,37 +31,21 @@ impl Iterator for OddMaker {
     type Item = Request;
 
     fn next(&mut self) -> Option<Request> {
-        let mut request = self.maker.next()?;
+        let made = self.maker.next()?;
+        let (mut place, card, text) = made.as_reading()?;
+        let (mut card, mut text) = (card.clone(), text.to_vec());
         let random = &mut self.random;
         if random.below(REQUESTS_TO_A_LONG_ONE) == 0 {
-            lengthen(random, text_of(&mut request));
-            return Some(request);
+            lengthen(random, &mut text);
+            return Some(Request::reading(place, card, text));
         }
         match random.below(100) {
-            0..=3 => spoil(random, card_of(&mut request)),
-            4..=6 => damage(random, text_of(&mut request)),
-            7..=9 => request = at_odd_place(random, request),
+            0..=3 => spoil(random, &mut card),
+            4..=6 => damage(random, &mut text),
+            7..=9 => place = Some(odd_place(random, text.len() as u64)),
             _ => {}
         }
-        Some(request)
-    }
-}
-
-fn card_of(request: &mut Request) -> &mut Card {
-    match request {
-        Request::Total { card, .. }
-        | Request::Part { card, .. }
-        | Request::Shift { card, .. } => card,
-        Request::Write { .. } => unreachable!("no write is made"),
-    }
-}
-
-fn text_of(request: &mut Request) -> &mut Vec<u8> {
-    match request {
-        Request::Total { text, .. }
-        | Request::Part { text, .. }
-        | Request::Shift { text, .. } => text,
-        Request::Write { .. } => unreachable!("no write is made"),
+        Some(Request::reading(place, card, text))
     }
 }
 
@@ -110,20 +94,16 @@ fn damage(random: &mut Random, text: &mut Vec<u8>) {
     }
 }
 
-/// One part from any place of the text, from its end, or from beyond it.
-fn at_odd_place(random: &mut Random, mut request: Request) -> Request {
-    let text = std::mem::take(text_of(&mut request));
-    let size = text.len() as u64;
-    let place = match random.below(8) {
+/// Any place of a text of that size, its end, or a place beyond it.
+fn odd_place(random: &mut Random, size: u64) -> u64 {
+    match random.below(8) {
         0..=2 => random.below(size + 1),
         3 => size,
         4 => size + 1,
         5 => size + random.below(5_000),
         6 => size.wrapping_add(random.next()),
         _ => *random.pick(&[1 << 16, 1 << 32, 1 << 63, u64::MAX]),
-    };
-    let card = card_of(&mut request).clone();
-    Request::Part { place, card, text }
+    }
 }
 
 /// The text over and over, to about the largest size.

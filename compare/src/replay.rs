@@ -36,7 +36,7 @@ const SEED: u64 = 2_026;
 const MADE: usize = 4_200;
 
 /// On the fly, so many cards are tried with long texts.
-const CARDS_FOR_LONG_TEXTS: usize = 40;
+const CARDS_FOR_LONG_TEXTS: usize = 10;
 
 /// A run shorter than this is written out.
 const RUN_WORTH_FOLDING: usize = 24;
@@ -72,10 +72,7 @@ pub fn write_files(list_path: &str, found_path: &str) -> Result<bool, String> {
     for listed in by_card(requests) {
         list.add(listed).map_err(|error| error.to_string())?;
     }
-    let found = list.end().map_err(|error| error.to_string())?;
-    fs::write(found_path, found).map_err(|error| format!("{found_path}: {error}"))?;
-    eprintln!("{}", chosen.told());
-    Ok(true)
+    end(list, &chosen, found_path)
 }
 
 /// Makes so many requests with a seed, after long texts under card A and under
@@ -94,6 +91,12 @@ pub fn print(seed: u64, count: u64, found_path: &str) -> Result<bool, String> {
             list.add(listed).map_err(|error| error.to_string())?;
         }
     }
+    end(list, &chosen, found_path)
+}
+
+/// What `replay` must print goes into the file, and how the answers were come
+/// by is told.
+fn end(list: List<impl Write>, chosen: &Chosen, found_path: &str) -> Result<bool, String> {
     let found = list.end().map_err(|error| error.to_string())?;
     fs::write(found_path, found).map_err(|error| format!("{found_path}: {error}"))?;
     eprintln!("{}", chosen.told());
@@ -147,12 +150,12 @@ impl Chosen {
         request: Request,
         written: Option<Answer>,
     ) -> Result<Option<Listed>, String> {
-        let answer = match &request {
-            Request::Total { card, text } => plain::total(card, text),
-            Request::Part { place, card, text } => plain::part(card, text, *place),
-            Request::Shift { .. } | Request::Write { .. } => {
-                return Err(format!("no request of a list: {request}"));
-            }
+        let Some((place, card, text)) = request.as_reading() else {
+            return Err(format!("no request of a list: {request}"));
+        };
+        let answer = match place {
+            None => plain::total(card, text),
+            Some(place) => plain::part(card, text, place),
         };
         if let Some(written) = written.filter(|written| *written != answer) {
             return Err(differ(&request, &answer, "by hand", &written.to_string()));
@@ -166,7 +169,7 @@ impl Chosen {
             }
             said => return Err(differ(&request, &answer, "crate", &said.to_string())),
         }
-        listed(request, &answer).map(Some)
+        listed(place, card, text, &answer).map(Some)
     }
 
     fn told(&self) -> String {
@@ -181,24 +184,17 @@ fn differ(request: &Request, plain: &Answer, other: &str, said: &str) -> String 
     format!("differs: {request}\n    plain {plain}\n    {other} {said}")
 }
 
-/// The two lines of a request.
-fn listed(request: Request, answer: &Answer) -> Result<Listed, String> {
-    let (is_part, place, card, text) = match request {
-        Request::Total { card, text } => (false, 0, card, text),
-        Request::Part { place, card, text } => (true, place, card, text),
-        Request::Shift { .. } | Request::Write { .. } => {
-            return Err(format!("no request of a list: {request}"));
-        }
-    };
-    let run = run_before(&text);
+/// The card of a request, and its two lines.
+fn listed(place: Option<u64>, card: &Card, text: &[u8], answer: &Answer) -> Result<Listed, String> {
+    let run = run_before(text);
     let bytes = &text[run..];
     if run + 2 * bytes.len() + 1 > ROOM || bytes.len() > usize::from(u16::MAX) {
         return Err(format!("a text of {} bytes has no room", text.len()));
     }
     let position = answer.position.ok_or("an answer has no position")?;
     let fields = [
-        stored::flag(is_part),
-        hex(&place.to_le_bytes()),
+        stored::flag(place.is_some()),
+        hex(&place.unwrap_or(0).to_le_bytes()),
         hex(&(run as u32).to_le_bytes()),
         hex(&(bytes.len() as u16).to_le_bytes()),
         hex(&[answer.number]),
@@ -206,7 +202,7 @@ fn listed(request: Request, answer: &Answer) -> Result<Listed, String> {
         stored::length(answer.length),
     ];
     Ok(Listed {
-        card,
+        card: card.clone(),
         lines: format!("{}\n{}\n", fields.concat(), hex(bytes)),
         number: answer.number,
     })
@@ -245,7 +241,10 @@ impl<Out: Write> List<Out> {
     }
 
     fn add(&mut self, listed: Listed) -> io::Result<()> {
-        let same_card = self.held.last().is_some_and(|last| last.card == listed.card);
+        let same_card = self
+            .held
+            .last()
+            .is_some_and(|last| last.card == listed.card);
         if !same_card || self.held.len() == MOST_UNDER_A_CARD {
             self.write_held()?;
         }

@@ -137,6 +137,23 @@ pub enum Request {
 }
 
 impl Request {
+    /// A text read: its total, or one part from a place.
+    pub fn reading(place: Option<u64>, card: Card, text: Vec<u8>) -> Self {
+        match place {
+            None => Request::Total { card, text },
+            Some(place) => Request::Part { place, card, text },
+        }
+    }
+
+    /// Place, card and text, for those requests that only read.
+    pub fn as_reading(&self) -> Option<(Option<u64>, &Card, &[u8])> {
+        match self {
+            Request::Total { card, text } => Some((None, card, text)),
+            Request::Part { place, card, text } => Some((Some(*place), card, text)),
+            Request::Shift { .. } | Request::Write { .. } => None,
+        }
+    }
+
     /// The card, for those requests that have one.
     pub fn card(&self) -> Option<&Card> {
         match self {
