@@ -28,7 +28,7 @@ use crate::long_texts;
 use crate::make::Maker;
 use crate::make_odd::OddMaker;
 use crate::plain;
-use crate::request::{Answer, Card, Request, hex};
+use crate::request::{Answer, Card, RUN_WORTH_FOLDING, Request, hex};
 use crate::stored;
 
 /// The seed of the stored list, and how many of its requests are made by it.
@@ -37,9 +37,6 @@ const MADE: usize = 4_200;
 
 /// On the fly, so many cards are tried with long texts.
 const CARDS_FOR_LONG_TEXTS: usize = 10;
-
-/// A run shorter than this is written out.
-const RUN_WORTH_FOLDING: usize = 24;
 
 /// What the program has room for: a run, and the line behind it.
 const ROOM: usize = 81_920;

@@ -22,7 +22,9 @@ pub fn length(length: Length) -> String {
 /// stored form. The last row is filled with zeros where the size ends within
 /// it.
 pub fn card_lines(card: &Card) -> String {
-    let mut lines = switches(card) + &set(&card.inner) + &set(&card.outer);
+    let mut lines = card.switches.in_order().map(flag).concat();
+    lines += &set(&card.inner);
+    lines += &set(&card.outer);
     let _ = write!(lines, "{:02x}", card.conjunctions.count);
     for (size, letters) in card.conjunctions.slots {
         let _ = write!(lines, "{size:02x}{}", hex(&letters));
@@ -35,20 +37,6 @@ pub fn card_lines(card: &Card) -> String {
         let _ = writeln!(lines, "{}", hex(&stored));
     }
     lines
-}
-
-fn switches(card: &Card) -> String {
-    let switches = &card.switches;
-    let in_order = [
-        switches.negatives,
-        switches.fractions,
-        switches.exponents,
-        switches.infinity,
-        switches.ago,
-        switches.sign_delimiter,
-        switches.unit_delimiter,
-    ];
-    in_order.map(flag).concat()
 }
 
 /// A set byte for byte: byte b is bit b % 8 of its byte b / 8.
