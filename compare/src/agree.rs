@@ -31,7 +31,7 @@ pub fn agree(seed: u64, count: u64) -> bool {
                 continue;
             }
             CrateAnswer::Says(answer) => same_answer(answer, &plain_answer),
-            CrateAnswer::Loud(_) => false,
+            CrateAnswer::Unasked(_) | CrateAnswer::Loud(_) => false,
         };
         compared += 1;
         if same {

@@ -75,6 +75,18 @@ fn readings() -> Vec<(&'static str, Answer)> {
     ]
 }
 
+/// The same readings as requests.
+pub fn requests() -> Vec<(Request, Answer)> {
+    let total = |text: &str| Request::Total {
+        card: card_a(),
+        text: text.as_bytes().to_vec(),
+    };
+    readings()
+        .into_iter()
+        .map(|(text, answer)| (total(text), answer))
+        .collect()
+}
+
 /// The answer of a total that is read: its position is the text's length.
 fn reads(text: &str, sign: char, seconds: u64, nanos: u64) -> Answer {
     let length = Length {

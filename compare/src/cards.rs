@@ -2,11 +2,7 @@
 //! and the position that the plain reading finds for each.
 //!
 //! The first line says how often each card is to be checked: eight hexadecimal
-//! digits, the lowest byte first. A card is a line of hexadecimal digits (inner set, outer set, conjunctions,
-//! default kind, size of the table) and a line for each of its rows, in the
-//! stored form of a row. The last row is filled with zeros where the size ends
-//! within it. A set is written byte for byte: byte b is bit b % 8 of its byte
-//! b / 8.
+//! digits, the lowest byte first. The cards follow, in their stored form.
 
 use std::fmt::Write as _;
 use std::fs;
@@ -14,8 +10,9 @@ use std::fs;
 use crate::card_a::{card_a, row};
 use crate::limits;
 use crate::plain;
-use crate::request::{ByteSet, Card, hex};
-use crate::table::{KINDS, ROW_BYTES, table_bytes};
+use crate::request::{ByteSet, Card};
+use crate::stored::card_lines;
+use crate::table::{KINDS, table_bytes};
 
 /// Each card is checked once; whoever counts instructions writes another line.
 const ONCE: &str = "01000000\n";
@@ -99,27 +96,4 @@ fn ends_of_kind(kind: usize) -> Vec<Card> {
             ..card_a()
         })
         .collect()
-}
-
-fn card_lines(card: &Card) -> String {
-    let mut line = set_digits(&card.inner) + &set_digits(&card.outer);
-    let _ = write!(line, "{:02x}", card.conjunctions.count);
-    for (size, letters) in card.conjunctions.slots {
-        let _ = write!(line, "{size:02x}{}", hex(&letters));
-    }
-    let _ = writeln!(line, "{:02x}{:04x}", card.kind, card.table.len());
-    for row in card.table.chunks(ROW_BYTES) {
-        let mut stored = row.to_vec();
-        stored.resize(ROW_BYTES, 0);
-        let _ = writeln!(line, "{}", hex(&stored));
-    }
-    line
-}
-
-fn set_digits(set: &ByteSet) -> String {
-    let mut bytes = [0_u8; 32];
-    for byte in set.bytes() {
-        bytes[usize::from(byte / 8)] |= 1 << (byte % 8);
-    }
-    hex(&bytes)
 }

@@ -33,7 +33,9 @@ pub enum CrateAnswer {
     Says(Answer),
     /// Document 01 leaves the request out of the comparison.
     LeftOut,
-    /// The crate cannot be asked, or did what it should never do.
+    /// The crate cannot be asked, and why.
+    Unasked(String),
+    /// The crate did what it should never do.
     Loud(String),
 }
 
@@ -42,6 +44,7 @@ impl fmt::Display for CrateAnswer {
         match self {
             CrateAnswer::Says(answer) => answer.fmt(out),
             CrateAnswer::LeftOut => out.write_str("-"),
+            CrateAnswer::Unasked(why) => write!(out, "crate cannot be asked: {why}"),
             CrateAnswer::Loud(what) => write!(out, "crate {what}"),
         }
     }
@@ -51,12 +54,12 @@ pub fn ask(request: &Request) -> CrateAnswer {
     let asked = catch_unwind(AssertUnwindSafe(|| match request {
         Request::Total { card, text } => ask_total(card, text),
         Request::Part { place, card, text } => ask_part(card, text, *place),
-        Request::Shift { .. } => Err("has no shift total".to_string()),
-        Request::Write { .. } => Err("has no writer".to_string()),
+        Request::Shift { .. } => Err("it has no shift total".to_string()),
+        Request::Write { .. } => Err("it has no writer".to_string()),
     }));
     match asked {
         Ok(Ok(answer)) => answer,
-        Ok(Err(what)) => CrateAnswer::Loud(what),
+        Ok(Err(why)) => CrateAnswer::Unasked(why),
         Err(_) => CrateAnswer::Loud("panicked".to_string()),
     }
 }
@@ -65,10 +68,10 @@ pub fn ask(request: &Request) -> CrateAnswer {
 /// these; a delimiter that splits a letter would even be unsound.
 fn check_domain(card: &Card, text: &[u8]) -> Result<(), String> {
     if !plain::accepts(card) {
-        return Err("cannot be asked: the settings or the table are not accepted".to_string());
+        return Err("the settings or the table are not accepted".to_string());
     }
     if text.len() > plain::MOST_TEXT_BYTES {
-        return Err("cannot be asked: the text is too long".to_string());
+        return Err("the text is too long".to_string());
     }
     Ok(())
 }
@@ -115,7 +118,7 @@ fn ask_part(card: &Card, text: &[u8], place: u64) -> Result<CrateAnswer, String>
     let rest = usize::try_from(place)
         .ok()
         .and_then(|place| text.get(place..))
-        .ok_or("cannot be asked: the place is beyond the text or within a letter")?;
+        .ok_or("the place is beyond the text or within a letter")?;
     with_config(card, |config, units| {
         let mut parser = ReprParserMultiple::new(rest);
         let (mut read, next) = match parser.parse(config, units, None, None) {
@@ -151,7 +154,7 @@ fn refusal(error: ParseError, base: u64) -> Result<CrateAnswer, String> {
         ParseError::NegativeExponentOverflow => (4, Some(0)),
         ParseError::NegativeNumber => (5, Some(0)),
         ParseError::InvalidInput(_) => (6, None),
-        unexpected => return Err(format!("said {unexpected:?}")),
+        unexpected => return Ok(CrateAnswer::Loud(format!("said {unexpected:?}"))),
     };
     said(Answer {
         number,
@@ -202,7 +205,7 @@ fn with_config<Answered>(
     let mut config = Config::new();
     config.default_unit = *KINDS
         .get(usize::from(card.kind))
-        .ok_or("cannot be asked: no such default kind")?;
+        .ok_or("no such default kind")?;
     config.allow_multiple = true;
     config.conjunctions = Some(&words);
     config.inner_delimiter = is_inner;
@@ -229,10 +232,10 @@ impl Units {
     fn from_table(table: &[u8]) -> Result<Self, String> {
         let mut rows = Vec::new();
         for bytes in table.chunks(ROW_BYTES) {
-            let row = Row::from_bytes(bytes).ok_or("cannot be asked: a row is malformed")?;
+            let row = Row::from_bytes(bytes).ok_or("a row is malformed")?;
             let kind = *KINDS
                 .get(usize::from(row.kind))
-                .ok_or("cannot be asked: a row has no such kind")?;
+                .ok_or("a row has no such kind")?;
             let name = as_utf8(&row.name, "unit name")?.to_string();
             rows.push((name, kind, Multiplier(row.coefficient, row.power)));
         }
@@ -254,5 +257,5 @@ impl TimeUnitsLike for Units {
 }
 
 fn as_utf8<'a>(bytes: &'a [u8], what: &str) -> Result<&'a str, String> {
-    std::str::from_utf8(bytes).map_err(|_| format!("cannot be asked: a {what} is not UTF-8"))
+    std::str::from_utf8(bytes).map_err(|_| format!("a {what} is not UTF-8"))
 }

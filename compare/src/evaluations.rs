@@ -5,19 +5,22 @@
 //! WHOLE.FRACT EXPONENT SIGN COEFFICIENT UP DOWN SIGN SECONDS NANOS
 //! ```
 //!
-//! The digits, the exponent and the coefficient with their signs, the typed
-//! sign, the multiplier's power as one number up and one down, and the answer.
-//! Every line is filled with spaces to one width, so that a program can read a
-//! case at a time.
+//! The digits of the number, and behind a space the other fields as
+//! hexadecimal digits with nothing between them: the exponent with its sign,
+//! the typed sign, the coefficient with its sign, the multiplier's power as one
+//! number up and one down, and the answer. Every line is filled with spaces to
+//! one width, so that a program can read a case at a time.
 
 use fundu_core::parse::{DurationRepr, Fract, Whole};
 use fundu_core::time::{Multiplier, TimeUnit};
 
 use crate::crate_side::length_of;
+use crate::request::{Length, hex};
 use crate::rng::Random;
+use crate::stored;
 
 /// Bytes of a line, its newline included.
-const LINE_BYTES: usize = 160;
+const LINE_BYTES: usize = 112;
 
 /// Cases that only the generator of random numbers picks.
 const RANDOM_CASES: usize = 1_200;
@@ -199,22 +202,24 @@ fn digits(rng: &mut Random, most: u64) -> String {
 }
 
 fn line_of(case: &Case) -> String {
-    let up = case.power.max(0);
-    let down = -i32::from(case.power.min(0));
-    format!(
-        "{}.{} {:+} {} {:+} {up} {down} {}",
-        case.whole,
-        case.fract,
-        case.exponent,
-        if case.negative { '-' } else { '+' },
-        case.coefficient,
-        answer(case)
-    )
+    let up = case.power.max(0).unsigned_abs();
+    let down = case.power.min(0).unsigned_abs();
+    let fields = [
+        stored::flag(case.exponent < 0),
+        hex(&case.exponent.unsigned_abs().to_le_bytes()),
+        stored::flag(case.negative),
+        stored::flag(case.coefficient < 0),
+        hex(&case.coefficient.unsigned_abs().to_le_bytes()),
+        hex(&up.to_le_bytes()),
+        hex(&down.to_le_bytes()),
+        stored::length(answer(case)),
+    ];
+    format!("{}.{} {}", case.whole, case.fract, fields.concat())
 }
 
 /// The crate evaluates the spans of the digits, leading zeros dropped as its
 /// own reader does.
-fn answer(case: &Case) -> String {
+fn answer(case: &Case) -> Length {
     let text = format!("{}.{}", case.whole, case.fract);
     let zeros = case.whole.bytes().take_while(|byte| *byte == b'0').count();
     let point = case.whole.len();
@@ -229,5 +234,5 @@ fn answer(case: &Case) -> String {
         ..DurationRepr::default()
     };
     let length = repr.parse().expect("a finite number is always evaluated");
-    length_of(length).to_string()
+    length_of(length)
 }

@@ -78,6 +78,17 @@ pub fn cards() -> Vec<Card> {
     cards
 }
 
+/// The totals and parts of the list, with their answers.
+pub fn requests() -> Result<Vec<(Request, Answer)>, String> {
+    let mut requests = Vec::new();
+    for case in cases() {
+        if case.request.as_reading().is_some() {
+            requests.push((case.request, outcome(&case.answer)?.answer));
+        }
+    }
+    Ok(requests)
+}
+
 // The commands.
 
 /// Writes the requests into one file and the answers into another.

@@ -9,14 +9,18 @@ mod cards;
 mod crate_side;
 mod evaluations;
 mod limits;
+mod long_texts;
 mod make;
 mod make_card;
+mod make_odd;
 mod make_text;
 mod natural;
 mod plain;
 mod points;
+mod replay;
 mod request;
 mod rng;
+mod stored;
 mod table;
 mod tally;
 
@@ -39,6 +43,8 @@ usage: compare make SEED COUNT          make requests
        compare limits                   the hand-written cases at the limits, against plain
        compare limits REQUESTS ANSWERS  the same cases, written into two files
        compare cards CARDS FOUND        cards, and what the plain reading finds of each
+       compare replay LIST FOUND        requests with answers, and what replay prints of them
+       compare scale SEED COUNT FOUND   the same made on the fly, the list on standard output
        compare antt REQUESTS ANSWERS DIR  both as antt modules in the folder DIR
 ";
 
@@ -60,6 +66,8 @@ fn main() -> ExitCode {
             Ok(true)
         }
         ["cards", cards, found] => cards::write_files(cards, found),
+        ["replay", list, found] => replay::write_files(list, found),
+        ["scale", seed, count, found] => print_requests(seed, count, found),
         ["antt", requests, answers, folder] => write_antt(requests, answers, folder),
         _ => Err(USAGE.to_string()),
     };
@@ -95,6 +103,10 @@ fn write_antt(requests: &str, answers: &str, folder: &str) -> Result<bool, Strin
     let held = antt::write_modules(&read(requests)?, &read(answers)?, Path::new(folder))?;
     println!("{held}");
     Ok(true)
+}
+
+fn print_requests(seed: &str, count: &str, found: &str) -> Result<bool, String> {
+    replay::print(number(seed)?, number(count)?, found)
 }
 
 fn agree_on(seed: &str, count: &str) -> Result<bool, String> {

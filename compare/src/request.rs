@@ -15,8 +15,8 @@ use std::fmt;
 /// should be an error and not an exhausted memory.
 const MOST_FIELD_BYTES: usize = 1 << 24;
 
-/// A run of equal bytes at least this long is printed as one repeated segment.
-const RUN_WORTH_FOLDING: usize = 24;
+/// A run of equal bytes at least this long is not written out.
+pub const RUN_WORTH_FOLDING: usize = 24;
 
 #[derive(Clone, PartialEq, Eq)]
 pub struct ByteSet([bool; 256]);
@@ -50,6 +50,21 @@ pub struct Switches {
     pub ago: bool,
     pub sign_delimiter: bool,
     pub unit_delimiter: bool,
+}
+
+impl Switches {
+    /// In the order in which document 01 names them.
+    pub fn in_order(&self) -> [bool; 7] {
+        [
+            self.negatives,
+            self.fractions,
+            self.exponents,
+            self.infinity,
+            self.ago,
+            self.sign_delimiter,
+            self.unit_delimiter,
+        ]
+    }
 }
 
 /// The conjunctions as they are lent: a count and four slots, each a length and
@@ -137,6 +152,23 @@ pub enum Request {
 }
 
 impl Request {
+    /// A text read: its total, or one part from a place.
+    pub fn reading(place: Option<u64>, card: Card, text: Vec<u8>) -> Self {
+        match place {
+            None => Request::Total { card, text },
+            Some(place) => Request::Part { place, card, text },
+        }
+    }
+
+    /// Place, card and text, for those requests that only read.
+    pub fn as_reading(&self) -> Option<(Option<u64>, &Card, &[u8])> {
+        match self {
+            Request::Total { card, text } => Some((None, card, text)),
+            Request::Part { place, card, text } => Some((Some(*place), card, text)),
+            Request::Shift { .. } | Request::Write { .. } => None,
+        }
+    }
+
     /// The card, for those requests that have one.
     pub fn card(&self) -> Option<&Card> {
         match self {
@@ -216,16 +248,7 @@ impl fmt::Display for Card {
 
 impl fmt::Display for Switches {
     fn fmt(&self, out: &mut fmt::Formatter<'_>) -> fmt::Result {
-        let in_order = [
-            self.negatives,
-            self.fractions,
-            self.exponents,
-            self.infinity,
-            self.ago,
-            self.sign_delimiter,
-            self.unit_delimiter,
-        ];
-        for on in in_order {
+        for on in self.in_order() {
             out.write_str(if on { "1" } else { "0" })?;
         }
         Ok(())

@@ -18,8 +18,8 @@ add-parse-digits c = search needs
 parse-digits-requires : tie.Need-parse-digits-requires
 parse-digits-requires c κs = search needs
 
-rest-of-requires : tie.Need-rest-of-requires
-rest-of-requires c κs = search needs
+rest-at-requires : tie.Need-rest-at-requires
+rest-at-requires c κs = search needs
 
 evaluate-requires : tie.Need-evaluate-requires
 evaluate-requires c κs =
@@ -27,8 +27,8 @@ evaluate-requires c κs =
     let whole = fract .before .before in
     rw (whole .parse-digits-strip-zeros .ensures, fract .parse-digits .ensures) (spans-both _ 0 _ zero-le (omega (arith, fract .before .if1 .left)))
 
-same-requires : tie.Need-same-requires
-same-requires c κs = search needs
+same-length-requires : tie.Need-same-length-requires
+same-length-requires c κs = search needs
 
 returns-2 : tie.Need-returns-2
 returns-2 c = search needs
@@ -41,7 +41,7 @@ agrees-spec =
     returns
     add-parse-digits
     parse-digits-requires
-    rest-of-requires
+    rest-at-requires
     evaluate-requires
-    same-requires
+    same-length-requires
     returns-2)

@@ -1,10 +1,10 @@
--- `cards::read_table` is safe and ends: the table keeps its length, and each row brings its end nearer. Assumes nothing.
+-- `lists::cards::read_table` is safe and ends: the table keeps its length, and each row brings its end nearer. Assumes nothing.
 use mathlib.Core.Path.{_≡_}
 use Prim.Native.Nat.{_-_}
 use borrow.Author.Needs.{needs}
 use lib.ListN.{length}
-use Rattle.cards.proofs.read_table.Statement.{statement}
-use Rattle.cards.proofs.read_table.Tie as tie
+use Rattle.lists.proofs.cards.read_table.Statement.{statement}
+use Rattle.lists.proofs.cards.read_table.Tie as tie
 
 abbrev Inv-loop : tie.InvT-loop
 Inv-loop table₀ size at₀ table at = length table ≡ length table₀

@@ -1,0 +1,117 @@
+//! Making requests that the crate cannot be asked about, or seldom is, out of
+//! those that it can: wrong cards, places beyond the text, bytes that are no
+//! UTF-8, and texts about the largest size.
+
+use crate::make::Maker;
+use crate::plain::MOST_TEXT_BYTES;
+use crate::request::{ByteSet, Card, Request};
+use crate::rng::Random;
+use crate::table::ROW_BYTES;
+
+/// One request in so many has a long text, which takes much room and time.
+const REQUESTS_TO_A_LONG_ONE: u64 = 500;
+
+/// Requests as `Maker` makes them, some of them made odd.
+pub struct OddMaker {
+    maker: Maker,
+    random: Random,
+}
+
+impl OddMaker {
+    pub fn new(seed: u64) -> Self {
+        Self {
+            maker: Maker::new(seed),
+            // Any other seed, so that the two do not draw the same numbers.
+            random: Random::new(!seed),
+        }
+    }
+}
+
+impl Iterator for OddMaker {
+    type Item = Request;
+
+    fn next(&mut self) -> Option<Request> {
+        let made = self.maker.next()?;
+        let (mut place, card, text) = made.as_reading()?;
+        let (mut card, mut text) = (card.clone(), text.to_vec());
+        let random = &mut self.random;
+        if random.below(REQUESTS_TO_A_LONG_ONE) == 0 {
+            lengthen(random, &mut text);
+            return Some(Request::reading(place, card, text));
+        }
+        match random.below(100) {
+            0..=3 => spoil(random, &mut card),
+            4..=6 => damage(random, &mut text),
+            7..=9 => place = Some(odd_place(random, text.len() as u64)),
+            _ => {}
+        }
+        Some(Request::reading(place, card, text))
+    }
+}
+
+/// Changes one thing of a card, which mostly makes it wrong.
+fn spoil(random: &mut Random, card: &mut Card) {
+    let byte = random.below(256) as u8;
+    let slot = random.below(4) as usize;
+    match random.below(10) {
+        0 => card.inner = with_byte(&card.inner, byte),
+        1 => card.outer = with_byte(&card.outer, byte),
+        2 => card.conjunctions.count = *random.pick(&[1, 2, 3, 4, 5, 6, byte]),
+        3 => card.conjunctions.slots[slot].0 = *random.pick(&[0, 1, 8, 9, byte]),
+        4 => card.conjunctions.slots[slot].1[random.below(8) as usize] = byte,
+        5 => card.kind = *random.pick(&[7, 8, 9, byte]),
+        6 => card.table.resize(random.below(2_200) as usize, 0),
+        7 => {
+            let rows = card.table.len() / ROW_BYTES;
+            let size = random.below(rows as u64 + 1) as usize * ROW_BYTES;
+            card.table.extend_from_within(..size);
+        }
+        _ => {
+            if !card.table.is_empty() {
+                let place = random.below(card.table.len() as u64) as usize;
+                card.table[place] = *random.pick(&[0, 1, 8, 127, 128, 255, byte]);
+            }
+        }
+    }
+}
+
+fn with_byte(set: &ByteSet, byte: u8) -> ByteSet {
+    let mut bytes = set.bytes();
+    bytes.push(byte);
+    ByteSet::of(&bytes)
+}
+
+/// Puts any bytes, most of which are no letter, into a text.
+fn damage(random: &mut Random, text: &mut Vec<u8>) {
+    for _ in 0..=random.below(2) {
+        let place = random.below(text.len() as u64 + 1) as usize;
+        let byte = random.below(256) as u8;
+        if place < text.len() && random.chance(50) {
+            text[place] = byte;
+        } else {
+            text.insert(place, byte);
+        }
+    }
+}
+
+/// Any place of a text of that size, its end, or a place beyond it.
+fn odd_place(random: &mut Random, size: u64) -> u64 {
+    match random.below(8) {
+        0..=2 => random.below(size + 1),
+        3 => size,
+        4 => size + 1,
+        5 => size + random.below(5_000),
+        6 => size.wrapping_add(random.next()),
+        _ => *random.pick(&[1 << 16, 1 << 32, 1 << 63, u64::MAX]),
+    }
+}
+
+/// The text over and over, to about the largest size.
+fn lengthen(random: &mut Random, text: &mut Vec<u8>) {
+    let size = MOST_TEXT_BYTES - 2 + random.below(5) as usize;
+    if text.is_empty() {
+        text.push(b'0');
+    }
+    *text = text.repeat(size / text.len() + 1);
+    text.truncate(size);
+}

@@ -1,0 +1,126 @@
+// Cards of a list: a line of hexadecimal digits (switches, inner set, outer set, conjunctions, default kind, size of the table)
+// and then the rows of the table, each in its stored form, the last one whole. Sizes, counts and kinds can be wrong, since
+// refusal 7 is about such cards.
+use crate::fields::byte_at;
+use crate::fields::flag_at;
+use crate::fields::further;
+use crate::fields::short_at;
+use crate::fields::word_at;
+use crate::lines::read_line;
+use rules::ByteSet;
+use rules::Conjunction;
+use rules::Settings;
+use stored::restore_row;
+
+// Where each field of a card's line stands.
+const INNER_AT: usize = 14;
+
+const OUTER_AT: usize = 78;
+
+const COUNT_AT: usize = 142;
+
+const CONJUNCTIONS_AT: usize = 144;
+
+const CONJUNCTION: usize = 18;
+
+const KIND_AT: usize = 216;
+
+const SIZE_AT: usize = 218;
+
+// Bytes of a card's line, of a row and of its stored form, the newlines included.
+const HEAD: usize = 223;
+
+const ROW: usize = 32;
+
+const STORED: usize = 65;
+
+// The longest table of a list: four times as many rows as a table may have.
+pub const MOST_BYTES: usize = 8_192;
+
+// Settings, and how many bytes the table has.
+pub struct Card {
+    pub settings: Settings,
+    pub size: usize,
+}
+
+pub enum Next {
+    End,
+    Card(Card),
+}
+
+fn set_at(line: &[u8], place: usize) -> ByteSet {
+    ByteSet {
+        word0: word_at(line, place),
+        word1: word_at(line, further(place, 16)),
+        word2: word_at(line, further(place, 32)),
+        word3: word_at(line, further(place, 48)),
+    }
+}
+
+fn conjunction_at(line: &[u8], place: usize) -> Conjunction {
+    Conjunction {
+        size: byte_at(line, place),
+        letters: word_at(line, further(place, 2)),
+    }
+}
+
+fn settings_of(line: &[u8]) -> Settings {
+    Settings {
+        negatives: flag_at(line, 0),
+        fractions: flag_at(line, 2),
+        exponents: flag_at(line, 4),
+        infinity: flag_at(line, 6),
+        ago: flag_at(line, 8),
+        after_sign: flag_at(line, 10),
+        before_unit: flag_at(line, 12),
+        inner: set_at(line, INNER_AT),
+        outer: set_at(line, OUTER_AT),
+        conjunctions: byte_at(line, COUNT_AT),
+        first: conjunction_at(line, CONJUNCTIONS_AT),
+        second: conjunction_at(line, CONJUNCTIONS_AT + CONJUNCTION),
+        third: conjunction_at(line, CONJUNCTIONS_AT + 2 * CONJUNCTION),
+        fourth: conjunction_at(line, CONJUNCTIONS_AT + 3 * CONJUNCTION),
+        default_kind: byte_at(line, KIND_AT),
+    }
+}
+
+// The next row of the list, put where it belongs in the table. False where the list ends or a line is no row.
+fn read_row(table: &mut [u8], at: usize) -> bool {
+    let mut line = [0u8; STORED];
+    if !read_line(&mut line) {
+        return false;
+    }
+    if table.len() < at {
+        return false;
+    }
+    restore_row(&line, &mut table[at..])
+}
+
+// The rows of a table of so many bytes.
+fn read_table(table: &mut [u8], size: usize) -> bool {
+    let mut at = 0;
+    while at < size {
+        if !read_row(table, at) {
+            return false;
+        }
+        if MOST_BYTES < at {
+            return false;
+        }
+        at += ROW;
+    }
+    true
+}
+
+// The next card of the list; its table is put at the start of the buffer.
+pub fn next_card(table: &mut [u8]) -> Next {
+    let mut line = [0u8; HEAD];
+    if !read_line(&mut line) {
+        return Next::End;
+    }
+    let settings = settings_of(&line);
+    let size = short_at(&line, SIZE_AT) as usize;
+    if !read_table(table, size) {
+        return Next::End;
+    }
+    Next::Card(Card { settings, size })
+}

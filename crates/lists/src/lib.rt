@@ -1,0 +1,5 @@
+// What the programs of the test share to read their stored lists: lines, the fields of a line, cards and texts.
+pub mod cards;
+pub mod fields;
+pub mod lines;
+pub mod texts;
