@@ -9,7 +9,7 @@ use lists::cards::next_card;
 use lists::fields::half_at;
 use lists::lines::first_bytes;
 use lists::lines::read_line;
-use rules::Refusal;
+use reading::answers::refusal;
 use rules::Settings;
 use settings::Checked;
 
@@ -28,26 +28,16 @@ fn check_often(settings: Settings, table: &[u8], rounds: u32) -> Checked {
     card_check(settings, table)
 }
 
-// The position that document 01 gives each cause of refusal 7.
-fn position(cause: Refusal) -> u64 {
-    match cause {
-        Refusal::Delimiters => 65,
-        Refusal::Conjunctions => 66,
-        Refusal::DefaultKind => 67,
-        Refusal::TableSize => 64,
-        Refusal::BadRow(i) => i as u64,
-        _ => 99,
-    }
-}
-
 fn print(checked: Checked) {
     match checked {
         Checked::Accepted => {
             io::write_all(STDOUT_FILENO, b"0 0\n");
         }
         Checked::Refused(cause) => {
-            io::write_all(STDOUT_FILENO, b"7 ");
-            io::print_decimal(STDOUT_FILENO, position(cause));
+            let answer = refusal(cause);
+            io::print_decimal(STDOUT_FILENO, answer.number as u64);
+            io::write_all(STDOUT_FILENO, b" ");
+            io::print_decimal(STDOUT_FILENO, answer.position as u64);
             io::write_all(STDOUT_FILENO, b"\n");
         }
     }

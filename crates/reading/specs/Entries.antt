@@ -14,12 +14,12 @@ use Rattle.rules.specs.NumbersHandedBack.{got, refused, _>>_, unless, done, ref
 use Rattle.rules.specs.SettingsAndUnitTable.{card-check}
 use Rattle.rules.specs.Evaluation.{part-reading, total}
 use Rattle.rules.specs.WhatEveryEntryOwes.{read-part, part-answer, read-total, total-answer}
-use Rattle.card.specs.Laws.Accepted.{card-table, row-in-range}
-use Rattle.steps.specs.Units.{Products}
+use Rattle.card.specs.Laws.Accepted.{card-table, row-in-range, lookup-empty}
+use Rattle.steps.specs.Units.{Readable}
 
--- an accepted card's products are in range
-pub card-products : (s : Settings) (table : List ℕ) → card-check s table ≡ got tt → Products table
-card-products s table good = row-in-range s table (card-table s table good)
+-- an accepted card's table can be read
+pub card-readable : (s : Settings) (table : List ℕ) → card-check s table ≡ got tt → Readable table
+card-readable s table good = record { products = row-in-range s table (card-table s table good); named = lookup-empty s table (card-table s table good) }
 
 module _ (s : Settings) (table text : List ℕ) where
   module _ (place : ℕ) where

@@ -151,6 +151,11 @@ module _ (text : List ℕ) (place : ℕ) where
   unfolding class-at ends if_then_else_
   class-here h = rw (lt-leb (length text) place h)
 
+  -- a byte that is known to be of a class has it
+  pub class-known : (c : ℕ) → place < length text → is c (getD text place 0) ≡ true → c ≡ class-at text place
+  unfolding is
+  class-known c h e = sym (eqb-true _ c e) ∙ class-here h
+
 module _ (s : Settings) (text : List ℕ) (place : ℕ) where
   pub signed-refused : {cause : Refusal} → sign-step s text place ≡ refused cause → refused cause ≡ signed-start s text place
   unfolding signed-start
@@ -169,10 +174,10 @@ module _ (s : Settings) (text : List ℕ) (place : ℕ) where
     unfolding part-start ends if_then_else_
     start-signed = rw (lt-leb (length text) place h)
 
-    pub start-plain : {c : ℕ} → c ≡ class (getD text place 0) → (c ≡ SIGN → ⊥) → got (record { negative = false; class = c; next = place }) ≡ part-start s text place
+    pub start-plain : {c : ℕ} → c ≡ class-at text place → (c ≡ SIGN → ⊥) → got (record { negative = false; class = c; next = place }) ≡ part-start s text place
     unfolding is
     start-plain f other =
-        signed-got (sym (sign-other s text place h (ne-eqb _ SIGN (λ e. other (f ∙ e))))) (f ∙ class-here text place h) ∙ start-signed
+        signed-got (sym (sign-other s text place h (ne-eqb _ SIGN (λ e. other (f ∙ sym (class-here text place h) ∙ e))))) f ∙ start-signed
 
   -- the class is that of the byte at the next place
   pub start-class : {start : Start} → part-start s text place ≡ got start → start .class ≡ class-at text (start .next)

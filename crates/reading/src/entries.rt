@@ -38,7 +38,7 @@ pub fn read_total_checked(s: Settings, table: &[u8], text: &[u8]) -> Answer
     requires { ⌜ card-check s (now table) ≡ got tt ⌝ }
     ensures { λ r. ⌜ r ≡ total-answer s (now (table .entry)) (now (text .entry)) ⌝ }
 {
-    if text.len() > LONGEST_TEXT {
+    if LONGEST_TEXT < text.len() {
         return refusal(Refusal::TextTooLong);
     }
     match parse_multiple(s, table, text) {
@@ -50,7 +50,8 @@ pub fn read_total_checked(s: Settings, table: &[u8], text: &[u8]) -> Answer
 pub fn read_part(s: Settings, table: &[u8], text: &[u8], place: usize) -> Answer
     ensures { λ r. ⌜ r ≡ part-answer s (now (table .entry)) (now (text .entry)) place ⌝ }
 {
-    match card_check(s, table) {
+    let card = card_check(s, table);
+    match card {
         Checked::Refused(cause) => refusal(cause),
         Checked::Accepted => read_part_checked(s, table, text, place),
     }

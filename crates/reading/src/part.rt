@@ -3,7 +3,7 @@ ghost use mathlib.Core.Path.{_≡_};
 ghost use Rattle.rules.specs.declared.Settings.{Settings};
 ghost use Rattle.rules.specs.ReadingOnePart.{part};
 ghost use Rattle.rules.specs.Evaluation.{allowed, part-reading};
-ghost use Rattle.steps.specs.Units.{Products};
+ghost use Rattle.steps.specs.Units.{Readable};
 ghost use Rattle.reading.specs.Outcomes as outcomes;
 ghost use Rattle.reading.specs.Typed.{typed-part};
 use crate::start::StartRead;
@@ -26,7 +26,7 @@ pub enum ReadingRead {
 
 // A part up to its connection.
 fn typed_part(s: Settings, table: &[u8], text: &[u8], place: usize) -> PartRead
-    requires { ⌜ Products (now table) ⌝ }
+    requires { ⌜ Readable (now table) ⌝ }
     ensures { λ r. ⌜ outcomes.part r ≡ typed-part s (now (table .entry)) (now (text .entry)) place ⌝ }
 {
     match part_start(s.after_sign, s.inner, text, place) {
@@ -43,7 +43,7 @@ fn typed_part(s: Settings, table: &[u8], text: &[u8], place: usize) -> PartRead
 }
 
 fn connected_part(s: Settings, table: &[u8], text: &[u8], place: usize) -> PartRead
-    requires { ⌜ Products (now table) ⌝ }
+    requires { ⌜ Readable (now table) ⌝ }
     ensures { λ r. ⌜ outcomes.part r ≡ part s (now (table .entry)) (now (text .entry)) place ⌝ }
 {
     match typed_part(s, table, text, place) {
@@ -71,7 +71,7 @@ fn allowed(negatives: bool, place: usize, next: usize, length: Length) -> Readin
 }
 
 pub fn parse_part(s: Settings, table: &[u8], text: &[u8], place: usize) -> ReadingRead
-    requires { ⌜ Products (now table) ⌝ }
+    requires { ⌜ Readable (now table) ⌝ }
     ensures { λ r. ⌜ outcomes.reading r ≡ part-reading s (now (table .entry)) (now (text .entry)) place ⌝ }
 {
     match connected_part(s, table, text, place) {

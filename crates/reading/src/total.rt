@@ -1,7 +1,7 @@
 // A text's total: its parts one after another, each sum clamped in order.
 ghost use mathlib.Core.Path.{_≡_};
 ghost use Rattle.rules.specs.Evaluation.{total};
-ghost use Rattle.steps.specs.Units.{Products};
+ghost use Rattle.steps.specs.Units.{Readable};
 ghost use Rattle.reading.specs.Outcomes as outcomes;
 use crate::part::ReadingRead;
 use crate::part::parse_part;
@@ -17,7 +17,7 @@ pub enum TotalRead {
 }
 
 pub fn parse_multiple(s: Settings, table: &[u8], text: &[u8]) -> TotalRead
-    requires { ⌜ Products (now table) ⌝ }
+    requires { ⌜ Readable (now table) ⌝ }
     ensures { λ r. ⌜ outcomes.total r ≡ total s (now (table .entry)) (now (text .entry)) ⌝ }
 {
     let mut sum = zero();

@@ -1,7 +1,7 @@
 // What was typed of a part, up to the connection to the next.
 ghost use mathlib.Core.Path.{_≡_};
 ghost use Rattle.rules.specs.declared.Settings.{Settings};
-ghost use Rattle.steps.specs.Units.{Products};
+ghost use Rattle.steps.specs.Units.{Readable};
 ghost use Rattle.reading.specs.Outcomes.{part};
 ghost use Rattle.reading.specs.Typed.{class-at, typed-finite, typed-word, typed-unsigned};
 use rules::ByteSet;
@@ -76,7 +76,7 @@ fn infinite_part(
 
 // Steps 2 to 6, one after another: the first refusal stands.
 fn finite_part(s: Settings, table: &[u8], text: &[u8], negative: bool, place: usize) -> PartRead
-    requires { ⌜ Products (now table) ⌝ }
+    requires { ⌜ Readable (now table) ⌝ }
     ensures { λ r. ⌜ part r ≡ typed-finite s (now (table .entry)) (now (text .entry)) negative place ⌝ }
 {
     let inner = s.inner;
@@ -123,7 +123,7 @@ pub fn unsigned_part(
     class: u8,
     place: usize,
 ) -> PartRead
-    requires { ⌜ Products (now table) ⌝ }
+    requires { ⌜ Readable (now table) ⌝ }
     requires { ⌜ class ≡ class-at (now text) place ⌝ }
     ensures { λ r. ⌜ part r ≡ typed-unsigned s (now (table .entry)) (now (text .entry)) negative place ⌝ }
 {

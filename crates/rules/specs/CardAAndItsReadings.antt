@@ -26,10 +26,11 @@ space = record { word0 = 2 ^ 32; word1 = 0; word2 = 0; word3 = 0 }
 unfoldable pub conjunction : String → Conjunction
 conjunction w = record { size = length (ascii w); letters = low-first (ascii w) }
 
--- all switches on but the one after a sign; both sets hold the space; default 3; and so many of two conjunctions
-unfoldable pub card : ℕ → String → String → Settings
-card conjunctions first second = record {
-  negatives = true;
+-- all switches on but the one after a sign, and negatives as given; both sets hold the space; default 3; and so many of two
+-- conjunctions
+unfoldable pub card : Bool → ℕ → String → String → Settings
+card negatives conjunctions first second = record {
+  negatives = negatives;
   fractions = true;
   exponents = true;
   infinity = true;
@@ -48,7 +49,7 @@ card conjunctions first second = record {
 
 -- conjunction `and`
 unfoldable pub card-A : Settings
-card-A = card 1 "and" ""
+card-A = card true 1 "and" ""
 
 -- a row: name, kind, and what coefficient and power come to in two's complement
 unfoldable pub row-of : String → ℕ → ℕ → ℕ → List ℕ
@@ -122,13 +123,14 @@ starred-readings = tt
 -- ---- readings beside them, each of which a wrong definition would miss
 
 -- the limit is tested after the multiplier; nanoseconds are rounded down; a typed sign and `ago` undo each other, and `ago` must
--- be followed by an end, an outer delimiter, a digit or a sign
+-- be followed by an end, an outer delimiter, a digit or a sign; each sum is clamped, and not the last alone
 unfoldable pub beside : List Case
 beside =
     reads "18446744073709551615min" (largest false)
     ∷ reads "0.9ns" (plus 0 0)
     ∷ reads "-2s ago" (plus 2 0)
     ∷ fails "2s agog" 6 3
+    ∷ reads "inf inf -inf" (plus 0 0)
     ∷ []
 
 pub readings-beside : T (all (holds-under card-A table-A) beside)
@@ -137,9 +139,18 @@ readings-beside = tt
 
 -- card A with two conjunctions, `a` before `and`
 unfoldable pub card-A-with-a : Settings
-card-A-with-a = card 2 "a" "and"
+card-A-with-a = card true 2 "a" "and"
 
 -- the first listed conjunction that is a prefix, not the longest
 pub first-listed-reading : T (holds-under card-A-with-a table-A (fails "1s and 2ms" 2 4))
 unfolding computing space conjunction card card-A-with-a row-of table-A same-length same-answer fails holds-under
 first-listed-reading = tt
+
+-- card A with negatives off
+unfoldable pub card-A-without-negatives : Settings
+card-A-without-negatives = card false 1 "and" ""
+
+-- a part is read to its end, connection included, before it is tested for 5; and an earlier part's 5 comes before a later part's 2
+pub forbidden-readings : T (all (holds-under card-A-without-negatives table-A) (fails "-1s and" 2 4 ∷ fails "-1s 1e" 5 0 ∷ []))
+unfolding computing space conjunction card card-A-without-negatives row-of table-A same-length same-answer fails holds-under
+forbidden-readings = tt

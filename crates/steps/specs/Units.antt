@@ -3,8 +3,9 @@ use mathlib.Core.Path.{_≡_, refl, sym, ap, _∙_}
 use mathlib.Core.Bool.{Bool, true, false, not, _||_, Bool·beq, false≢true}
 use mathlib.Core.List.{List, [], _∷_}
 use Prim.Native.Nat.{ℕ, suc, _+_, _≤_, _<_}
+use native.Mathlib.Omega.{arith}
 use borrow.Author.Tests.{le-leb, lt-leb}
-use lib.ListN.{length, getD, drop}
+use lib.ListN.{length, getD, take, drop, length-take, drop-of-length-le}
 use lib.Seq.{slice, getD-drop}
 use Rattle.rules.specs.declared.ByteSet.{ByteSet}
 use Rattle.rules.specs.declared.Settings.{Settings}
@@ -26,9 +27,14 @@ use Rattle.settings.specs.Sets.{either}
 use Rattle.settings.specs.Laws.Sets.{runs, either-holds, first-word}
 use Rattle.steps.specs.Sets.{passes}
 
--- kind times row is in range, of each row
-abbrev pub Products : List ℕ → Type 0
-Products table = (i : ℕ) → i < rows table → in-range (product (row table i)) ≡ true
+-- what an accepted table has: kind times row is in range, of each row, and none has an empty name
+pub record Readable (table : List ℕ) : Type 0 where
+  pub products : (i : ℕ) → i < rows table → in-range (product (row table i)) ≡ true
+  pub named : lookup table [] ≡ Nowhere
+
+-- between two places that do not ascend nothing stands, and nothing has no name
+pub nothing-found : (table text : List ℕ) (place end : ℕ) → Readable table → end ≤ place → Nowhere ≡ lookup table (slice place end text)
+nothing-found table text place end t h = sym (ap (lookup table) (drop-of-length-le (take end text) {i = place} (omega (arith, length-take end text))) ∙ t .named)
 
 -- ---- where a name ends
 

@@ -2,11 +2,12 @@
 ghost use mathlib.Core.Path.{_≡_};
 ghost use mathlib.Core.Bool.{not};
 ghost use Prim.Native.Nat.{ℕ, _<_};
+ghost use lib.Seq.{slice};
 ghost use Rattle.rules.specs.declared.Settings.{Settings};
-ghost use Rattle.rules.specs.SettingsAndUnitTable.{holds};
+ghost use Rattle.rules.specs.SettingsAndUnitTable.{holds, lookup};
 ghost use Rattle.rules.specs.ReadingOnePart.{in-stretch, closes-unit, negated, ago-step, unit-step};
 ghost use Rattle.steps.specs.Outcomes.{unit};
-ghost use Rattle.steps.specs.Units.{Products};
+ghost use Rattle.steps.specs.Units.{Readable};
 use crate::Next;
 use crate::bytes::is_next_duration;
 use crate::delimiters::is_delimiter;
@@ -113,6 +114,17 @@ fn parse_ago(
     }
 }
 
+// The row that has the stretch as its name. A number often has no unit, and then no row is asked.
+fn find_unit(table: &[u8], text: &[u8], place: usize, end: usize) -> Found
+    requires { ⌜ Readable (now table) ⌝ }
+    ensures { λ r. ⌜ r ≡ lookup (now (table .entry)) (slice place end (now (text .entry))) ⌝ }
+{
+    if end <= place {
+        return Found::Nowhere;
+    }
+    lookup(table, text, place, end)
+}
+
 // The stretch looked up. Where no row has it as its name, the place goes back and the part has no unit.
 pub fn parse_time_unit(
     default_kind: u8,
@@ -123,11 +135,11 @@ pub fn parse_time_unit(
     text: &[u8],
     place: usize,
 ) -> UnitRead
-    requires { ⌜ Products (now table) ⌝ }
+    requires { ⌜ Readable (now table) ⌝ }
     ensures { λ r. ⌜ ((s : Settings) → s .«default_kind» ≡ «default_kind» → s .ago ≡ ago → s .inner ≡ inner → s .outer ≡ outer → unit r ≡ unit-step s (now (table .entry)) (now (text .entry)) place) ⌝ }
 {
     let end = past(stops(ago, inner, outer), false, text, place);
-    let Found::Row(i) = lookup(table, text, place, end) else {
+    let Found::Row(i) = find_unit(table, text, place, end) else {
         return UnitRead::Got(Unit {
             multiplier: kind_multiplier(default_kind),
             next: place,

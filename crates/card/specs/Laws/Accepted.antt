@@ -2,7 +2,7 @@
 -- range, and names of which each is one row's alone. Assumes nothing.
 use mathlib.Core.Path.{_≡_, refl, sym, ap, _∙_}
 use mathlib.Core.Bool.{Bool, true, false, not, _||_, false≢true}
-use mathlib.Core.List.{List}
+use mathlib.Core.List.{List, []}
 use Prim.Native.Nat.{ℕ, zero, suc, _+_, _%_, _≤_, _<_}
 use native.Mathlib.Nat.{add-zero, zero-add, suc-add, add-suc, le-of-suc-le-suc}
 use native.Mathlib.Omega.{arith}
@@ -23,7 +23,9 @@ use Rattle.rules.specs.Laws.Choices.{if-either, and-left, and-right}
 use Rattle.rules.specs.Laws.Tests.{between-from, between-to}
 use Rattle.rules.specs.Laws.Lists.{all-index}
 use Rattle.rows.specs.Laws.Lookup.{same-refl, same-equal}
-use Rattle.card.specs.Laws.Table.{accepted-unnamed, accepted-in-range}
+use Rattle.rows.specs.Laws.Rows.{length-row}
+use Rattle.card.specs.Laws.Names.{name-some}
+use Rattle.card.specs.Laws.Table.{accepted-padded, accepted-unnamed, accepted-in-range}
 
 -- ---- checks one after another
 
@@ -231,3 +233,13 @@ lookup-only s table good i below = go (lookup table (name (row table i))) refl
         let at-row = lookup-found table (name (row table i)) k e in
         ap Row (name-only s table good k i (at-row .0) below (at-row .1))
     go Nowhere e = absurd (lookup-nowhere table (name (row table i)) e i below refl)
+
+-- and nothing has no name
+pub lookup-empty : (s : Settings) (table : List ℕ) → table-check s table ≡ got tt → lookup table [] ≡ Nowhere
+lookup-empty s table good = go (lookup table []) refl
+  where
+    go : (f : Found) → lookup table [] ≡ f → f ≡ Nowhere
+    go (Row k) e =
+        let at-row = lookup-found table [] k e in
+        absurd (name-some (row table k) (length-row table k (at-row .0)) (accepted-padded s table k (row-good s table good k (at-row .0))) (at-row .1))
+    go Nowhere e = refl

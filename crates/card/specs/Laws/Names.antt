@@ -17,7 +17,7 @@ use Rattle.rules.specs.SettingsAndUnitTable.{row-size, name-room, name-size, na
 use Rattle.rules.specs.Laws.Choices.{and-left, and-right, and-both}
 use Rattle.rules.specs.Laws.Texts.{slice-shift}
 use Rattle.card.specs.Fields.{padded, outside, unnameable}
-use Rattle.rules.specs.Laws.Tests.{same-test}
+use Rattle.rules.specs.Laws.Tests.{same-test, between-from}
 use Rattle.rules.specs.Laws.Lists.{Bytes, all-both, all-alike}
 use Rattle.card.specs.Laws.Unnameable.{outside-names}
 use Rattle.rows.specs.Laws.Lookup.{same-refl, same-equal}
@@ -59,6 +59,11 @@ module _ (r : List ℕ) (long : length r ≡ row-size) (p : padded r ≡ true) w
   name-length : length (name r) ≡ name-size r
   unfolding name
   name-length = simp (length-take, length-drop) (omega (arith, size-most))
+
+  -- a name has at least one byte
+  pub name-some : name r ≡ [] → ⊥
+  unfolding padded
+  name-some e = omega (arith, between-from 1 name-room (name-size r) (and-left _ (all (eqb 0) (after-name r)) p), name-length, ap length e)
 
   after-zeros : take (name-room - name-size r) (drop (1 + name-size r) r) ≡ replicate (name-room - name-size r) 0
   unfolding padded after-name

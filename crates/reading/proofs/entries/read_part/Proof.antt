@@ -9,8 +9,8 @@ use Rattle.reading.proofs.entries.read_part.Tie as tie
 card-check-requires : tie.Need-card-check-requires
 card-check-requires c κs = search needs
 
-enum-known-cause : tie.Need-enum-known-cause
-enum-known-cause c = search needs
+enum-known-card : tie.Need-enum-known-card
+enum-known-card c = search needs
 
 refusal-requires : tie.Need-refusal-requires
 refusal-requires c κs = search needs
@@ -24,7 +24,7 @@ read-part-checked-requires c κs = sym (c .before .before .card-check .ensures) 
 
 returns : tie.Need-returns
 unfolding outcome
-returns c = c .refusal .ensures ∙ part-card _ _ _ _ (sym (c .before .before .before .before .card-check .ensures) ∙ ap outcome (c .before .before .cause .given .1))
+returns c = c .refusal .ensures ∙ part-card _ _ _ _ (sym (c .before .before .before .before .card-check .ensures) ∙ ap outcome (c .before .before .card .given .1))
 
 returns-2 : tie.Need-returns-2
 returns-2 c = c .read-part-checked .ensures
@@ -34,7 +34,7 @@ read-part-spec =
     tie.close
     (tie.spec
     card-check-requires
-    enum-known-cause
+    enum-known-card
     refusal-requires
     enum-told
     read-part-checked-requires

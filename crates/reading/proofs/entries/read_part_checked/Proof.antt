@@ -1,7 +1,7 @@
 -- `reading::entries::read_part_checked` meets its contract: 8, 10, and what the part comes to. Assumes nothing.
 use mathlib.Core.Path.{sym, ap, _∙_}
 use borrow.Author.Needs.{needs}
-use Rattle.reading.specs.Entries.{card-products, part-long, part-far, part-refused, part-got}
+use Rattle.reading.specs.Entries.{card-readable, part-long, part-far, part-refused, part-got}
 use Rattle.reading.specs.Outcomes.{reading}
 use Rattle.reading.proofs.entries.read_part_checked.Statement.{statement}
 use Rattle.reading.proofs.entries.read_part_checked.Tie as tie
@@ -19,7 +19,7 @@ returns-2 : tie.Need-returns-2
 returns-2 c = c .refusal2 .ensures ∙ part-far _ _ _ _ (c .before .before .before .before .before .pre) (c .before .before .if1 .left) (c .before .if2 .taken)
 
 parse-part-requires : tie.Need-parse-part-requires
-parse-part-requires c κs = card-products _ _ (c .before .before .before .before .pre)
+parse-part-requires c κs = card-readable _ _ (c .before .before .before .before .pre)
 
 enum-known-cause : tie.Need-enum-known-cause
 enum-known-cause c = search needs

@@ -1,7 +1,7 @@
 -- `reading::entries::read_total_checked` meets its contract: 8, and what the parts come to. Assumes nothing.
 use mathlib.Core.Path.{sym, ap, _∙_}
 use borrow.Author.Needs.{needs}
-use Rattle.reading.specs.Entries.{card-products, total-long, total-refused, total-got}
+use Rattle.reading.specs.Entries.{card-readable, total-long, total-refused, total-got}
 use Rattle.reading.specs.Outcomes.{total}
 use Rattle.reading.proofs.entries.read_total_checked.Statement.{statement}
 use Rattle.reading.proofs.entries.read_total_checked.Tie as tie
@@ -13,7 +13,7 @@ returns : tie.Need-returns
 returns c = c .refusal .ensures ∙ total-long _ _ _ (c .before .before .before .before .pre) (c .before .if1 .taken)
 
 parse-multiple-requires : tie.Need-parse-multiple-requires
-parse-multiple-requires c κs = card-products _ _ (c .before .before .before .pre)
+parse-multiple-requires c κs = card-readable _ _ (c .before .before .before .pre)
 
 enum-known-cause : tie.Need-enum-known-cause
 enum-known-cause c = search needs
