@@ -3,6 +3,7 @@
 // A card of the list is followed by a line that says how many requests are made under it, and by these. A request is a line of
 // hexadecimal digits (entry, place, run and size of the text, number, position, length) and the line of its text.
 use libc::STDOUT_FILENO;
+use lists::answers::print_answer;
 use lists::cards::MOST_BYTES;
 use lists::cards::Next;
 use lists::cards::next_card;
@@ -19,7 +20,6 @@ use lists::texts::read_text;
 use reading::entries::read_part;
 use reading::entries::read_total;
 use rules::Answer;
-use rules::Length;
 use rules::Settings;
 
 // Bytes of the line that says how many requests follow.
@@ -143,27 +143,12 @@ fn replay_next(
     }
 }
 
-fn print_length(length: Length) {
-    if length.negative {
-        io::write_all(STDOUT_FILENO, b" - ");
-    } else {
-        io::write_all(STDOUT_FILENO, b" + ");
-    }
-    io::print_decimal(STDOUT_FILENO, length.seconds);
-    io::write_all(STDOUT_FILENO, b" ");
-    io::print_decimal(STDOUT_FILENO, length.nanoseconds as u64);
-}
-
 // A request that differs, by its place in the list, and the answer that was found.
 fn show(requests: u64, answer: Answer) {
     io::write_all(STDOUT_FILENO, b"request ");
     io::print_decimal(STDOUT_FILENO, requests);
     io::write_all(STDOUT_FILENO, b" differs: ");
-    io::print_decimal(STDOUT_FILENO, answer.number as u64);
-    io::write_all(STDOUT_FILENO, b" ");
-    io::print_decimal(STDOUT_FILENO, answer.position as u64);
-    print_length(answer.length);
-    io::write_all(STDOUT_FILENO, b"\n");
+    print_answer(answer);
 }
 
 // One more request that differs, the first of them shown.
