@@ -5,17 +5,13 @@
 //! digits, the lowest byte first. The cards follow, in their stored form.
 
 use std::fmt::Write as _;
-use std::fs;
 
 use crate::card_a::{card_a, row};
 use crate::limits;
 use crate::plain;
 use crate::request::{ByteSet, Card};
-use crate::stored::card_lines;
+use crate::stored::{self, ONCE, card_lines};
 use crate::table::{KINDS, table_bytes};
-
-/// Each card is checked once; whoever counts instructions writes another line.
-const ONCE: &str = "01000000\n";
 
 /// Writes the cards into one file and what is found of them into another.
 pub fn write_files(cards_path: &str, found_path: &str) -> Result<bool, String> {
@@ -27,9 +23,7 @@ pub fn write_files(cards_path: &str, found_path: &str) -> Result<bool, String> {
         let _ = writeln!(found, "{number} {position}");
     }
     let _ = writeln!(found, "{} cards", cards.len());
-    for (path, text) in [(cards_path, lines), (found_path, found)] {
-        fs::write(path, text).map_err(|error| format!("{path}: {error}"))?;
-    }
+    stored::write_files([(cards_path, lines), (found_path, found)])?;
     Ok(true)
 }
 

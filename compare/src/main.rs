@@ -6,6 +6,7 @@ mod agree;
 mod antt;
 mod card_a;
 mod cards;
+mod chosen;
 mod crate_side;
 mod evaluations;
 mod limits;
@@ -17,6 +18,7 @@ mod make_text;
 mod natural;
 mod plain;
 mod points;
+mod readings;
 mod replay;
 mod request;
 mod rng;
@@ -43,6 +45,7 @@ usage: compare make SEED COUNT          make requests
        compare limits                   the hand-written cases at the limits, against plain
        compare limits REQUESTS ANSWERS  the same cases, written into two files
        compare cards CARDS FOUND        cards, and what the plain reading finds of each
+       compare readings TEXTS FOUND     texts under card A, and what is read of each
        compare replay LIST FOUND        requests with answers, and what replay prints of them
        compare scale SEED COUNT FOUND   the same made on the fly, the list on standard output
        compare antt REQUESTS ANSWERS DIR  both as antt modules in the folder DIR
@@ -66,6 +69,7 @@ fn main() -> ExitCode {
             Ok(true)
         }
         ["cards", cards, found] => cards::write_files(cards, found),
+        ["readings", texts, found] => readings::write_files(texts, found),
         ["replay", list, found] => replay::write_files(list, found),
         ["scale", seed, count, found] => print_requests(seed, count, found),
         ["antt", requests, answers, folder] => write_antt(requests, answers, folder),

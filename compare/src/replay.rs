@@ -9,26 +9,20 @@
 //! ```
 //!
 //! as hexadecimal digits with nothing between them, ENTRY being 1 for a part;
-//! the second has the SIZE bytes of the text, before which the first of them
-//! stands RUN times more, so that the longest texts take little room.
-//!
-//! An answer is the crate's where it has one, and it must be the plain
-//! reading's as well; where it has none, and for the places of 1 and 6, it is
-//! the plain reading's.
+//! the second has the SIZE bytes of the text.
 
 use std::collections::HashMap;
 use std::fmt::Write as _;
 use std::fs;
 use std::io::{self, BufWriter, Write};
 
-use crate::card_a::{self, same_answer};
-use crate::crate_side::{CrateAnswer, ask};
+use crate::card_a;
+use crate::chosen::{Chosen, reading};
 use crate::limits;
 use crate::long_texts;
 use crate::make::Maker;
 use crate::make_odd::OddMaker;
-use crate::plain;
-use crate::request::{Answer, Card, RUN_WORTH_FOLDING, Request, hex};
+use crate::request::{Answer, Card, Request, hex};
 use crate::stored;
 
 /// The seed of the stored list, and how many of its requests are made by it.
@@ -56,13 +50,13 @@ pub fn write_files(list_path: &str, found_path: &str) -> Result<bool, String> {
     let mut chosen = Chosen::default();
     let mut requests = Vec::new();
     for (request, written) in card_a::requests().into_iter().chain(limits::requests()?) {
-        requests.extend(chosen.listed(request, Some(written))?);
+        requests.extend(listed(&mut chosen, request, Some(written))?);
     }
     for request in long_texts::requests(&card_a::card_a()) {
-        requests.extend(chosen.listed(request, None)?);
+        requests.extend(listed(&mut chosen, request, None)?);
     }
     for request in OddMaker::new(SEED).take(MADE) {
-        requests.extend(chosen.listed(request, None)?);
+        requests.extend(listed(&mut chosen, request, None)?);
     }
     let mut file = fs::File::create(list_path).map_err(|error| format!("{list_path}: {error}"))?;
     let mut list = List::new(&mut file);
@@ -84,7 +78,7 @@ pub fn print(seed: u64, count: u64, found_path: &str) -> Result<bool, String> {
     }
     let made = OddMaker::new(seed).take(count as usize);
     for request in long.into_iter().chain(made) {
-        if let Some(listed) = chosen.listed(request, None)? {
+        if let Some(listed) = listed(&mut chosen, request, None)? {
             list.add(listed).map_err(|error| error.to_string())?;
         }
     }
@@ -131,88 +125,32 @@ fn by_card(requests: Vec<Listed>) -> Vec<Listed> {
     cards.into_iter().flatten().collect()
 }
 
-/// How the answers of a list were come by.
-#[derive(Default)]
-struct Chosen {
-    by_the_crate: u64,
-    by_document: u64,
-    left_out: u64,
-}
-
-impl Chosen {
-    /// The request with its answer, or nothing if document 01 leaves it out of
-    /// the comparison. An answer written by hand must be the same.
-    fn listed(
-        &mut self,
-        request: Request,
-        written: Option<Answer>,
-    ) -> Result<Option<Listed>, String> {
-        let Some((place, card, text)) = request.as_reading() else {
-            return Err(format!("no request of a list: {request}"));
-        };
-        let answer = match place {
-            None => plain::total(card, text),
-            Some(place) => plain::part(card, text, place),
-        };
-        if let Some(written) = written.filter(|written| *written != answer) {
-            return Err(differ(&request, &answer, "by hand", &written.to_string()));
-        }
-        match ask(&request) {
-            CrateAnswer::Says(said) if same_answer(&said, &answer) => self.by_the_crate += 1,
-            CrateAnswer::Unasked(_) => self.by_document += 1,
-            CrateAnswer::LeftOut => {
-                self.left_out += 1;
-                return Ok(None);
-            }
-            said => return Err(differ(&request, &answer, "crate", &said.to_string())),
-        }
-        listed(place, card, text, &answer).map(Some)
-    }
-
-    fn told(&self) -> String {
-        format!(
-            "{} answers by the crate and the plain reading alike, {} by the plain reading alone, {} requests left out",
-            self.by_the_crate, self.by_document, self.left_out
-        )
-    }
-}
-
-fn differ(request: &Request, plain: &Answer, other: &str, said: &str) -> String {
-    format!("differs: {request}\n    plain {plain}\n    {other} {said}")
-}
-
-/// The card of a request, and its two lines.
-fn listed(place: Option<u64>, card: &Card, text: &[u8], answer: &Answer) -> Result<Listed, String> {
-    let run = run_before(text);
-    let bytes = &text[run..];
-    if run + 2 * bytes.len() + 1 > ROOM || bytes.len() > usize::from(u16::MAX) {
-        return Err(format!("a text of {} bytes has no room", text.len()));
-    }
+/// The card of a request, its two lines and its answer's number, or nothing if
+/// document 01 leaves it out of the comparison.
+fn listed(
+    chosen: &mut Chosen,
+    request: Request,
+    written: Option<Answer>,
+) -> Result<Option<Listed>, String> {
+    let (place, card, text) = reading(&request)?;
+    let Some(answer) = chosen.answer(&request, written)? else {
+        return Ok(None);
+    };
+    let (sizes, bytes) = stored::text(text, ROOM)?;
     let position = answer.position.ok_or("an answer has no position")?;
     let fields = [
         stored::flag(place.is_some()),
         hex(&place.unwrap_or(0).to_le_bytes()),
-        hex(&(run as u32).to_le_bytes()),
-        hex(&(bytes.len() as u16).to_le_bytes()),
+        sizes,
         hex(&[answer.number]),
         hex(&position.to_le_bytes()),
         stored::length(answer.length),
     ];
-    Ok(Listed {
+    Ok(Some(Listed {
         card: card.clone(),
-        lines: format!("{}\n{}\n", fields.concat(), hex(bytes)),
+        lines: format!("{}\n{bytes}\n", fields.concat()),
         number: answer.number,
-    })
-}
-
-/// How often the text's first byte stands before the bytes that are written.
-fn run_before(text: &[u8]) -> usize {
-    let equal = text.iter().take_while(|byte| **byte == text[0]).count();
-    if equal < RUN_WORTH_FOLDING {
-        0
-    } else {
-        equal - 1
-    }
+    }))
 }
 
 /// A list that is being written, and what `replay` finds in it.

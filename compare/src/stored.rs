@@ -3,9 +3,14 @@
 //! and a number's lowest byte first.
 
 use std::fmt::Write as _;
+use std::fs;
 
-use crate::request::{ByteSet, Card, Length, hex};
+use crate::request::{ByteSet, Card, Length, RUN_WORTH_FOLDING, hex};
 use crate::table::ROW_BYTES;
+
+/// The first line of a list that says how often each thing is done; whoever
+/// counts instructions writes another.
+pub const ONCE: &str = "01000000\n";
 
 pub fn flag(on: bool) -> String {
     hex(&[u8::from(on)])
@@ -37,6 +42,38 @@ pub fn card_lines(card: &Card) -> String {
         let _ = writeln!(lines, "{}", hex(&stored));
     }
     lines
+}
+
+/// Run and size of a text as fields, and its bytes as a line, before which the
+/// first of them stands as often as the run says, so that the longest texts
+/// take little room. A program has room for the run and the line.
+pub fn text(text: &[u8], room: usize) -> Result<(String, String), String> {
+    let run = run_before(text);
+    let bytes = &text[run..];
+    if run + 2 * bytes.len() + 1 > room || bytes.len() > usize::from(u16::MAX) {
+        return Err(format!("a text of {} bytes has no room", text.len()));
+    }
+    let sizes = hex(&(run as u32).to_le_bytes()) + &hex(&(bytes.len() as u16).to_le_bytes());
+    Ok((sizes, hex(bytes)))
+}
+
+/// How often the text's first byte stands before the bytes that are written.
+fn run_before(text: &[u8]) -> usize {
+    let equal = text.iter().take_while(|byte| **byte == text[0]).count();
+    if equal < RUN_WORTH_FOLDING {
+        0
+    } else {
+        equal - 1
+    }
+}
+
+/// Writes a list into one file, and what a program must print of it into
+/// another.
+pub fn write_files(files: [(&str, String); 2]) -> Result<(), String> {
+    for (path, text) in files {
+        fs::write(path, text).map_err(|error| format!("{path}: {error}"))?;
+    }
+    Ok(())
 }
 
 /// A set byte for byte: byte b is bit b % 8 of its byte b / 8.

@@ -1,0 +1,65 @@
+//! Answers for the lists that programs of the test make again.
+//!
+//! An answer is the crate's where it has one, and it must be the plain
+//! reading's as well; where it has none, and for the places of 1 and 6, it is
+//! the plain reading's.
+
+use crate::card_a::same_answer;
+use crate::crate_side::{CrateAnswer, ask};
+use crate::plain;
+use crate::request::{Answer, Card, Request};
+
+/// How the answers of a list were come by.
+#[derive(Default)]
+pub struct Chosen {
+    by_the_crate: u64,
+    by_document: u64,
+    left_out: u64,
+}
+
+impl Chosen {
+    /// The answer of a request, or nothing if document 01 leaves it out of the
+    /// comparison. An answer written by hand must be the same.
+    pub fn answer(
+        &mut self,
+        request: &Request,
+        written: Option<Answer>,
+    ) -> Result<Option<Answer>, String> {
+        let answer = match reading(request)? {
+            (None, card, text) => plain::total(card, text),
+            (Some(place), card, text) => plain::part(card, text, place),
+        };
+        if let Some(written) = written.filter(|written| *written != answer) {
+            return Err(differ(request, &answer, "by hand", &written.to_string()));
+        }
+        match ask(request) {
+            CrateAnswer::Says(said) if same_answer(&said, &answer) => self.by_the_crate += 1,
+            CrateAnswer::Unasked(_) => self.by_document += 1,
+            CrateAnswer::LeftOut => {
+                self.left_out += 1;
+                return Ok(None);
+            }
+            said => return Err(differ(request, &answer, "crate", &said.to_string())),
+        }
+        Ok(Some(answer))
+    }
+
+    pub fn told(&self) -> String {
+        format!(
+            "{} answers by the crate and the plain reading alike, {} by the plain reading alone, {} requests left out",
+            self.by_the_crate, self.by_document, self.left_out
+        )
+    }
+}
+
+/// Place, card and text of a request; one that does more than read is in no
+/// list.
+pub fn reading(request: &Request) -> Result<(Option<u64>, &Card, &[u8]), String> {
+    request
+        .as_reading()
+        .ok_or_else(|| format!("no request of a list: {request}"))
+}
+
+fn differ(request: &Request, plain: &Answer, other: &str, said: &str) -> String {
+    format!("differs: {request}\n    plain {plain}\n    {other} {said}")
+}
