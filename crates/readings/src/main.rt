@@ -1,0 +1,114 @@
+// Reads stored texts under a card that is checked once, and prints number, position and length of each.
+// The first line says how often each text is read, once for a test and often to count instructions: eight hexadecimal digits,
+// the lowest byte first. The card follows, and then the texts. A text is a line of hexadecimal digits (run and size) and the line
+// of its bytes. Of a card that is refused number and position are printed, and no text is read.
+ghost use mathlib.Core.Path.{_≡_};
+ghost use Rattle.rules.specs.NumbersHandedBack.{got};
+ghost use Rattle.rules.specs.SettingsAndUnitTable.{card-check};
+use card::table::card_check;
+use lists::answers::print_answer;
+use lists::cards::MOST_BYTES;
+use lists::cards::Next;
+use lists::cards::next_card;
+use lists::fields::further;
+use lists::fields::half_at;
+use lists::fields::short_at;
+use lists::lines::first_bytes;
+use lists::lines::read_line;
+use lists::texts::read_text;
+use reading::answers::refusal;
+use reading::entries::read_total_checked;
+use rules::Answer;
+use rules::Settings;
+use settings::Checked;
+
+// Bytes of the first line.
+const ROUNDS: usize = 9;
+
+// Where run and size of a text stand in its first line, and how many bytes the line has.
+const RUN_AT: usize = 0;
+
+const SIZE_AT: usize = 8;
+
+const TEXT: usize = 13;
+
+// Room for the line of a text that is a little longer than a text may be.
+const ROOM: usize = 16_384;
+
+// More texts than any list has, since a proved loop has to end.
+const MOST_TEXTS: u64 = 1_000_000;
+
+// The first bytes of a buffer, read so often. The number of an answer is below 12, so 0 is added to the size each time; but the
+// compiler does not know that, and so a round waits for the answer of the one before it and none can be left out.
+fn read_often(settings: Settings, table: &[u8], buffer: &[u8], size: usize, rounds: u32) -> Answer
+    requires { ⌜ card-check settings (now table) ≡ got tt ⌝ }
+{
+    let mut answer = read_total_checked(settings, table, first_bytes(buffer, size));
+    let mut left = rounds;
+    while left > 1 {
+        let more = (answer.number / 200) as usize;
+        answer = read_total_checked(settings, table, first_bytes(buffer, further(size, more)));
+        left -= 1;
+    }
+    answer
+}
+
+// One text put into the buffer, read and printed; false where the list ends.
+fn read_next(settings: Settings, table: &[u8], buffer: &mut [u8], rounds: u32) -> bool
+    requires { ⌜ card-check settings (now table) ≡ got tt ⌝ }
+{
+    let mut line = [0u8; TEXT];
+    if !read_line(&mut line) {
+        return false;
+    }
+    let run = half_at(&line, RUN_AT);
+    let size = short_at(&line, SIZE_AT);
+    if !read_text(buffer, run, size) {
+        return false;
+    }
+    print_answer(read_often(
+        settings,
+        table,
+        buffer,
+        run as usize + size as usize,
+        rounds,
+    ));
+    true
+}
+
+// Every text of the list.
+fn read_all(settings: Settings, table: &[u8], rounds: u32)
+    requires { ⌜ card-check settings (now table) ≡ got tt ⌝ }
+{
+    let mut buffer = [0u8; ROOM];
+    let mut left = MOST_TEXTS;
+    while left > 0 {
+        if !read_next(settings, table, &mut buffer, rounds) {
+            return;
+        }
+        left -= 1;
+    }
+}
+
+fn read_under(settings: Settings, table: &[u8], rounds: u32) {
+    match card_check(settings, table) {
+        Checked::Refused(cause) => print_answer(refusal(cause)),
+        Checked::Accepted => read_all(settings, table, rounds),
+    }
+}
+
+fn main() {
+    let mut line = [0u8; ROUNDS];
+    if !read_line(&mut line) {
+        return;
+    }
+    let mut table = [0u8; MOST_BYTES];
+    let Next::Card(card) = next_card(&mut table) else {
+        return;
+    };
+    read_under(
+        card.settings,
+        first_bytes(&table, card.size),
+        half_at(&line, 0),
+    );
+}
