@@ -1,0 +1,4 @@
+-- Demand 3, and the laws that it needs.
+pub mod Spelled
+pub mod Layout
+pub mod OnePart

@@ -1,0 +1,259 @@
+-- One written length is read as itself, wherever it stands: behind it the text ends, or a sign begins the next. Assumes nothing.
+use mathlib.Core.Path.{_≡_, refl, sym, ap, _∙_}
+use mathlib.Core.Bool.{Bool, true, false, not, _&&_, _||_, false≢true}
+use mathlib.Core.Logic.{_⊎_, inl, inr, ⊎-elim}
+use mathlib.Core.List.{List, [], _∷_, _++_, append-assoc}
+use Prim.Native.Nat.{ℕ, _+_, _*_, _-_, _/_, _^_, _≤_, _<_}
+use native.Mathlib.Nat.{add-zero, mul-assoc, mul-div-cancel}
+use native.Mathlib.Omega.{arith}
+use borrow.Author.Tests.{eqb-true, eqb-false, ne-eqb, ltb-true}
+use lib.Dec.{eqb, ltb, lit<}
+use lib.ListN.{length, drop}
+use lib.Seq.{slice, slice-empty}
+use Rattle.rules.specs.declared.ByteSet.{ByteSet}
+use Rattle.rules.specs.declared.Length.{Length}
+use Rattle.rules.specs.declared.Settings.{Settings}
+use Rattle.rules.specs.declared.Whole.{Whole}
+use Rattle.rules.specs.Common.{if_then_else_, between, starts, sees, run}
+use Rattle.rules.specs.NumbersHandedBack.{got}
+use Rattle.rules.specs.ThePartOfTheCrateWeTake.{size, well-formed, zero-length}
+use Rattle.rules.specs.SettingsAndUnitTable.{DIGIT, SIGN, POINT, OTHER, class, is, is-next-duration, lower, holds, may-delimit, kind-multiplier, card-check}
+use Rattle.rules.specs.ReadingOnePart.{same-letter, gap, delimiters, fraction-step, number-step, exponent-step, in-stretch, unit-found, unit-step, connection}
+use Rattle.rules.specs.Evaluation.{spelled, attos, length-of}
+use Rattle.rules.specs.WriterAndShiftTotal.{decimals, no-leading-zeros, second-digits, sign-byte, whole-digits, fraction-digits, written-fraction, written}
+use Rattle.rules.specs.Laws.Texts.{run-stop}
+use Rattle.rules.specs.Laws.Written.{Digits, decimals-digits, whole-digits-only, fraction-digits-only}
+use Rattle.rules.specs.Laws.Apart.{proper, apart}
+use Rattle.rules.specs.Laws.Choices.{if-either, all-first, all-others, and-left, and-right}
+use Rattle.value.specs.Digits.{ten-pos, ten-sum, digit-high}
+use Rattle.card.specs.Laws.Accepted.{card-settings, card-table, delimiter-class, inner-delimits, outer-delimits, lookup-empty}
+use Rattle.readback.specs.Layout.{sees-of, behind, run-over, spelled-stretch}
+use Rattle.readback.specs.Spelled.{spelled-whole}
+
+-- ---- from the digits to the length
+
+-- the digits of a number with at most nine decimals come to so many nanoseconds
+attos-nine : (n f : ℕ) → f ≤ 9 → attos n f 0 0 ≡ n * 10 ^ (9 - f) * 10 ^ 9
+unfolding attos
+attos-nine n f h =
+    let power : 10 ^ 18 ≡ 10 ^ (9 - f) * 10 ^ 9 * 10 ^ f = ten-sum (9 - f + 9) f 18 (omega arith) ∙ ap (λ p. p * 10 ^ f) (ten-sum (9 - f) 9 (9 - f + 9) refl) in
+    let product : n * 10 ^ 18 ≡ n * 10 ^ (9 - f) * 10 ^ 9 * 10 ^ f = ap (λ p. n * p) power ∙ sym (mul-assoc n (10 ^ (9 - f) * 10 ^ 9) (10 ^ f)) ∙ ap (λ m. m * 10 ^ f) (sym (mul-assoc n (10 ^ (9 - f)) (10 ^ 9))) in
+    ap (λ k. n * 10 ^ 18 / 10 ^ k) (add-zero f) ∙ ap (λ m. m / 10 ^ f) product ∙ mul-div-cancel (n * 10 ^ (9 - f) * 10 ^ 9) (ten-pos f)
+
+few-seconds : (l : Length) → well-formed l ≡ true → l .seconds < 2 ^ 64
+unfolding well-formed
+few-seconds l well = ltb-true (l .seconds) (2 ^ 64) (and-left (ltb (l .seconds) (2 ^ 64)) (ltb (l .nanoseconds) (10 ^ 9)) (and-left _ (not (l .negative && eqb (size l) 0)) well))
+
+zero-plus : (l : Length) → well-formed l ≡ true → eqb (size l) 0 ≡ true → l .negative ≡ false
+unfolding well-formed
+zero-plus l well e = only (l .negative) (and-right (ltb (l .seconds) (2 ^ 64) && ltb (l .nanoseconds) (10 ^ 9)) (not (l .negative && eqb (size l) 0)) well)
+  where
+    only : (b : Bool) → not (b && eqb (size l) 0) ≡ true → b ≡ false
+    only true h = absurd (false≢true (sym (ap not e) ∙ h))
+    only false h = refl
+
+-- a well-formed length is what its sign and its nanoseconds come to
+pub length-of-size : (l : Length) → well-formed l ≡ true → length-of (l .negative) (size l) ≡ l
+unfolding size zero-length
+length-of-size l well = go (eqb (size l) 0) refl
+  where
+    go : (b : Bool) → eqb (size l) 0 ≡ b → length-of (l .negative) (size l) ≡ l
+    go true e =
+        let none : l .seconds * 10 ^ 9 + l .nanoseconds ≡ 0 = eqb-true (size l) 0 e in
+        let seconds : 0 ≡ l .seconds = omega (arith, none) in
+        let nanoseconds : 0 ≡ l .nanoseconds = omega (arith, none) in
+        ap (length-of (l .negative)) none
+        ∙ no-length (l .negative)
+        ∙ ap (λ b. record { negative = b; seconds = 0; nanoseconds = 0 }) (sym (zero-plus l well e))
+        ∙ ap (λ n. record { negative = l .negative; seconds = n; nanoseconds = 0 }) seconds
+        ∙ ap (λ n. record { negative = l .negative; seconds = l .seconds; nanoseconds = n }) nanoseconds
+    go false e = apart (l .negative) (l .seconds) (l .nanoseconds) (few-seconds l well) (proper l well) (eqb-false (size l) 0 e)
+
+-- ---- the steps, where a sign or nothing stands at the place
+
+-- a test that no sign passes fails there
+abbrev pub Follows : List ℕ → Type 0
+Follows rest = (test : ℕ → Bool) → ((b : ℕ) → is SIGN b ≡ true → test b ≡ false) → starts test rest ≡ false
+
+a-sign : (b : ℕ) → is SIGN b ≡ true → (b ≡ 43) ⊎ (b ≡ 45)
+unfolding is class if_then_else_
+a-sign b e = go (between 48 57 b) (eqb b 43) (eqb b 45) (eqb b 46) (between 65 90 b || between 97 122 b) refl refl e
+  where
+    go :
+        (digit plus minus point letter : Bool) → eqb b 43 ≡ plus → eqb b 45 ≡ minus
+        → eqb (if digit then DIGIT else if plus || minus then SIGN else if point then POINT else if letter then 3 else OTHER) SIGN ≡ true
+        → (b ≡ 43) ⊎ (b ≡ 45)
+    go true plus minus point letter p m e = absurd (false≢true e)
+    go false true minus point letter p m e = inl (eqb-true b 43 p)
+    go false false true point letter p m e = inr (eqb-true b 45 m)
+    go false false false true letter p m e = absurd (false≢true e)
+    go false false false false true p m e = absurd (false≢true e)
+    go false false false false false p m e = absurd (false≢true e)
+
+-- seconds have a digit at least
+first-digit : (d : ℕ) (digits post : List ℕ) → Digits (d ∷ digits) → starts (is DIGIT) (no-leading-zeros (d ∷ digits) ++ post) ≡ true
+unfolding no-leading-zeros starts
+first-digit d [] post h = all-first (is DIGIT) d [] h
+first-digit d (e ∷ digits) post h =
+    let more = first-digit e digits post (all-others (is DIGIT) d (e ∷ digits) h) in
+    if-either (λ l. starts (is DIGIT) (l ++ post) ≡ true) (eqb d 48) {x = no-leading-zeros (e ∷ digits)} {y = d ∷ e ∷ digits} (λ _. more) (λ _. all-first (is DIGIT) d (e ∷ digits) h)
+
+whole-begins : (seconds : ℕ) (post : List ℕ) → starts (is DIGIT) (whole-digits seconds ++ post) ≡ true
+unfolding whole-digits decimals
+whole-begins seconds post = first-digit _ _ post (decimals-digits second-digits seconds)
+
+-- what holds of both signs
+either : (a : Bool) → (a || true) ≡ true
+either true = refl
+either false = refl
+
+of-signs : (P : ℕ → Type 0) → P 43 → P 45 → (b : ℕ) → is SIGN b ≡ true → P b
+of-signs P plus minus b e = ⊎-elim (λ z. rw z plus) (λ z. rw z minus) (a-sign b e)
+
+module _ (s : Settings) (table : List ℕ) (good : card-check s table ≡ got tt) where
+  -- no sign and no digit is a delimiter
+  no-delimiter : (set : ByteSet) → ((b : ℕ) → b < 256 → holds set b ≡ true → may-delimit b ≡ true) → (c b : ℕ) → (c ≡ OTHER → ⊥) → b < 256 → is c b ≡ true → holds set b ≡ false
+  unfolding is
+  no-delimiter set only c b other below e = go (holds set b) refl
+    where
+      go : (h : Bool) → holds set b ≡ h → h ≡ false
+      go true h = absurd (other (sym (eqb-true (class b) c e) ∙ delimiter-class b (only b below h)))
+      go false h = refl
+
+  module _ (b : ℕ) where
+    sign-below : is SIGN b ≡ true → b < 256
+    sign-below e = of-signs (λ x. x < 256) (lit< tt) (lit< tt) b e
+
+    sign-not-inner : is SIGN b ≡ true → holds (s .inner) b ≡ false
+    sign-not-inner e = no-delimiter (s .inner) (inner-delimits s (card-settings s table good)) SIGN b (λ z. omega (arith, z)) (sign-below e) e
+
+    sign-not-outer : is SIGN b ≡ true → holds (s .outer) b ≡ false
+    sign-not-outer e = no-delimiter (s .outer) (outer-delimits s (card-settings s table good)) SIGN b (λ z. omega (arith, z)) (sign-below e) e
+
+    digit-not-inner : is DIGIT b ≡ true → holds (s .inner) b ≡ false
+    digit-not-inner e = no-delimiter (s .inner) (inner-delimits s (card-settings s table good)) DIGIT b (λ z. omega (arith, z)) (omega (arith, digit-high b e)) e
+
+    sign-not-stretch : is SIGN b ≡ true → in-stretch s b ≡ false
+    unfolding in-stretch is-next-duration
+    sign-not-stretch e = rw (e, either (is DIGIT b), either (holds (s .outer) b))
+
+    sign-not-e : is SIGN b ≡ true → same-letter 101 b ≡ false
+    unfolding same-letter lower between if_then_else_
+    sign-not-e e = of-signs (λ x. same-letter 101 x ≡ false) refl refl b e
+
+  module _ (text : List ℕ) (place : ℕ) where
+    -- no inner delimiter at the place: nothing is skipped
+    gap-none : (on : Bool) → sees (holds (s .inner)) text place ≡ false → gap on s text place ≡ got place
+    unfolding gap delimiters if_then_else_
+    gap-none true none = rw (none, run-stop (holds (s .inner)) text place none)
+    gap-none false none = refl
+
+    module _ {rest : List ℕ} (here : drop place text ≡ rest) (follows : Follows rest) where
+      no : (test : ℕ → Bool) → ((b : ℕ) → is SIGN b ≡ true → test b ≡ false) → sees test text place ≡ false
+      no test fails = sees-of text place test here ∙ follows test fails
+
+      no-exponent : exponent-step s text place ≡ got (record { exponent = record { negative = false; power = 0 }; next = place })
+      unfolding exponent-step if_then_else_
+      no-exponent = rw (no (same-letter 101) sign-not-e)
+
+      no-gap : (on : Bool) → gap on s text place ≡ got place
+      no-gap on = gap-none on (no (holds (s .inner)) sign-not-inner)
+
+      no-unit : unit-step s table text place ≡ got (record { multiplier = kind-multiplier (s .«default_kind»); next = place })
+      unfolding unit-step unit-found
+      no-unit = rw (run-stop (in-stretch s) text place (no (in-stretch s) sign-not-stretch), slice-empty place text, lookup-empty s table (card-table s table good))
+
+      no-connection : connection s text place ≡ got place
+      unfolding connection if_then_else_
+      no-connection = rw (no (holds (s .outer)) sign-not-outer)
+
+  -- ---- the part
+
+  module _ (default : s .«default_kind» ≡ 3) (fractions : s .fractions ≡ true) (negatives : s .negatives ≡ true) where
+    module _ (l : Length) (well : well-formed l ≡ true) (rest : List ℕ) (follows : Follows rest) (text : List ℕ) (place : ℕ) (here : drop place text ≡ written l ++ rest) where
+      abbrev whole : List ℕ
+      whole = whole-digits (l .seconds)
+
+      abbrev fract : List ℕ
+      fract = written-fraction (l .nanoseconds)
+
+      at-sign : drop place text ≡ (sign-byte (l .negative) ∷ []) ++ (whole ++ (fract ++ rest))
+      unfolding written
+      at-sign = here ∙ ap (λ r. sign-byte (l .negative) ∷ r) (append-assoc whole fract rest)
+
+      at-whole : drop (place + 1) text ≡ whole ++ (fract ++ rest)
+      at-whole = behind text place (sign-byte (l .negative) ∷ []) (whole ++ (fract ++ rest)) at-sign
+
+      -- no digit, and so no zero, stands behind the digits
+      no-digit : (b : ℕ) → is SIGN b ≡ true → is DIGIT b ≡ false
+      unfolding is class between if_then_else_
+      no-digit b e = of-signs (λ x. is DIGIT x ≡ false) refl refl b e
+
+      no-zero : (b : ℕ) → is SIGN b ≡ true → eqb 48 b ≡ false
+      no-zero b e = of-signs (λ x. eqb 48 x ≡ false) refl refl b e
+
+      no-point : (b : ℕ) → is SIGN b ≡ true → is POINT b ≡ false
+      unfolding is class between if_then_else_
+      no-point b e = of-signs (λ x. is POINT x ≡ false) refl refl b e
+
+      -- nor does one stand behind the whole digits
+      whole-stops : (test : ℕ → Bool) → test 46 ≡ false → ((b : ℕ) → is SIGN b ≡ true → test b ≡ false) → starts test (fract ++ rest) ≡ false
+      unfolding written-fraction starts
+      whole-stops test point signs = if-either (λ f. starts test (f ++ rest) ≡ false) (eqb (l .nanoseconds) 0) {x = []} {y = 46 ∷ fraction-digits (l .nanoseconds)} (λ _. follows test signs) (λ _. point)
+
+      whole-ends : run (is DIGIT) text (place + 1) ≡ place + 1 + length whole
+      unfolding is class between if_then_else_
+      whole-ends = run-over text (place + 1) whole (fract ++ rest) at-whole (is DIGIT) (whole-digits-only (l .seconds)) (whole-stops (is DIGIT) refl no-digit)
+
+      whole-spelled : spelled 0 (slice (run (eqb 48) text (place + 1)) (place + 1 + length whole) text) ≡ l .seconds
+      whole-spelled = spelled-stretch text (place + 1) whole (fract ++ rest) at-whole (whole-stops (eqb 48) refl no-zero) ∙ spelled-whole (l .seconds) (few-seconds l well)
+
+      at-fraction : drop (place + 1 + length whole) text ≡ fract ++ rest
+      at-fraction = behind text (place + 1) whole (fract ++ rest) at-whole
+
+      begins : sees (is DIGIT) text (place + 1) ≡ true
+      begins = sees-of text (place + 1) (is DIGIT) at-whole ∙ whole-begins (l .seconds) (fract ++ rest)
+
+      -- the point's place, or that of the rest
+      abbrev point : ℕ
+      point = place + 1 + length whole
+
+      abbrev typed : Whole
+      typed = record { start = run (eqb 48) text (place + 1); end = point }
+
+      module _ (none : l .nanoseconds ≡ 0) where
+        no-fract : fract ≡ []
+        unfolding written-fraction if_then_else_
+        no-fract = rw none
+
+        rest-at-point : drop point text ≡ rest
+        rest-at-point = at-fraction ∙ ap (λ f. f ++ rest) no-fract
+
+        number-none : number-step s text (place + 1) ≡ got (record { whole = typed; fract = record { start = point; end = point }; next = point })
+        unfolding number-step fraction-step if_then_else_
+        number-none = rw (whole-ends, no text point rest-at-point follows (is POINT) no-point)
+
+      module _ (some : l .nanoseconds ≡ 0 → ⊥) where
+        decimals-at : drop point text ≡ (46 ∷ []) ++ (fraction-digits (l .nanoseconds) ++ rest)
+        unfolding written-fraction if_then_else_
+        decimals-at = at-fraction ∙ rw (ne-eqb (l .nanoseconds) 0 some)
+
+        first-decimal : drop (point + 1) text ≡ fraction-digits (l .nanoseconds) ++ rest
+        first-decimal = behind text point (46 ∷ []) (fraction-digits (l .nanoseconds) ++ rest) decimals-at
+
+        decimals-end : run (is DIGIT) text (point + 1) ≡ point + 1 + length (fraction-digits (l .nanoseconds))
+        decimals-end = run-over text (point + 1) (fraction-digits (l .nanoseconds)) rest first-decimal (is DIGIT) (fraction-digits-only (l .nanoseconds)) (follows (is DIGIT) no-digit)
+
+        a-point : sees (is POINT) text point ≡ true
+        unfolding starts is class between if_then_else_
+        a-point = sees-of text point (is POINT) decimals-at
+
+        abbrev last : ℕ
+        last = point + 1 + length (fraction-digits (l .nanoseconds))
+
+        number-some : number-step s text (place + 1) ≡ got (record { whole = typed; fract = record { start = point + 1; end = last }; next = last })
+        unfolding number-step fraction-step if_then_else_
+        number-some = rw (whole-ends, a-point, fractions, begins, decimals-end)
+
+        rest-at-last : drop last text ≡ rest
+        rest-at-last = behind text (point + 1) (fraction-digits (l .nanoseconds)) rest first-decimal
