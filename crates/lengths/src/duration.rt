@@ -43,6 +43,21 @@ pub fn largest(negative: bool) -> Length
     }
 }
 
+// Whether a record that somebody lends is a length. That its seconds fit, their type says.
+pub fn well_formed(l: Length) -> bool
+    ensures { λ r. ⌜ r ≡ well-formed l ⌝ }
+{
+    if NANOS_PER_SEC <= l.nanoseconds {
+        return false;
+    }
+    if l.negative {
+        if l.seconds == 0 {
+            return 0 < l.nanoseconds;
+        }
+    }
+    true
+}
+
 // Zero loses its minus here.
 fn signed(negative: bool, seconds: u64, nanoseconds: u32) -> Length
     requires { ⌜ nanoseconds < 10 ^ 9 ⌝ }

@@ -1,20 +1,20 @@
 -- Laws of lengths by their seconds and nanoseconds apart: which record a number of nanoseconds is, what a coefficient does to
 -- seconds and attoseconds, and the sum case by case. Assumes nothing.
-use mathlib.Core.Path.{_≡_, refl, sym}
+use mathlib.Core.Path.{_≡_, refl, sym, _∙_}
 use mathlib.Core.Bool.{Bool, true, false, not, _&&_, Bool·beq}
-use Prim.Native.Nat.{ℕ, _+_, _*_, _-_, _/_, _%_, _^_, _<_}
+use Prim.Native.Nat.{ℕ, _+_, _*_, _-_, _/_, _%_, _^_, _≤_, _<_}
 use native.Mathlib.Nat.{mul-zero, mul-add, mul-assoc}
 use native.Mathlib.Omega.{arith}
 use lib.Dec.{leb, ltb, eqb}
 use lib.Arith.{digits-lt, digits-div, digits-mod}
-use borrow.Author.Tests.{ltb-true, lt-ltb, leb-true, le-leb, lt-leb, ne-eqb}
+use borrow.Author.Tests.{ltb-true, ltb-false, lt-ltb, le-ltb, leb-true, le-leb, lt-leb, eq-eqb, ne-eqb}
 use Rattle.rules.specs.declared.Length.{Length}
 use Rattle.rules.specs.Common.{if_then_else_}
 use Rattle.rules.specs.ThePartOfTheCrateWeTake.{zero-length, size, well-formed}
 use Rattle.rules.specs.Evaluation.{nanos, length-of, sum}
 use Rattle.rules.specs.Laws.Choices.{and-left, and-right}
 use Rattle.rules.specs.Laws.Lengths.{limit}
-use Rattle.rules.specs.Laws.Tests.{same-test}
+use Rattle.rules.specs.Laws.Tests.{and-false, same-test}
 
 -- no nanoseconds are zero, with a plus
 pub none : (negative : Bool) → length-of negative 0 ≡ zero-length
@@ -56,6 +56,37 @@ unfolding well-formed
 proper l h =
     ltb-true (l .nanoseconds) (10 ^ 9)
     (and-right (ltb (l .seconds) (2 ^ 64)) (ltb (l .nanoseconds) (10 ^ 9)) (and-left _ (not (l .negative && eqb (size l) 0)) h))
+
+-- a record is well formed by its nanoseconds, and by its sign where it may be zero
+pub nanoseconds-over : (l : Length) → 10 ^ 9 ≤ l .nanoseconds → false ≡ well-formed l
+unfolding well-formed
+nanoseconds-over l h = sym (rw (le-ltb (l .nanoseconds) (10 ^ 9) h, and-false))
+
+module _ (l : Length) (s : l .seconds < 2 ^ 64) (n : l .nanoseconds < 10 ^ 9) where
+  by-sign : well-formed l ≡ not (l .negative && eqb (size l) 0)
+  unfolding well-formed
+  by-sign = rw (lt-ltb (l .seconds) (2 ^ 64) s, lt-ltb (l .nanoseconds) (10 ^ 9) n)
+
+  pub plus-well-formed : l .negative ≡ false → true ≡ well-formed l
+  plus-well-formed plus = sym (by-sign ∙ rw plus)
+
+  any-well-formed : (size l ≡ 0 → ⊥) → true ≡ well-formed l
+  any-well-formed some = sym (by-sign ∙ rw (ne-eqb (size l) 0 some, and-false))
+
+  pub seconds-well-formed : (l .seconds ≡ 0 → ⊥) → true ≡ well-formed l
+  unfolding size
+  seconds-well-formed some = any-well-formed (λ e. some (omega arith))
+
+  pub minus-well-formed : l .negative ≡ true → l .seconds ≡ 0 → ltb 0 (l .nanoseconds) ≡ well-formed l
+  unfolding size
+  minus-well-formed minus none = go (ltb 0 (l .nanoseconds)) refl
+    where
+      not-zero : ltb 0 (l .nanoseconds) ≡ true → size l ≡ 0 → ⊥
+      not-zero e z = omega (arith, ltb-true 0 (l .nanoseconds) e)
+
+      go : (b : Bool) → ltb 0 (l .nanoseconds) ≡ b → b ≡ well-formed l
+      go true e = any-well-formed (not-zero e)
+      go false e = sym (by-sign ∙ rw (minus, eq-eqb (size l) 0 (omega (arith, ltb-false 0 (l .nanoseconds) e))))
 
 -- of two lengths with as many seconds the nanoseconds decide, and of any others the seconds
 pub by-nanoseconds : (a b : Length) → a .seconds ≡ b .seconds → leb (a .nanoseconds) (b .nanoseconds) ≡ leb (size a) (size b)

@@ -36,6 +36,10 @@ size-clamped negative r h = rw (ne-eqb r 0 (λ e. above e), le-leb limit r h)
     above : r ≡ 0 → ⊥
     above e = omega arith
 
+pub zero-well-formed : well-formed zero-length ≡ true
+unfolding well-formed size zero-length
+zero-well-formed = refl
+
 pub largest-well-formed : (negative : Bool) → well-formed (largest negative) ≡ true
 unfolding well-formed size largest
 largest-well-formed true = refl

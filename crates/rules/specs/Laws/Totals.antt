@@ -16,9 +16,9 @@ use Rattle.rules.specs.ThePartOfTheCrateWeTake.{zero-length, well-formed
 use Rattle.rules.specs.NumbersHandedBack.{Outcome, got, refused, _>>=_}
 use Rattle.rules.specs.ReadingOnePart.{part}
 use Rattle.rules.specs.Evaluation.{allowed, part-reading, sum, sum-all, parts, total}
-use Rattle.rules.specs.Laws.Outcomes.{All, all-got, all-refused, all-if, all-bind, all-of, bind-same, bind-assoc}
+use Rattle.rules.specs.Laws.Outcomes.{All, all-got, all-refused, all-if, all-bind, all-of, always, bind-same, bind-assoc}
 use Rattle.rules.specs.Laws.Ahead.{Beyond, part-beyond}
-use Rattle.rules.specs.Laws.Lengths.{evaluate-well-formed}
+use Rattle.rules.specs.Laws.Lengths.{zero-well-formed, evaluate-well-formed, sum-well-formed}
 
 -- the first length added, then the others
 one-more : (so-far l : Length) (last : Bool) {others others′ : Outcome (List Length)} → others ≡ others′
@@ -32,6 +32,12 @@ one-more so-far l false {others} e = rw (← e) (go others)
     go (got lengths) = refl
     go (refused cause) = refl
 
+-- summed up after a well-formed length, any lengths come to a well-formed one
+all-well-formed : (so-far : Length) (lengths : List Length) → well-formed so-far ≡ true → well-formed (sum-all so-far lengths) ≡ true
+unfolding sum-all
+all-well-formed so-far [] h = h
+all-well-formed so-far (l ∷ more) h = all-well-formed (sum so-far l) more (sum-well-formed so-far l)
+
 module _ (s : Settings) (table text : List ℕ) where
   -- a part that is read ends beyond where it began and not beyond the text
   pub reading-beyond : (place : ℕ) → All (λ r. Beyond text place (r .next)) (part-reading s table text place)
@@ -42,6 +48,11 @@ module _ (s : Settings) (table text : List ℕ) where
   pub reading-well-formed : (place : ℕ) → All (λ r. well-formed (r .length) ≡ true) (part-reading s table text place)
   unfolding part-reading allowed
   reading-well-formed place = all-bind (part-beyond s text table place) (λ p _. all-if (λ _. all-refused) (λ _. all-got (evaluate-well-formed text (p .repr))))
+
+  -- so is the total
+  pub total-well-formed : All (λ l. well-formed l ≡ true) (total s table text)
+  unfolding total
+  total-well-formed = all-bind (always _) (λ lengths _. all-got (all-well-formed zero-length lengths zero-well-formed))
 
   -- at the end there is nothing
   pub reading-ends : (place : ℕ) → length text ≤ place → part-reading s table text place ≡ refused (Nothing place)
