@@ -65,3 +65,12 @@ pub fn shifted_total(total: Length, s: Settings, table: &[u8], text: &[u8]) -> S
         Checked::Accepted => shifted_total_checked(total, s, table, text),
     }
 }
+
+// The entry: the record is lent, and added to in place. No other function here takes a loan of a struct.
+pub fn add_total(total: &mut Length, s: Settings, table: &[u8], text: &[u8]) -> Answer
+    ensures { λ r. ⌜ (r ≡ shift-answer (now (total .entry)) s (now (table .entry)) (now (text .entry))) × (now (total .exit) ≡ shifted-record (now (total .entry)) s (now (table .entry)) (now (text .entry))) ⌝ }
+{
+    let shifted = shifted_total(*total, s, table, text);
+    *total = shifted.total;
+    shifted.answer
+}
