@@ -1,6 +1,5 @@
 -- A total goes by its parts: one that is refused, the last, and one with others after it. Assumes nothing.
-use mathlib.Core.Path.{_≡_, refl, sym, _∙_}
-use mathlib.Core.Bool.{true}
+use mathlib.Core.Path.{_≡_, sym, _∙_}
 use mathlib.Core.List.{List}
 use Prim.Native.Nat.{ℕ, _≤_, _<_}
 use borrow.Author.Tests.{le-leb, lt-leb}
@@ -10,15 +9,10 @@ use Rattle.rules.specs.declared.Settings.{Settings}
 use Rattle.rules.specs.declared.Reading.{Reading}
 use Rattle.rules.specs.declared.Refusal.{Refusal}
 use Rattle.rules.specs.Common.{if_then_else_, ends}
-use Rattle.rules.specs.ThePartOfTheCrateWeTake.{zero-length, size, well-formed}
 use Rattle.rules.specs.NumbersHandedBack.{got, refused}
 use Rattle.rules.specs.Evaluation.{part-reading, sum}
 use Rattle.rules.specs.Laws.Outcomes.{bind-got, bind-refused}
 use Rattle.rules.specs.Laws.Totals.{total-from, total-step}
-
-pub zero-well-formed : well-formed zero-length ≡ true
-unfolding well-formed size zero-length
-zero-well-formed = refl
 
 module _ (s : Settings) (table text : List ℕ) (so-far : Length) (place : ℕ) where
   pub total-refuses : {cause : Refusal} → part-reading s table text place ≡ refused cause → refused cause ≡ total-from s table text so-far place

@@ -16,7 +16,7 @@ use rules::Refusal;
 use rules::Settings;
 use settings::Checked;
 
-const LONGEST_TEXT: usize = 4_096;
+pub const LONGEST_TEXT: usize = 4_096;
 
 pub fn read_part_checked(s: Settings, table: &[u8], text: &[u8], place: usize) -> Answer
     requires { ⌜ card-check s (now table) ≡ got tt ⌝ }

@@ -6,7 +6,7 @@ use Rattle.lengths.proofs.duration.well_formed.Statement.{statement}
 use Rattle.lengths.proofs.duration.well_formed.Tie as tie
 
 returns : tie.Need-returns
-returns c = nanoseconds-over _ (c .if1 .taken)
+returns c = nanoseconds-over _ (search needs)
 
 returns-2 : tie.Need-returns-2
 returns-2 c = minus-well-formed _ (search needs) (search needs) (c .before .before .before .if2 .taken) (c .before .if3 .taken)

@@ -1,0 +1,2 @@
+-- Laws of the shift total's answers.
+pub mod Shifts
