@@ -67,7 +67,9 @@ unfolding counted
 counted-next inf place letters word rest =
     rw (leb·suc-suc word letters, leb·suc-suc rest letters, add-suc place word, add-suc place letters, suc-add place word, suc-add place letters)
 
-letters-counted : (inf : ℕ) (word rest : List ℕ) (place : ℕ) → letters-step inf word rest place ≡ counted inf place (matching word rest) (length word) (length rest)
+letters-counted :
+    (inf : ℕ) (word rest : List ℕ) (place : ℕ)
+    → letters-step inf word rest place ≡ counted inf place (matching word rest) (length word) (length rest)
 unfolding letters-step matching counted if_then_else_
 letters-counted inf [] rest place = ap got (sym (add-zero place))
 letters-counted inf (w ∷ word) [] place = rw (leb·suc-zero (length word))
