@@ -37,16 +37,16 @@ done-requires c κs = search needs
 
 returns-3 : tie.Need-returns-3
 returns-3 c =
-    let within = c .before .before .before .before .before in
     c .refusal3 .ensures
-    ∙ part-refused _ _ _ _ (within .before .before .before .before .pre) (within .before .if1 .left) (within .if2 .left)
+    ∙ part-refused _ _ _ _ (c .before .before .before .before .before .before .before .before .before .pre)
+    (c .before .before .before .before .before .before .if1 .left) (c .before .before .before .before .before .if2 .left)
     (sym (c .before .before .before .before .parse-part .ensures) ∙ ap reading (c .before .before .cause .given .1))
 
 returns-4 : tie.Need-returns-4
 returns-4 c =
-    let within = c .before .before .before .before .before in
     c .done .ensures
-    ∙ part-got _ _ _ _ (within .before .before .before .before .pre) (within .before .if1 .left) (within .if2 .left)
+    ∙ part-got _ _ _ _ (c .before .before .before .before .before .before .before .before .before .pre)
+    (c .before .before .before .before .before .before .if1 .left) (c .before .before .before .before .before .if2 .left)
     (sym (c .before .before .before .before .parse-part .ensures) ∙ ap reading (c .before .before .reading .given .1))
 
 pub read-part-checked-spec : {M : Type 1} → statement M

@@ -78,9 +78,8 @@ enum-known-cause-3 c = search needs
 returns-3 : tie.Need-returns-3
 unfolding typed-finite
 returns-3 c =
-    let at-scaled = c .before .before .before .before .before in
-    sym (bind-got _ (got-number (at-scaled .before .before .before .before))
-    ∙ bind-got _ (got-scaled at-scaled)
+    sym (bind-got _ (got-number (c .before .before .before .before .before .before .before .before .before))
+    ∙ bind-got _ (got-scaled (c .before .before .before .before .before))
     ∙ bind-refused _ (sym (c .before .before .before .parse-number-delimiter .ensures _ refl) ∙ ap next (c .before .cause3 .given .1)))
 
 parse-time-unit-requires : tie.Need-parse-time-unit-requires
@@ -95,11 +94,9 @@ enum-known-cause-4 c = search needs
 returns-4 : tie.Need-returns-4
 unfolding typed-finite
 returns-4 c =
-    let at-name = c .before .before .before .before .before in
-    let at-scaled = at-name .before .before .before .before in
-    sym (bind-got _ (got-number (at-scaled .before .before .before .before))
-    ∙ bind-got _ (got-scaled at-scaled)
-    ∙ bind-got _ (got-name at-name)
+    sym (bind-got _ (got-number (c .before .before .before .before .before .before .before .before .before .before .before .before .before))
+    ∙ bind-got _ (got-scaled (c .before .before .before .before .before .before .before .before .before))
+    ∙ bind-got _ (got-name (c .before .before .before .before .before))
     ∙ bind-refused _ (sym (c .before .before .before .parse-time-unit .ensures _ refl refl refl refl) ∙ ap unit (c .before .cause4 .given .1)))
 
 returns-5 : tie.Need-returns-5
