@@ -20,10 +20,11 @@ use Rattle.rules.specs.SettingsAndUnitTable.{DIGIT, SIGN, POINT, LETTER, OTHER,
 use Rattle.rules.specs.ReadingOnePart.{same-letter, prefix, says, gap, sign-step, number-step, exponent-step, unit-step, connection, infinite-part, finite-part, unsigned-part, part}
 use Rattle.rules.specs.Laws.Ahead.{says-within}
 use Rattle.rules.specs.Laws.Choices.{and-left, and-both}
-use Rattle.rules.specs.Laws.Outcomes.{all-got, all-refused, all-if, all-bind, all-of, always, bind-got, bind-refused}
+use Rattle.rules.specs.Laws.Outcomes.{all-got, all-refused, all-if, all-bind, all-of, always, bind-got, bind-refused, bind-assoc}
 use Rattle.rules.specs.Laws.Tests.{and-false}
 use Rattle.rules.specs.Laws.Texts.{sees-here, sees-end}
 use Rattle.steps.specs.Signs.{sign-other}
+use Rattle.steps.specs.Joined.{then-joined, if-joined}
 use Rattle.steps.specs.Infinity.{infinity-word, infinity-then}
 use Rattle.reading.specs.declared.start.Start.{Start}
 
@@ -99,46 +100,36 @@ unfoldable pub connected : Settings → List ℕ → Part → Outcome Part
 connected s text typed = connection s text (typed .next) >>= λ next. got (record { repr = typed .repr; next = next })
 
 module _ (s : Settings) (table text : List ℕ) where
-  then-connected : {A : Type 0} (m : Outcome A) {f : A → Outcome Part} (g : A → Outcome Part) → ((a : A) → f a ≡ (g a >>= connected s text)) → (m >>= f) ≡ (m >>= g >>= connected s text)
-  unfolding _>>=_
-  then-connected (got a) g h = h a
-  then-connected (refused cause) g h = refl
+  module _ (negative : Bool) (place : ℕ) where
+    infinite-connected : infinite-part s text negative place ≡ (typed-infinite s text negative place >>= connected s text)
+    unfolding infinite-part typed-infinite connected infinite _>>=_
+    infinite-connected =
+        rw (infinity-then s text place)
+        (bind-assoc (infinity-word s text place) _ _ ∙ then-joined (connected s text) (infinity-word s text place) _ (λ next. refl))
 
-  if-connected : (b : Bool) {x y : Outcome Part} (x′ y′ : Outcome Part) → x ≡ (x′ >>= connected s text) → y ≡ (y′ >>= connected s text) → (if b then x else y) ≡ ((if b then x′ else y′) >>= connected s text)
-  unfolding if_then_else_
-  if-connected true x′ y′ p q = p
-  if-connected false x′ y′ p q = q
+    finite-connected : finite-part s table text negative place ≡ (typed-finite s table text negative place >>= connected s text)
+    unfolding finite-part typed-finite connected _>>=_
+    finite-connected =
+        then-joined (connected s text) (number-step s text place) _
+        (λ number. then-joined (connected s text) (exponent-step s text (number .next)) _
+        (λ scaled. then-joined (connected s text) (gap (s .«before_unit») s text (scaled .next)) _
+        (λ name. then-joined (connected s text) (unit-step s table text name) _ (λ unit. refl))))
 
-  infinite-connected : (negative : Bool) (place : ℕ) → infinite-part s text negative place ≡ (typed-infinite s text negative place >>= connected s text)
-  unfolding infinite-part typed-infinite connected infinite _>>=_
-  infinite-connected negative place = rw (infinity-then s text place) (go (infinity-word s text place))
-    where
-      go : (m : Outcome ℕ) → (m >>= (λ next. connection s text next) >>= λ next. got (infinite s negative place next)) ≡ (m >>= (λ next. got (infinite s negative place next)) >>= connected s text)
-      go (got next) = refl
-      go (refused cause) = refl
-
-  finite-connected : (negative : Bool) (place : ℕ) → finite-part s table text negative place ≡ (typed-finite s table text negative place >>= connected s text)
-  unfolding finite-part typed-finite connected _>>=_
-  finite-connected negative place =
-      then-connected (number-step s text place) _
-      (λ number. then-connected (exponent-step s text (number .next)) _
-      (λ scaled. then-connected (gap (s .«before_unit») s text (scaled .next)) _
-      (λ name. then-connected (unit-step s table text name) _ (λ unit. refl))))
-
-  unsigned-connected : (negative : Bool) (place : ℕ) → unsigned-part s table text negative place ≡ (typed-unsigned s table text negative place >>= connected s text)
-  unfolding unsigned-part typed-unsigned typed-word _>>=_
-  unsigned-connected negative place =
-      if-connected _ _ _ (finite-connected negative place) (if-connected _ _ _ (infinite-connected negative place) refl)
+    unsigned-connected : unsigned-part s table text negative place ≡ (typed-unsigned s table text negative place >>= connected s text)
+    unfolding unsigned-part typed-unsigned typed-word _>>=_
+    unsigned-connected =
+        if-joined (connected s text) _ _ _ finite-connected (if-joined (connected s text) _ _ _ infinite-connected refl)
 
   -- a part is what was typed, and its connection
   pub part-connected : (place : ℕ) → part s table text place ≡ (typed-part s table text place >>= connected s text)
-  unfolding part typed-part part-start signed-start _>>=_ if_then_else_
-  part-connected place = go (ends text place) (sign-step s text place)
+  unfolding part typed-part part-start signed-start _>>=_
+  part-connected place =
+      if-joined after (ends text place) _ _ refl
+      (then-joined after (sign-step s text place) _ (λ signed. unsigned-connected (signed .negative) (signed .next)))
+      ∙ sym (bind-assoc (part-start s text place) _ _)
     where
-      go : (b : Bool) → (m : Outcome Signed) → (if b then refused (Nothing place) else (m >>= λ signed. unsigned-part s table text (signed .negative) (signed .next))) ≡ ((if b then refused (Nothing place) else (m >>= λ signed. got (start-of text signed))) >>= (λ start. typed-unsigned s table text (start .negative) (start .next)) >>= connected s text)
-      go true m = refl
-      go false (got signed) = unsigned-connected (signed .negative) (signed .next)
-      go false (refused cause) = refl
+      after : Start → Outcome Part
+      after start = typed-unsigned s table text (start .negative) (start .next) >>= connected s text
 
 -- ---- laws of the start
 
