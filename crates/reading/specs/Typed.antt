@@ -105,20 +105,20 @@ module _ (s : Settings) (table text : List ℕ) where
     unfolding infinite-part typed-infinite connected infinite _>>=_
     infinite-connected =
         rw (infinity-then s text place)
-        (bind-assoc (infinity-word s text place) _ _ ∙ then-joined (connected s text) (infinity-word s text place) _ (λ next. refl))
+        (bind-assoc (infinity-word s text place) _ _ ∙ then-joined _ (infinity-word s text place) _ (λ next. refl))
 
     finite-connected : finite-part s table text negative place ≡ (typed-finite s table text negative place >>= connected s text)
     unfolding finite-part typed-finite connected _>>=_
     finite-connected =
-        then-joined (connected s text) (number-step s text place) _
-        (λ number. then-joined (connected s text) (exponent-step s text (number .next)) _
-        (λ scaled. then-joined (connected s text) (gap (s .«before_unit») s text (scaled .next)) _
-        (λ name. then-joined (connected s text) (unit-step s table text name) _ (λ unit. refl))))
+        then-joined _ (number-step s text place) _
+        (λ number. then-joined _ (exponent-step s text (number .next)) _
+        (λ scaled. then-joined _ (gap (s .«before_unit») s text (scaled .next)) _
+        (λ name. then-joined _ (unit-step s table text name) _ (λ unit. refl))))
 
     unsigned-connected : unsigned-part s table text negative place ≡ (typed-unsigned s table text negative place >>= connected s text)
     unfolding unsigned-part typed-unsigned typed-word _>>=_
     unsigned-connected =
-        if-joined (connected s text) _ _ _ finite-connected (if-joined (connected s text) _ _ _ infinite-connected refl)
+        if-joined _ _ _ _ finite-connected (if-joined _ _ _ _ infinite-connected refl)
 
   -- a part is what was typed, and its connection
   pub part-connected : (place : ℕ) → part s table text place ≡ (typed-part s table text place >>= connected s text)
@@ -152,7 +152,12 @@ module _ (s : Settings) (text : List ℕ) (place : ℕ) where
   unfolding signed-start
   signed-refused e = sym (bind-refused _ e)
 
-  pub signed-got : {signed : Signed} → sign-step s text place ≡ got signed → {class : ℕ} → class ≡ class-at text (signed .next) → got (record { negative = signed .negative; class = class; next = signed .next }) ≡ signed-start s text place
+  pub signed-got :
+      {signed : Signed}
+      → sign-step s text place ≡ got signed
+      → {class : ℕ}
+      → class ≡ class-at text (signed .next)
+      → got (record { negative = signed .negative; class = class; next = signed .next }) ≡ signed-start s text place
   unfolding signed-start
   signed-got e f = rw f (sym (bind-got _ e))
 
@@ -165,7 +170,11 @@ module _ (s : Settings) (text : List ℕ) (place : ℕ) where
     unfolding part-start ends if_then_else_
     start-signed = rw (lt-leb (length text) place h)
 
-    pub start-plain : {c : ℕ} → c ≡ class-at text place → (c ≡ SIGN → ⊥) → got (record { negative = false; class = c; next = place }) ≡ part-start s text place
+    pub start-plain :
+        {c : ℕ}
+        → c ≡ class-at text place
+        → (c ≡ SIGN → ⊥)
+        → got (record { negative = false; class = c; next = place }) ≡ part-start s text place
     unfolding is
     start-plain f other =
         signed-got (sym (sign-other s text place h (ne-eqb _ SIGN (λ e. other (f ∙ sym (class-here text place h) ∙ e))))) f ∙ start-signed
@@ -173,7 +182,9 @@ module _ (s : Settings) (text : List ℕ) (place : ℕ) where
   -- the class is that of the byte at the next place
   pub start-class : {start : Start} → part-start s text place ≡ got start → start .class ≡ class-at text (start .next)
   unfolding part-start signed-start
-  start-class e = all-of {P = λ start. start .class ≡ class-at text (start .next)} (all-if (λ _. all-refused) (λ _. all-bind (always (sign-step s text place)) (λ signed _. all-got refl))) e
+  start-class e =
+      all-of {P = λ start. start .class ≡ class-at text (start .next)}
+      (all-if (λ _. all-refused) (λ _. all-bind (always (sign-step s text place)) (λ signed _. all-got refl))) e
 
 -- ---- the class decides how the part goes on
 
@@ -210,45 +221,52 @@ pub inf-within : (text : List ℕ) (place : ℕ) → says (ascii "inf") text pla
 unfolding ascii
 inf-within text place e = says-within (ascii "inf") text place (omega (arith, inf-there text place e .0)) e
 
+-- a number begins with a byte of these classes
+abbrev begins : ℕ → Bool
+begins c = eqb c DIGIT || eqb c POINT
+
 module _ (s : Settings) (table text : List ℕ) (negative : Bool) (place : ℕ) where
   -- what stands at the place, from its class
   numeric : Bool
   numeric = sees (λ b. is DIGIT b || is POINT b) text place
 
-  numeric-class : numeric ≡ (eqb (class-at text place) DIGIT || eqb (class-at text place) POINT)
+  numeric-class : numeric ≡ begins (class-at text place)
   unfolding numeric class-at ends is if_then_else_
   numeric-class = go (leb (length text) place) refl
     where
-      go : (c : Bool) → leb (length text) place ≡ c → numeric ≡ (eqb (if c then OTHER else class (getD text place 0)) DIGIT || eqb (if c then OTHER else class (getD text place 0)) POINT)
+      go : (c : Bool) → leb (length text) place ≡ c → numeric ≡ begins (if c then OTHER else class (getD text place 0))
       go true f = sees-end _ text place (leb-true (length text) place f)
       go false f = sees-here _ text place (leb-false (length text) place f)
 
-  pub unsigned-number : (class-at text place ≡ DIGIT) ⊎ (class-at text place ≡ POINT) → typed-finite s table text negative place ≡ typed-unsigned s table text negative place
+  pub unsigned-number :
+      (class-at text place ≡ DIGIT) ⊎ (class-at text place ≡ POINT)
+      → typed-finite s table text negative place ≡ typed-unsigned s table text negative place
   unfolding typed-unsigned numeric if_then_else_
   unsigned-number f = rw (numeric-class ∙ either f)
     where
-      either : (class-at text place ≡ DIGIT) ⊎ (class-at text place ≡ POINT) → (eqb (class-at text place) DIGIT || eqb (class-at text place) POINT) ≡ true
+      either : (class-at text place ≡ DIGIT) ⊎ (class-at text place ≡ POINT) → begins (class-at text place) ≡ true
       either f = ⊎-elim (λ e. rw e) (λ e. rw e) f
 
-  not-numeric : (class-at text place ≡ DIGIT → ⊥) → (class-at text place ≡ POINT → ⊥) → typed-word s text negative place ≡ typed-unsigned s table text negative place
+  not-numeric :
+      (class-at text place ≡ DIGIT → ⊥)
+      → (class-at text place ≡ POINT → ⊥)
+      → typed-word s text negative place ≡ typed-unsigned s table text negative place
   unfolding typed-unsigned numeric if_then_else_
   not-numeric d p = rw (numeric-class, ne-eqb _ DIGIT d, ne-eqb _ POINT p)
 
   pub unsigned-word : class-at text place ≡ LETTER → typed-word s text negative place ≡ typed-unsigned s table text negative place
-  unsigned-word e = not-numeric (λ d. letter-apart (sym e ∙ d)) (λ p. letter-apart′ (sym e ∙ p))
-    where
-      letter-apart : LETTER ≡ DIGIT → ⊥
-      letter-apart f = omega arith
+  unsigned-word e = not-numeric (λ d. omega arith) (λ p. omega arith)
 
-      letter-apart′ : LETTER ≡ POINT → ⊥
-      letter-apart′ f = omega arith
-
-  pub unsigned-none : (class-at text place ≡ DIGIT → ⊥) → (class-at text place ≡ POINT → ⊥) → (class-at text place ≡ LETTER → ⊥) → refused (NoNumber place) ≡ typed-unsigned s table text negative place
+  pub unsigned-none :
+      (class-at text place ≡ DIGIT → ⊥)
+      → (class-at text place ≡ POINT → ⊥)
+      → (class-at text place ≡ LETTER → ⊥)
+      → refused (NoNumber place) ≡ typed-unsigned s table text negative place
   unfolding typed-word if_then_else_
   unsigned-none d p l = no-word (says (ascii "inf") text place) refl ∙ not-numeric d p
     where
       no-word : (b : Bool) → says (ascii "inf") text place ≡ b → refused (NoNumber place) ≡ typed-word s text negative place
-      no-word true e = absurd (l (sym (class-here text place (inf-there text place e .0)) ∙ inf-letter _ (inf-there text place e .1)))
+      no-word true e = let there = inf-there text place e in absurd (l (sym (class-here text place (there .0)) ∙ inf-letter _ (there .1)))
       no-word false e = rw (e, and-false)
 
 -- ---- a word

@@ -35,13 +35,13 @@ infinity-word s text inf = if closes-infinity s text (inf + 3) then got (inf + 3
 module _ (s : Settings) (text : List ℕ) where
   closed-then : (place : ℕ) → infinity-closed s text place ≡ (word-closed s text place >>= connection s text)
   unfolding infinity-closed word-closed _>>=_
-  closed-then place = if-joined (connection s text) _ _ _ refl refl
+  closed-then place = if-joined _ _ _ _ refl refl
 
   pub infinity-then : (inf : ℕ) → infinity-step s text inf ≡ (infinity-word s text inf >>= λ next. connection s text next)
   unfolding infinity-step infinity-word infinity-long _>>=_
   infinity-then inf =
-      if-joined (connection s text) _ _ _ refl
-      (then-joined (connection s text) (letters-step inf (ascii "inity") (drop (inf + 3) text) (inf + 3)) _ closed-then)
+      if-joined _ _ _ _ refl
+      (then-joined _ (letters-step inf (ascii "inity") (drop (inf + 3) text) (inf + 3)) _ closed-then)
 
 -- ---- letter by letter: all of them, the text's end before the last, or a wrong one
 

@@ -67,7 +67,7 @@ loop-less c =
 loop-again : tie.Need-loop-again Inv-loop μ-loop
 loop-again c = (
   total-goes-on _ _ _ _ _ (got-reading (c .before .before .before .before)) (c .before .before .saturating-add .ensures) (c .if1 .left)
-  ∙ c .before .before .before .before .before .before .before .loop .inv .0,
+      ∙ c .before .before .before .before .before .before .before .loop .inv .0,
   rw (c .before .before .saturating-add .ensures) (sum-well-formed _ _),
 )
 
