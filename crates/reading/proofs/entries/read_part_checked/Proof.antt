@@ -1,8 +1,8 @@
 -- `reading::entries::read_part_checked` meets its contract: 8, 10, and what the part comes to. Assumes nothing.
 use mathlib.Core.Path.{sym, ap, _∙_}
 use borrow.Author.Needs.{needs}
-use Rattle.reading.specs.Entries.{card-readable, part-long, part-far, part-refused, part-got}
 use Rattle.reading.specs.Outcomes.{reading}
+use Rattle.reading.specs.Entries.{card-readable, part-long, part-far, part-refused, part-got}
 use Rattle.reading.proofs.entries.read_part_checked.Statement.{statement}
 use Rattle.reading.proofs.entries.read_part_checked.Tie as tie
 

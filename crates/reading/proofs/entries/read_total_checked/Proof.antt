@@ -1,8 +1,8 @@
 -- `reading::entries::read_total_checked` meets its contract: 8, and what the parts come to. Assumes nothing.
 use mathlib.Core.Path.{sym, ap, _∙_}
 use borrow.Author.Needs.{needs}
-use Rattle.reading.specs.Entries.{card-readable, total-long, total-refused, total-got}
 use Rattle.reading.specs.Outcomes.{total}
+use Rattle.reading.specs.Entries.{card-readable, total-long, total-refused, total-got}
 use Rattle.reading.proofs.entries.read_total_checked.Statement.{statement}
 use Rattle.reading.proofs.entries.read_total_checked.Tie as tie
 

@@ -1,11 +1,11 @@
 -- `reading::part::connected_part` meets its contract: what was typed, and the connection. Assumes nothing.
-use mathlib.Core.Path.{sym, ap, _∙_, _≡_}
+use mathlib.Core.Path.{_≡_, sym, ap, _∙_}
 use borrow.Author.Needs.{needs}
+use Rattle.rules.specs.NumbersHandedBack.{got}
 use Rattle.rules.specs.Laws.Outcomes.{bind-got, bind-refused}
 use Rattle.steps.specs.Outcomes.{next}
-use Rattle.reading.specs.Typed.{connected, part-connected, typed-part}
 use Rattle.reading.specs.Outcomes.{part}
-use Rattle.rules.specs.NumbersHandedBack.{got}
+use Rattle.reading.specs.Typed.{connected, part-connected, typed-part}
 use Rattle.reading.proofs.part.connected_part.Statement.{statement}
 use Rattle.reading.proofs.part.connected_part.Tie as tie
 

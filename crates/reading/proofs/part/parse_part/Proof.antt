@@ -5,8 +5,8 @@ use Rattle.rules.specs.NumbersHandedBack.{got}
 use Rattle.rules.specs.ReadingOnePart.{part}
 use Rattle.rules.specs.Evaluation.{part-reading, allowed}
 use Rattle.rules.specs.Laws.Outcomes.{all-of, bind-got, bind-refused}
-use Rattle.reading.specs.Spans.{part-spans}
 use Rattle.reading.specs.Outcomes as outcomes
+use Rattle.reading.specs.Spans.{part-spans}
 use Rattle.reading.proofs.part.parse_part.Statement.{statement}
 use Rattle.reading.proofs.part.parse_part.Tie as tie
 

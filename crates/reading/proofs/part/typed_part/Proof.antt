@@ -1,10 +1,10 @@
 -- `reading::part::typed_part` meets its contract: the start, and then the number or the word after the sign. Assumes nothing.
-use mathlib.Core.Path.{refl, sym, ap, _∙_, _≡_}
+use mathlib.Core.Path.{_≡_, refl, sym, ap, _∙_}
 use borrow.Author.Needs.{needs}
-use Rattle.rules.specs.Laws.Outcomes.{bind-got, bind-refused}
-use Rattle.reading.specs.Typed.{typed-part, start-class, part-start}
-use Rattle.reading.specs.Outcomes.{started}
 use Rattle.rules.specs.NumbersHandedBack.{got}
+use Rattle.rules.specs.Laws.Outcomes.{bind-got, bind-refused}
+use Rattle.reading.specs.Outcomes.{started}
+use Rattle.reading.specs.Typed.{typed-part, start-class, part-start}
 use Rattle.reading.proofs.part.typed_part.Statement.{statement}
 use Rattle.reading.proofs.part.typed_part.Tie as tie
 

@@ -6,14 +6,14 @@ use Prim.Native.Nat.{_-_}
 use native.Mathlib.Omega.{arith}
 use borrow.Author.Needs.{needs}
 use lib.ListN.{length}
-use Rattle.rules.specs.Laws.Totals.{total-from, total-is, reading-beyond, reading-well-formed}
+use Rattle.rules.specs.ThePartOfTheCrateWeTake.{well-formed}
+use Rattle.rules.specs.NumbersHandedBack.{got}
 use Rattle.rules.specs.Evaluation.{total, part-reading}
+use Rattle.rules.specs.Laws.Totals.{total-from, total-is, reading-beyond, reading-well-formed}
 use Rattle.rules.specs.Laws.Lengths.{sum-well-formed}
 use Rattle.rules.specs.Laws.Outcomes.{all-of}
-use Rattle.rules.specs.ThePartOfTheCrateWeTake.{well-formed}
-use Rattle.reading.specs.Totals.{zero-well-formed, total-refuses, total-ends, total-goes-on}
 use Rattle.reading.specs.Outcomes.{reading}
-use Rattle.rules.specs.NumbersHandedBack.{got}
+use Rattle.reading.specs.Totals.{zero-well-formed, total-refuses, total-ends, total-goes-on}
 use Rattle.reading.proofs.total.parse_multiple.Statement.{statement}
 use Rattle.reading.proofs.total.parse_multiple.Tie as tie
 

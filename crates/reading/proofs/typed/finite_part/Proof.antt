@@ -1,9 +1,9 @@
 -- `reading::typed::finite_part` meets its contract: the steps follow each other, and the first refusal stands. Assumes nothing.
 use mathlib.Core.Path.{_≡_, refl, sym, ap, _∙_}
 use borrow.Author.Needs.{needs}
+use Rattle.rules.specs.NumbersHandedBack.{got}
 use Rattle.rules.specs.ReadingOnePart.{gap, number-step, exponent-step, unit-step}
 use Rattle.rules.specs.Laws.Outcomes.{bind-got, bind-refused}
-use Rattle.rules.specs.NumbersHandedBack.{got}
 use Rattle.steps.specs.Outcomes.{next, number, scaled, unit}
 use Rattle.reading.specs.Typed.{typed-finite}
 use Rattle.reading.proofs.typed.finite_part.Statement.{statement}

@@ -1,14 +1,14 @@
 -- `reading::typed::infinite_part` meets its contract: infinity off, another word, and what follows `inf`. Assumes nothing.
-use mathlib.Core.Path.{sym, ap, _∙_, _≡_}
+use mathlib.Core.Path.{_≡_, sym, ap, _∙_}
+use mathlib.Core.Bool.{true}
 use borrow.Author.Tests.{not-true, not-false}
 use borrow.Author.Needs.{needs}
-use mathlib.Core.Bool.{true}
-use Rattle.rules.specs.SettingsAndUnitTable.{kind-multiplier}
+use Rattle.rules.specs.declared.Settings.{Settings}
 use Rattle.rules.specs.Common.{ascii}
+use Rattle.rules.specs.SettingsAndUnitTable.{kind-multiplier}
+use Rattle.rules.specs.ReadingOnePart.{says}
 use Rattle.steps.specs.Outcomes.{next}
 use Rattle.reading.specs.Typed.{infinite, inf-within, word-off, word-other, word-refused, word-got}
-use Rattle.rules.specs.declared.Settings.{Settings}
-use Rattle.rules.specs.ReadingOnePart.{says}
 use Rattle.reading.proofs.typed.infinite_part.Statement.{statement}
 use Rattle.reading.proofs.typed.infinite_part.Tie as tie
 

@@ -1,6 +1,6 @@
 -- `reading::typed::unsigned_part` meets its contract: the class is that of the byte there, and decides. Assumes nothing.
-use mathlib.Core.Logic.{inl, inr}
 use mathlib.Core.Path.{refl, sym, _∙_}
+use mathlib.Core.Logic.{inl, inr}
 use borrow.Author.Needs.{needs}
 use Rattle.reading.specs.Typed.{unsigned-number, unsigned-word, unsigned-none}
 use Rattle.reading.proofs.typed.unsigned_part.Statement.{statement}

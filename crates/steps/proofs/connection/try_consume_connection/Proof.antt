@@ -1,16 +1,16 @@
 -- `steps::connection::try_consume_connection` meets its contract: no delimiter, a run that ends the text, a run alone, and a run with a conjunction. Assumes nothing.
-use mathlib.Core.Path.{refl, sym, ap, _∙_, _≡_}
+use mathlib.Core.Path.{_≡_, refl, sym, ap, _∙_}
+use mathlib.Core.Bool.{true}
 use native.Mathlib.Omega.{arith}
 use borrow.Author.Needs.{needs}
 use borrow.Author.Tests.{not-true, not-false}
-use mathlib.Core.Bool.{true}
-use Rattle.steps.specs.Outcomes.{next}
-use Rattle.steps.specs.Delimiters.{delimiters-within}
-use Rattle.steps.specs.Connections.{connection-none, connection-refused, connection-plain, connection-joined}
 use Rattle.rules.specs.Common.{sees}
 use Rattle.rules.specs.NumbersHandedBack.{got}
 use Rattle.rules.specs.SettingsAndUnitTable.{holds}
 use Rattle.rules.specs.ReadingOnePart.{delimiters}
+use Rattle.steps.specs.Outcomes.{next}
+use Rattle.steps.specs.Delimiters.{delimiters-within}
+use Rattle.steps.specs.Connections.{connection-none, connection-refused, connection-plain, connection-joined}
 use Rattle.steps.proofs.connection.try_consume_connection.Statement.{statement}
 use Rattle.steps.proofs.connection.try_consume_connection.Tie as tie
 

@@ -5,8 +5,8 @@ use Prim.Native.Nat.{_-_}
 use borrow.Author.Needs.{needs}
 use lib.ListN.{length}
 use Rattle.rules.specs.Common.{run}
-use Rattle.steps.specs.Sets.{passes, passes-on, passes-off}
 use Rattle.value.specs.Digits.{run-end}
+use Rattle.steps.specs.Sets.{passes, passes-on, passes-off}
 use Rattle.steps.proofs.delimiters.past.Statement.{statement}
 use Rattle.steps.proofs.delimiters.past.Tie as tie
 

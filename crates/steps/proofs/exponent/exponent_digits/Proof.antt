@@ -1,18 +1,18 @@
 -- `steps::exponent::exponent_digits` meets its contract: the digits from here on, after those that spelled the power so far, come to what all of them do.
 -- The power never passes the limit. Assumes nothing.
 use mathlib.Core.Path.{_≡_, refl, sym, ap, _∙_}
+use mathlib.Core.Bool.{true}
 use Prim.Native.Nat.{_-_, _≤_}
 use native.Mathlib.Omega.{arith}
 use borrow.Author.Tests.{not-true, not-false}
 use borrow.Author.Needs.{needs}
 use lib.ListN.{length, getD}
-use mathlib.Core.Bool.{true}
-use Rattle.rules.specs.ReadingOnePart.{exponent-limit}
 use Rattle.rules.specs.NumbersHandedBack.{refused}
+use Rattle.rules.specs.SettingsAndUnitTable.{DIGIT, is}
+use Rattle.rules.specs.ReadingOnePart.{exponent-limit}
 use Rattle.value.specs.Digits.{digit-low, digit-high}
 use Rattle.steps.specs.Outcomes.{scaled}
 use Rattle.steps.specs.Exponents.{limit-small, digits-from, digits-end, digits-stop, digits-passed, digits-more}
-use Rattle.rules.specs.SettingsAndUnitTable.{DIGIT, is}
 use Rattle.steps.proofs.exponent.exponent_digits.Statement.{statement}
 use Rattle.steps.proofs.exponent.exponent_digits.Tie as tie
 

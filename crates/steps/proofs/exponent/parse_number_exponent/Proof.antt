@@ -1,14 +1,14 @@
 -- `steps::exponent::parse_number_exponent` meets its contract: no `e`, exponents off, and a number after its sign. Assumes nothing.
-use mathlib.Core.Path.{sym, ap, _∙_, _≡_}
+use mathlib.Core.Path.{_≡_, sym, ap, _∙_}
+use mathlib.Core.Bool.{true}
 use native.Mathlib.Omega.{arith}
 use borrow.Author.Tests.{not-true, not-false}
 use borrow.Author.Needs.{needs}
-use mathlib.Core.Bool.{true}
+use Rattle.rules.specs.Common.{sees}
+use Rattle.rules.specs.ReadingOnePart.{same-letter}
 use Rattle.rules.specs.Laws.Texts.{sees-in}
 use Rattle.steps.specs.Outcomes.{scaled}
 use Rattle.steps.specs.Exponents.{exponent-none, exponent-off, exponent-on}
-use Rattle.rules.specs.Common.{sees}
-use Rattle.rules.specs.ReadingOnePart.{same-letter}
 use Rattle.steps.proofs.exponent.parse_number_exponent.Statement.{statement}
 use Rattle.steps.proofs.exponent.parse_number_exponent.Tie as tie
 

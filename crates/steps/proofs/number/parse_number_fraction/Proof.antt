@@ -1,14 +1,14 @@
 -- `steps::number::parse_number_fraction` meets its contract: no point, fractions off, no digit on either side, and digits. Assumes nothing.
-use mathlib.Core.Path.{sym, _∙_, _≡_}
+use mathlib.Core.Path.{_≡_, sym, _∙_}
+use mathlib.Core.Bool.{true}
 use native.Mathlib.Omega.{arith}
 use borrow.Author.Tests.{not-true, not-false}
 use borrow.Author.Needs.{needs}
-use mathlib.Core.Bool.{true}
-use Rattle.rules.specs.Laws.Texts.{sees-in}
-use Rattle.steps.specs.Numbers.{fraction-absent, fraction-off, fraction-empty, fraction-after, fraction-some}
 use Rattle.rules.specs.declared.Settings.{Settings}
 use Rattle.rules.specs.Common.{sees}
 use Rattle.rules.specs.SettingsAndUnitTable.{POINT, is}
+use Rattle.rules.specs.Laws.Texts.{sees-in}
+use Rattle.steps.specs.Numbers.{fraction-absent, fraction-off, fraction-empty, fraction-after, fraction-some}
 use Rattle.steps.proofs.number.parse_number_fraction.Statement.{statement}
 use Rattle.steps.proofs.number.parse_number_fraction.Tie as tie
 

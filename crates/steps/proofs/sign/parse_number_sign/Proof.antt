@@ -1,12 +1,12 @@
 -- `steps::sign::parse_number_sign` meets its contract: no byte, no sign, a sign that ends the text, and one with something after it. Assumes nothing.
-use mathlib.Core.Path.{sym, ap, _∙_, _≡_}
+use mathlib.Core.Path.{_≡_, sym, ap, _∙_}
+use mathlib.Core.Bool.{true}
 use borrow.Author.Needs.{needs}
 use borrow.Author.Tests.{not-true, not-false}
-use mathlib.Core.Bool.{true}
 use lib.ListN.{getD}
-use Rattle.steps.specs.Signs.{sign-beyond, sign-other, sign-last, sign-got, sign-refused}
-use Rattle.steps.specs.Outcomes.{next}
 use Rattle.rules.specs.SettingsAndUnitTable.{SIGN, is}
+use Rattle.steps.specs.Outcomes.{next}
+use Rattle.steps.specs.Signs.{sign-beyond, sign-other, sign-last, sign-got, sign-refused}
 use Rattle.steps.proofs.sign.parse_number_sign.Statement.{statement}
 use Rattle.steps.proofs.sign.parse_number_sign.Tie as tie
 

@@ -1,17 +1,17 @@
 -- `steps::unit::parse_ago` meets its contract: ago off, no delimiter, a run that ends the text, another word, a word that goes on, and `ago`. Assumes nothing.
-use mathlib.Core.Path.{sym, ap, _∙_, _≡_}
+use mathlib.Core.Path.{_≡_, sym, ap, _∙_}
+use mathlib.Core.Bool.{true}
 use native.Mathlib.Omega.{arith}
 use borrow.Author.Needs.{needs}
 use borrow.Author.Tests.{not-true, not-false}
-use mathlib.Core.Bool.{true}
-use Rattle.rules.specs.Common.{ascii, sees}
-use Rattle.steps.specs.Outcomes.{next}
-use Rattle.steps.specs.Units.{ago-off, ago-none, ago-refused, ago-within, ago-other, ago-open, ago-there}
-use Rattle.steps.specs.Delimiters.{delimiters-within}
 use Rattle.rules.specs.declared.Settings.{Settings}
+use Rattle.rules.specs.Common.{ascii, sees}
 use Rattle.rules.specs.NumbersHandedBack.{got}
 use Rattle.rules.specs.SettingsAndUnitTable.{holds}
 use Rattle.rules.specs.ReadingOnePart.{says, delimiters}
+use Rattle.steps.specs.Outcomes.{next}
+use Rattle.steps.specs.Delimiters.{delimiters-within}
+use Rattle.steps.specs.Units.{ago-off, ago-none, ago-refused, ago-within, ago-other, ago-open, ago-there}
 use Rattle.steps.proofs.unit.parse_ago.Statement.{statement}
 use Rattle.steps.proofs.unit.parse_ago.Tie as tie
 

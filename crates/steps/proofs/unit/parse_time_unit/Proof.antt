@@ -1,14 +1,14 @@
 -- `steps::unit::parse_time_unit` meets its contract: no row has the stretch as its name, or one has. Assumes nothing.
-use mathlib.Core.Path.{sym, _∙_, _≡_}
+use mathlib.Core.Path.{_≡_, sym, _∙_}
+use Prim.Native.Nat.{_<_}
 use native.Mathlib.Omega.{arith}
 use borrow.Author.Needs.{needs}
-use Prim.Native.Nat.{_<_}
-use Rattle.card.specs.Laws.Accepted.{lookup-found}
-use Rattle.steps.specs.Units.{stretch-ends, unit-none, unit-row}
 use Rattle.rules.specs.declared.Settings.{Settings}
 use Rattle.rules.specs.Common.{run}
-use Rattle.rules.specs.ReadingOnePart.{in-stretch}
 use Rattle.rules.specs.SettingsAndUnitTable.{rows}
+use Rattle.rules.specs.ReadingOnePart.{in-stretch}
+use Rattle.card.specs.Laws.Accepted.{lookup-found}
+use Rattle.steps.specs.Units.{stretch-ends, unit-none, unit-row}
 use Rattle.steps.proofs.unit.parse_time_unit.Statement.{statement}
 use Rattle.steps.proofs.unit.parse_time_unit.Tie as tie
 

@@ -1,8 +1,8 @@
 -- `steps::words::next_is_letters` meets its contract: the letters that are left decide what all of them do. Assumes nothing.
 use mathlib.Core.Path.{_≡_, refl, sym, _∙_}
 use borrow.Author.Needs.{needs}
-use Rattle.rules.specs.ReadingOnePart.{says}
 use Rattle.rules.specs.SettingsAndUnitTable.{low-bytes}
+use Rattle.rules.specs.ReadingOnePart.{says}
 use Rattle.steps.specs.Words.{letters-done, letters-end, letters-more, letters-stop}
 use Rattle.steps.proofs.words.next_is_letters.Statement.{statement}
 use Rattle.steps.proofs.words.next_is_letters.Tie as tie
