@@ -62,11 +62,13 @@ counted inf place letters word rest =
     then got (place + word)
     else if leb rest letters then refused (InfinityEnds inf) else refused (InfinityByte (place + letters))
 
+-- one letter more that matches
 counted-next : (inf place letters word rest : ℕ) → counted inf (suc place) letters word rest ≡ counted inf place (suc letters) (suc word) (suc rest)
 unfolding counted
 counted-next inf place letters word rest =
     rw (leb·suc-suc word letters, leb·suc-suc rest letters, add-suc place word, add-suc place letters, suc-add place word, suc-add place letters)
 
+-- the letters that match decide the step
 letters-counted :
     (inf : ℕ) (word rest : List ℕ) (place : ℕ)
     → letters-step inf word rest place ≡ counted inf place (matching word rest) (length word) (length rest)
@@ -93,22 +95,22 @@ five-most rest = matching-most (ascii "inity") rest
 module _
     (s : Settings) (text : List ℕ) (inf : ℕ) (within : inf + 3 ≤ length text)
     {letters : ℕ} (m : letters ≡ matching (ascii "inity") (drop (inf + 3) text)) where
-  step : letters-step inf (ascii "inity") (drop (inf + 3) text) (inf + 3) ≡ counted inf (inf + 3) letters 5 (length text - (inf + 3))
+  five-counted : letters-step inf (ascii "inity") (drop (inf + 3) text) (inf + 3) ≡ counted inf (inf + 3) letters 5 (length text - (inf + 3))
   unfolding ascii
-  step = rw (m, ← (length-drop (inf + 3) text)) (letters-counted inf (ascii "inity") (drop (inf + 3) text) (inf + 3))
+  five-counted = rw (m, ← (length-drop (inf + 3) text)) (letters-counted inf (ascii "inity") (drop (inf + 3) text) (inf + 3))
 
   pub long-ends : letters < 5 → length text ≤ inf + 3 + letters → refused (InfinityEnds inf) ≡ infinity-long s text inf
   unfolding infinity-long counted if_then_else_
-  long-ends h k = sym (bind-refused _ (step ∙ rw (lt-leb 5 letters h, le-leb (length text - (inf + 3)) letters (omega arith))))
+  long-ends h k = sym (bind-refused _ (five-counted ∙ rw (lt-leb 5 letters h, le-leb (length text - (inf + 3)) letters (omega arith))))
 
   pub long-byte : letters < 5 → inf + 3 + letters < length text → refused (InfinityByte (inf + 3 + letters)) ≡ infinity-long s text inf
   unfolding infinity-long counted if_then_else_
-  long-byte h k = sym (bind-refused _ (step ∙ rw (lt-leb 5 letters h, lt-leb (length text - (inf + 3)) letters (omega arith))))
+  long-byte h k = sym (bind-refused _ (five-counted ∙ rw (lt-leb 5 letters h, lt-leb (length text - (inf + 3)) letters (omega arith))))
 
   module _ (h : 5 ≤ letters) where
     all-read : letters-step inf (ascii "inity") (drop (inf + 3) text) (inf + 3) ≡ got (inf + 3 + letters)
     unfolding counted if_then_else_
-    all-read = step ∙ rw (le-leb 5 letters h) (ap (λ n. got (inf + 3 + n)) (omega (arith, five-most (drop (inf + 3) text))))
+    all-read = five-counted ∙ rw (le-leb 5 letters h) (ap (λ n. got (inf + 3 + n)) (omega (arith, five-most (drop (inf + 3) text))))
 
     pub long-closed : closes-infinity s text (inf + 3 + letters) ≡ true → got (inf + 3 + letters) ≡ infinity-long s text inf
     unfolding infinity-long word-closed if_then_else_

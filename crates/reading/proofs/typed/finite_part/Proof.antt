@@ -18,23 +18,23 @@ got-number c = sym (c .before .before .parse-number .ensures _ refl) ∙ ap numb
 
 got-scaled :
     (c : tie.After-scaled)
-    → let before = c .before .before .before .before in
-    let args = before .before .before .before .before .before .before .before .args in
-    exponent-step (args .s) (args .text .now) (before .number .given .0 .0 .next) ≡ got (c .scaled .given .0 .0)
+    → let last = c .before .before .before .before in
+    let args = last .before .before .before .before .before .before .before .args in
+    exponent-step (args .s) (args .text .now) (last .number .given .0 .0 .next) ≡ got (c .scaled .given .0 .0)
 got-scaled c = sym (c .before .before .parse-number-exponent .ensures _ refl) ∙ ap scaled (c .scaled .given .1)
 
 got-name :
     (c : tie.After-name)
-    → let before = c .before .before .before .before in
-    let args = before .before .before .before .before .before .before .before .before .before .before .before .args in
-    gap (args .s .«before_unit») (args .s) (args .text .now) (before .scaled .given .0 .0 .next) ≡ got (c .name .given .0 .0)
+    → let last = c .before .before .before .before in
+    let args = last .before .before .before .before .before .before .before .before .before .before .before .args in
+    gap (args .s .«before_unit») (args .s) (args .text .now) (last .scaled .given .0 .0 .next) ≡ got (c .name .given .0 .0)
 got-name c = sym (c .before .before .parse-number-delimiter .ensures _ refl) ∙ ap next (c .name .given .1)
 
 got-unit :
     (c : tie.After-unit)
-    → let before = c .before .before .before .before in
-    let args = before .before .before .before .before .before .before .before .before .before .before .before .before .before .before .before .args in
-    unit-step (args .s) (args .table .now) (args .text .now) (before .name .given .0 .0) ≡ got (c .unit .given .0 .0)
+    → let last = c .before .before .before .before in
+    let args = last .before .before .before .before .before .before .before .before .before .before .before .before .before .before .before .args in
+    unit-step (args .s) (args .table .now) (args .text .now) (last .name .given .0 .0) ≡ got (c .unit .given .0 .0)
 got-unit c = sym (c .before .before .parse-time-unit .ensures _ refl refl refl refl) ∙ ap unit (c .unit .given .1)
 
 parse-number-requires : tie.Need-parse-number-requires

@@ -29,7 +29,8 @@ power-small c = omega (arith, limit-small (c .before .before .before .args .nega
 
 digit-there :
     (c : tie.Else1 Inv-loop μ-loop)
-    → is DIGIT (getD (c .before .before .before .before .before .before .before .args .text .now) (c .before .before .before .before .loop .next) 0) ≡ true
+    → let head = c .before .before .before .before in
+    is DIGIT (getD (head .before .before .before .args .text .now) (head .loop .next) 0) ≡ true
 digit-there c = sym (c .before .is-digit .ensures) ∙ not-false _ (c .if1 .left)
 
 exponent-limit-requires : tie.Need-exponent-limit-requires Inv-loop μ-loop

@@ -40,9 +40,12 @@ returns-2 : tie.Need-returns-2 Inv-loop μ-loop
 returns-2 c =
     let args = c .before .before .before .before .before .before .before .before .before .before .args in
     let loop = c .before .before .before .before .before .before .before .loop in
-    let stops = matching-stops (args .word .now) (args .text .now) (loop .count) (loop .next) (search needs) (search needs)
-    (λ e. c .if2 .taken (c .before .before .before .lower .ensures ∙ e ∙ sym (c .before .lower2 .ensures))) in
-    omega (arith, stops, loop .inv .0)
+    omega (
+      arith,
+      matching-stops (args .word .now) (args .text .now) (loop .count) (loop .next) (search needs) (search needs)
+          (λ e. c .if2 .taken (c .before .before .before .lower .ensures ∙ e ∙ sym (c .before .lower2 .ensures))),
+      loop .inv .0,
+    )
 
 add-count : tie.Need-add-count Inv-loop μ-loop
 add-count c = search needs
@@ -56,10 +59,15 @@ loop-less c = search needs
 loop-again : tie.Need-loop-again Inv-loop μ-loop
 loop-again c =
     let args = c .before .before .before .before .before .before .before .before .before .before .args in
-    let loop = c .before .before .before .before .before .before .before .loop in
-    let more = matching-more (args .word .now) (args .text .now) (loop .count) (loop .next) (search needs) (search needs)
-    (sym (c .before .before .before .lower .ensures) ∙ c .if2 .left ∙ c .before .lower2 .ensures) in
-    (omega (arith, more, loop .inv .0), search needs)
+    let loop = c .before .before .before .before .before .before .before .loop in (
+      omega (
+        arith,
+        matching-more (args .word .now) (args .text .now) (loop .count) (loop .next) (search needs) (search needs)
+            (sym (c .before .before .before .lower .ensures) ∙ c .if2 .left ∙ c .before .lower2 .ensures),
+        loop .inv .0,
+      ),
+      search needs,
+    )
 
 returns-3 : tie.Need-returns-3 Inv-loop μ-loop
 returns-3 c =
