@@ -23,7 +23,7 @@ use Rattle.rules.specs.Evaluation.{spelled, attos, length-of}
 use Rattle.rules.specs.WriterAndShiftTotal.{decimals, no-leading-zeros, second-digits, sign-byte, whole-digits, fraction-digits, written-fraction, written}
 use Rattle.rules.specs.Laws.Texts.{run-stop}
 use Rattle.rules.specs.Laws.Written.{Digits, decimals-digits, whole-digits-only, fraction-digits-only}
-use Rattle.rules.specs.Laws.Apart.{proper, apart}
+use Rattle.rules.specs.Laws.Apart.{proper, apart, none as no-length}
 use Rattle.rules.specs.Laws.Choices.{if-either, all-first, all-others, and-left, and-right}
 use Rattle.value.specs.Digits.{ten-pos, ten-sum, digit-high}
 use Rattle.card.specs.Laws.Accepted.{card-settings, card-table, delimiter-class, inner-delimits, outer-delimits, lookup-empty}

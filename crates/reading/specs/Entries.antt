@@ -19,7 +19,9 @@ use Rattle.steps.specs.Units.{Readable}
 
 -- an accepted card's table can be read
 pub card-readable : (s : Settings) (table : List ℕ) → card-check s table ≡ got tt → Readable table
-card-readable s table good = record { products = row-in-range s table (card-table s table good); named = lookup-empty s table (card-table s table good) }
+card-readable s table good =
+    let accepted = card-table s table good in
+    record { products = row-in-range s table accepted; named = lookup-empty s table accepted }
 
 module _ (s : Settings) (table text : List ℕ) where
   module _ (place : ℕ) where
@@ -38,13 +40,18 @@ module _ (s : Settings) (table text : List ℕ) where
         part-far h = rw (good, le-leb (length text) longest-text short, lt-leb place (length text) h)
 
         module _ (within : place ≤ length text) where
+          -- the checks have passed
+          part-passed : answered (λ r. done (r .next) (r .length)) (part-reading s table text place) ≡ part-answer s table text place
+          unfolding part-answer read-part unless _>>_
+          part-passed = rw (good, le-leb (length text) longest-text short, le-leb place (length text) within)
+
           pub part-refused : {cause : Refusal} → part-reading s table text place ≡ refused cause → refusal cause ≡ part-answer s table text place
-          unfolding part-answer read-part answered unless _>>_
-          part-refused e = rw (good, le-leb (length text) longest-text short, le-leb place (length text) within, e)
+          unfolding answered
+          part-refused e = rw e at part-passed
 
           pub part-got : {r : Reading} → part-reading s table text place ≡ got r → done (r .next) (r .length) ≡ part-answer s table text place
-          unfolding part-answer read-part answered unless _>>_
-          part-got e = rw (good, le-leb (length text) longest-text short, le-leb place (length text) within, e)
+          unfolding answered
+          part-got e = rw e at part-passed
 
   pub total-card : {cause : Refusal} → card-check s table ≡ refused cause → refusal cause ≡ total-answer s table text
   unfolding total-answer read-total answered _>>_
@@ -56,10 +63,14 @@ module _ (s : Settings) (table text : List ℕ) where
     total-long h = rw (good, lt-leb (length text) longest-text h)
 
     module _ (short : length text ≤ longest-text) where
+      total-passed : answered (done (length text)) (total s table text) ≡ total-answer s table text
+      unfolding total-answer read-total unless _>>_
+      total-passed = rw (good, le-leb (length text) longest-text short)
+
       pub total-refused : {cause : Refusal} → total s table text ≡ refused cause → refusal cause ≡ total-answer s table text
-      unfolding total-answer read-total answered unless _>>_
-      total-refused e = rw (good, le-leb (length text) longest-text short, e)
+      unfolding answered
+      total-refused e = rw e at total-passed
 
       pub total-got : {l : Length} → total s table text ≡ got l → done (length text) l ≡ total-answer s table text
-      unfolding total-answer read-total answered unless _>>_
-      total-got e = rw (good, le-leb (length text) longest-text short, e)
+      unfolding answered
+      total-got e = rw e at total-passed

@@ -26,10 +26,11 @@ module _ (s : Settings) (table text : List ℕ) where
   number-spans : (place : ℕ) → place ≤ length text → All (λ n. Spans text (n .whole) (n .fract)) (number-step s text place)
   unfolding number-step fraction-step
   number-spans place h =
-      all-if (λ _. all-got (spans-whole text place (run (is DIGIT) text place) h (run-within (is DIGIT) text place h)))
+      let end = run (is DIGIT) text place in
+      all-if (λ _. all-got (spans-whole text place end h (run-within (is DIGIT) text place h)))
       (λ e. all-if (λ _. all-refused)
       (λ _. all-if (λ _. all-refused)
-      (λ _. all-got (spans-both text place (run (is DIGIT) text place + 1) h (omega (arith, sees-in (is POINT) text (run (is DIGIT) text place) (not-false _ e)))))))
+      (λ _. all-got (spans-both text place (end + 1) h (omega (arith, sees-in (is POINT) text end (not-false _ e)))))))
 
   finite-spans : (negative : Bool) (place : ℕ) → place ≤ length text → All (PartSpans text) (finite-part s table text negative place)
   unfolding finite-part

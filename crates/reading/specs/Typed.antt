@@ -20,10 +20,11 @@ use Rattle.rules.specs.SettingsAndUnitTable.{DIGIT, SIGN, POINT, LETTER, OTHER,
 use Rattle.rules.specs.ReadingOnePart.{same-letter, prefix, says, gap, sign-step, number-step, exponent-step, unit-step, connection, infinite-part, finite-part, unsigned-part, part}
 use Rattle.rules.specs.Laws.Ahead.{says-within}
 use Rattle.rules.specs.Laws.Choices.{and-left, and-both}
-use Rattle.rules.specs.Laws.Outcomes.{all-got, all-refused, all-if, all-bind, all-of, always, bind-got, bind-refused}
+use Rattle.rules.specs.Laws.Outcomes.{all-got, all-refused, all-if, all-bind, all-of, always, bind-got, bind-refused, bind-assoc}
 use Rattle.rules.specs.Laws.Tests.{and-false}
 use Rattle.rules.specs.Laws.Texts.{sees-here, sees-end}
 use Rattle.steps.specs.Signs.{sign-other}
+use Rattle.steps.specs.Joined.{then-joined, if-joined}
 use Rattle.steps.specs.Infinity.{infinity-word, infinity-then}
 use Rattle.reading.specs.declared.start.Start.{Start}
 
@@ -99,46 +100,36 @@ unfoldable pub connected : Settings → List ℕ → Part → Outcome Part
 connected s text typed = connection s text (typed .next) >>= λ next. got (record { repr = typed .repr; next = next })
 
 module _ (s : Settings) (table text : List ℕ) where
-  then-connected : {A : Type 0} (m : Outcome A) {f : A → Outcome Part} (g : A → Outcome Part) → ((a : A) → f a ≡ (g a >>= connected s text)) → (m >>= f) ≡ (m >>= g >>= connected s text)
-  unfolding _>>=_
-  then-connected (got a) g h = h a
-  then-connected (refused cause) g h = refl
+  module _ (negative : Bool) (place : ℕ) where
+    infinite-connected : infinite-part s text negative place ≡ (typed-infinite s text negative place >>= connected s text)
+    unfolding infinite-part typed-infinite connected infinite _>>=_
+    infinite-connected =
+        rw (infinity-then s text place)
+        (bind-assoc (infinity-word s text place) _ _ ∙ then-joined _ (infinity-word s text place) _ (λ next. refl))
 
-  if-connected : (b : Bool) {x y : Outcome Part} (x′ y′ : Outcome Part) → x ≡ (x′ >>= connected s text) → y ≡ (y′ >>= connected s text) → (if b then x else y) ≡ ((if b then x′ else y′) >>= connected s text)
-  unfolding if_then_else_
-  if-connected true x′ y′ p q = p
-  if-connected false x′ y′ p q = q
+    finite-connected : finite-part s table text negative place ≡ (typed-finite s table text negative place >>= connected s text)
+    unfolding finite-part typed-finite connected _>>=_
+    finite-connected =
+        then-joined _ (number-step s text place) _
+        (λ number. then-joined _ (exponent-step s text (number .next)) _
+        (λ scaled. then-joined _ (gap (s .«before_unit») s text (scaled .next)) _
+        (λ name. then-joined _ (unit-step s table text name) _ (λ unit. refl))))
 
-  infinite-connected : (negative : Bool) (place : ℕ) → infinite-part s text negative place ≡ (typed-infinite s text negative place >>= connected s text)
-  unfolding infinite-part typed-infinite connected infinite _>>=_
-  infinite-connected negative place = rw (infinity-then s text place) (go (infinity-word s text place))
-    where
-      go : (m : Outcome ℕ) → (m >>= (λ next. connection s text next) >>= λ next. got (infinite s negative place next)) ≡ (m >>= (λ next. got (infinite s negative place next)) >>= connected s text)
-      go (got next) = refl
-      go (refused cause) = refl
-
-  finite-connected : (negative : Bool) (place : ℕ) → finite-part s table text negative place ≡ (typed-finite s table text negative place >>= connected s text)
-  unfolding finite-part typed-finite connected _>>=_
-  finite-connected negative place =
-      then-connected (number-step s text place) _
-      (λ number. then-connected (exponent-step s text (number .next)) _
-      (λ scaled. then-connected (gap (s .«before_unit») s text (scaled .next)) _
-      (λ name. then-connected (unit-step s table text name) _ (λ unit. refl))))
-
-  unsigned-connected : (negative : Bool) (place : ℕ) → unsigned-part s table text negative place ≡ (typed-unsigned s table text negative place >>= connected s text)
-  unfolding unsigned-part typed-unsigned typed-word _>>=_
-  unsigned-connected negative place =
-      if-connected _ _ _ (finite-connected negative place) (if-connected _ _ _ (infinite-connected negative place) refl)
+    unsigned-connected : unsigned-part s table text negative place ≡ (typed-unsigned s table text negative place >>= connected s text)
+    unfolding unsigned-part typed-unsigned typed-word _>>=_
+    unsigned-connected =
+        if-joined _ _ _ _ finite-connected (if-joined _ _ _ _ infinite-connected refl)
 
   -- a part is what was typed, and its connection
   pub part-connected : (place : ℕ) → part s table text place ≡ (typed-part s table text place >>= connected s text)
-  unfolding part typed-part part-start signed-start _>>=_ if_then_else_
-  part-connected place = go (ends text place) (sign-step s text place)
+  unfolding part typed-part part-start signed-start _>>=_
+  part-connected place =
+      if-joined after (ends text place) _ _ refl
+      (then-joined after (sign-step s text place) _ (λ signed. unsigned-connected (signed .negative) (signed .next)))
+      ∙ sym (bind-assoc (part-start s text place) _ _)
     where
-      go : (b : Bool) → (m : Outcome Signed) → (if b then refused (Nothing place) else (m >>= λ signed. unsigned-part s table text (signed .negative) (signed .next))) ≡ ((if b then refused (Nothing place) else (m >>= λ signed. got (start-of text signed))) >>= (λ start. typed-unsigned s table text (start .negative) (start .next)) >>= connected s text)
-      go true m = refl
-      go false (got signed) = unsigned-connected (signed .negative) (signed .next)
-      go false (refused cause) = refl
+      after : Start → Outcome Part
+      after start = typed-unsigned s table text (start .negative) (start .next) >>= connected s text
 
 -- ---- laws of the start
 
@@ -161,7 +152,12 @@ module _ (s : Settings) (text : List ℕ) (place : ℕ) where
   unfolding signed-start
   signed-refused e = sym (bind-refused _ e)
 
-  pub signed-got : {signed : Signed} → sign-step s text place ≡ got signed → {class : ℕ} → class ≡ class-at text (signed .next) → got (record { negative = signed .negative; class = class; next = signed .next }) ≡ signed-start s text place
+  pub signed-got :
+      {signed : Signed}
+      → sign-step s text place ≡ got signed
+      → {class : ℕ}
+      → class ≡ class-at text (signed .next)
+      → got (record { negative = signed .negative; class = class; next = signed .next }) ≡ signed-start s text place
   unfolding signed-start
   signed-got e f = rw f (sym (bind-got _ e))
 
@@ -174,7 +170,11 @@ module _ (s : Settings) (text : List ℕ) (place : ℕ) where
     unfolding part-start ends if_then_else_
     start-signed = rw (lt-leb (length text) place h)
 
-    pub start-plain : {c : ℕ} → c ≡ class-at text place → (c ≡ SIGN → ⊥) → got (record { negative = false; class = c; next = place }) ≡ part-start s text place
+    pub start-plain :
+        {c : ℕ}
+        → c ≡ class-at text place
+        → (c ≡ SIGN → ⊥)
+        → got (record { negative = false; class = c; next = place }) ≡ part-start s text place
     unfolding is
     start-plain f other =
         signed-got (sym (sign-other s text place h (ne-eqb _ SIGN (λ e. other (f ∙ sym (class-here text place h) ∙ e))))) f ∙ start-signed
@@ -182,7 +182,9 @@ module _ (s : Settings) (text : List ℕ) (place : ℕ) where
   -- the class is that of the byte at the next place
   pub start-class : {start : Start} → part-start s text place ≡ got start → start .class ≡ class-at text (start .next)
   unfolding part-start signed-start
-  start-class e = all-of {P = λ start. start .class ≡ class-at text (start .next)} (all-if (λ _. all-refused) (λ _. all-bind (always (sign-step s text place)) (λ signed _. all-got refl))) e
+  start-class e =
+      all-of {P = λ start. start .class ≡ class-at text (start .next)}
+      (all-if (λ _. all-refused) (λ _. all-bind (always (sign-step s text place)) (λ signed _. all-got refl))) e
 
 -- ---- the class decides how the part goes on
 
@@ -219,45 +221,52 @@ pub inf-within : (text : List ℕ) (place : ℕ) → says (ascii "inf") text pla
 unfolding ascii
 inf-within text place e = says-within (ascii "inf") text place (omega (arith, inf-there text place e .0)) e
 
+-- a number begins with a byte of these classes
+abbrev begins : ℕ → Bool
+begins c = eqb c DIGIT || eqb c POINT
+
 module _ (s : Settings) (table text : List ℕ) (negative : Bool) (place : ℕ) where
   -- what stands at the place, from its class
   numeric : Bool
   numeric = sees (λ b. is DIGIT b || is POINT b) text place
 
-  numeric-class : numeric ≡ (eqb (class-at text place) DIGIT || eqb (class-at text place) POINT)
+  numeric-class : numeric ≡ begins (class-at text place)
   unfolding numeric class-at ends is if_then_else_
   numeric-class = go (leb (length text) place) refl
     where
-      go : (c : Bool) → leb (length text) place ≡ c → numeric ≡ (eqb (if c then OTHER else class (getD text place 0)) DIGIT || eqb (if c then OTHER else class (getD text place 0)) POINT)
+      go : (c : Bool) → leb (length text) place ≡ c → numeric ≡ begins (if c then OTHER else class (getD text place 0))
       go true f = sees-end _ text place (leb-true (length text) place f)
       go false f = sees-here _ text place (leb-false (length text) place f)
 
-  pub unsigned-number : (class-at text place ≡ DIGIT) ⊎ (class-at text place ≡ POINT) → typed-finite s table text negative place ≡ typed-unsigned s table text negative place
+  pub unsigned-number :
+      (class-at text place ≡ DIGIT) ⊎ (class-at text place ≡ POINT)
+      → typed-finite s table text negative place ≡ typed-unsigned s table text negative place
   unfolding typed-unsigned numeric if_then_else_
   unsigned-number f = rw (numeric-class ∙ either f)
     where
-      either : (class-at text place ≡ DIGIT) ⊎ (class-at text place ≡ POINT) → (eqb (class-at text place) DIGIT || eqb (class-at text place) POINT) ≡ true
+      either : (class-at text place ≡ DIGIT) ⊎ (class-at text place ≡ POINT) → begins (class-at text place) ≡ true
       either f = ⊎-elim (λ e. rw e) (λ e. rw e) f
 
-  not-numeric : (class-at text place ≡ DIGIT → ⊥) → (class-at text place ≡ POINT → ⊥) → typed-word s text negative place ≡ typed-unsigned s table text negative place
+  not-numeric :
+      (class-at text place ≡ DIGIT → ⊥)
+      → (class-at text place ≡ POINT → ⊥)
+      → typed-word s text negative place ≡ typed-unsigned s table text negative place
   unfolding typed-unsigned numeric if_then_else_
   not-numeric d p = rw (numeric-class, ne-eqb _ DIGIT d, ne-eqb _ POINT p)
 
   pub unsigned-word : class-at text place ≡ LETTER → typed-word s text negative place ≡ typed-unsigned s table text negative place
-  unsigned-word e = not-numeric (λ d. letter-apart (sym e ∙ d)) (λ p. letter-apart′ (sym e ∙ p))
-    where
-      letter-apart : LETTER ≡ DIGIT → ⊥
-      letter-apart f = omega arith
+  unsigned-word e = not-numeric (λ d. omega arith) (λ p. omega arith)
 
-      letter-apart′ : LETTER ≡ POINT → ⊥
-      letter-apart′ f = omega arith
-
-  pub unsigned-none : (class-at text place ≡ DIGIT → ⊥) → (class-at text place ≡ POINT → ⊥) → (class-at text place ≡ LETTER → ⊥) → refused (NoNumber place) ≡ typed-unsigned s table text negative place
+  pub unsigned-none :
+      (class-at text place ≡ DIGIT → ⊥)
+      → (class-at text place ≡ POINT → ⊥)
+      → (class-at text place ≡ LETTER → ⊥)
+      → refused (NoNumber place) ≡ typed-unsigned s table text negative place
   unfolding typed-word if_then_else_
   unsigned-none d p l = no-word (says (ascii "inf") text place) refl ∙ not-numeric d p
     where
       no-word : (b : Bool) → says (ascii "inf") text place ≡ b → refused (NoNumber place) ≡ typed-word s text negative place
-      no-word true e = absurd (l (sym (class-here text place (inf-there text place e .0)) ∙ inf-letter _ (inf-there text place e .1)))
+      no-word true e = let there = inf-there text place e in absurd (l (sym (class-here text place (there .0)) ∙ inf-letter _ (there .1)))
       no-word false e = rw (e, and-false)
 
 -- ---- a word

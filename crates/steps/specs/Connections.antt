@@ -27,18 +27,26 @@ abbrev pub size-from : Settings → List ℕ → ℕ → ℕ → ℕ
 size-from s text place i = conjunction-size (drop i (conjunctions-of s)) text place
 
 module _ (s : Settings) (text : List ℕ) (place i : ℕ) where
+  size-beyond : length (conjunctions-of s) ≤ i → size-from s text place i ≡ 0
+  unfolding conjunction-size
+  size-beyond h = rw (drop-of-length-le (conjunctions-of s) h)
+
   pub size-end : s .conjunctions ≤ i → size-from s text place i ≡ 0
-  unfolding conjunction-size conjunctions-of
-  size-end h = rw (drop-of-length-le (conjunctions-of s) {i = i} (simp length-take (omega arith)))
+  unfolding conjunctions-of
+  size-end h = size-beyond (simp length-take (omega arith))
 
   pub size-most : most-conjunctions ≤ i → size-from s text place i ≡ 0
-  unfolding conjunction-size conjunctions-of
-  size-most h = rw (drop-of-length-le (conjunctions-of s) {i = i} (simp length-take (omega arith)))
+  unfolding conjunctions-of
+  size-most h = size-beyond (simp length-take (omega arith))
 
-  module _ (h : i < s .conjunctions) (k : i < most-conjunctions) {c : Conjunction} (at : c ≡ getD (conjunctions-listed s) i (s .fourth)) where
+  module _
+      (h : i < s .conjunctions) (k : i < most-conjunctions)
+      {c : Conjunction} (at : c ≡ getD (conjunctions-listed s) i (s .fourth)) where
     from : drop i (conjunctions-of s) ≡ c ∷ drop (i + 1) (conjunctions-of s)
     unfolding conjunctions-of
-    from = rw (at, add-one i, ← (getD-take (s .conjunctions) (conjunctions-listed s) i (s .fourth) h)) (drop-cons (conjunctions-of s) i (s .fourth) (simp length-take (omega arith)))
+    from =
+        rw (at, add-one i, ← (getD-take (s .conjunctions) (conjunctions-listed s) i (s .fourth) h))
+        (drop-cons (conjunctions-of s) i (s .fourth) (simp length-take (omega arith)))
 
     pub size-here : says (letters-of c) text place ≡ true → size-from s text place i ≡ c .size
     unfolding conjunction-size if_then_else_
@@ -59,18 +67,30 @@ module _ (s : Settings) {outer : ByteSet} (o : s .outer ≡ outer) (text : List 
     outer-at : {b : Bool} → b ≡ sees (holds outer) text place → {t : Bool} → b ≡ t → sees (holds (s .outer)) text place ≡ t
     outer-at asked e = ap (λ set. sees (holds set) text place) o ∙ sym asked ∙ e
 
-    pub after-delimiters : {b : Bool} → b ≡ sees (holds outer) text place → b ≡ true → delimiters outer text place ≡ after-conjunction s text word place
+    pub after-delimiters :
+        {b : Bool}
+        → b ≡ sees (holds outer) text place
+        → b ≡ true
+        → delimiters outer text place ≡ after-conjunction s text word place
     unfolding after-conjunction ends if_then_else_
     after-delimiters asked e = ap (λ set. delimiters set text place) (sym o) ∙ rw (lt-leb (length text) place h, outer-at asked e)
 
     module _ {b : Bool} (asked : b ≡ sees (holds outer) text place) (none : b ≡ false) where
-      pub after-part : is-next-duration (getD text place 0) ≡ true → got place ≡ after-conjunction s text word place
+      after-here :
+          (if is-next-duration (getD text place 0) then got place else refused (ConjunctionGoesOn place))
+          ≡ after-conjunction s text word place
       unfolding after-conjunction ends if_then_else_
-      after-part e = rw (lt-leb (length text) place h, outer-at asked none, sees-here is-next-duration text place h, e)
+      after-here = rw (lt-leb (length text) place h, outer-at asked none, sees-here is-next-duration text place h)
 
-      pub after-other : is-next-duration (getD text place 0) ≡ false → refused (ConjunctionGoesOn place) ≡ after-conjunction s text word place
-      unfolding after-conjunction ends if_then_else_
-      after-other e = rw (lt-leb (length text) place h, outer-at asked none, sees-here is-next-duration text place h, e)
+      pub after-part : is-next-duration (getD text place 0) ≡ true → got place ≡ after-conjunction s text word place
+      unfolding if_then_else_
+      after-part e = rw e at after-here
+
+      pub after-other :
+          is-next-duration (getD text place 0) ≡ false
+          → refused (ConjunctionGoesOn place) ≡ after-conjunction s text word place
+      unfolding if_then_else_
+      after-other e = rw e at after-here
 
 -- ---- the whole step
 
@@ -84,7 +104,9 @@ module _ (s : Settings) (text : List ℕ) (place : ℕ) where
     unfolding connection if_then_else_
     connection-refused d = rw (e, bind-refused _ d)
 
-    module _ {word : ℕ} (d : delimiters (s .outer) text place ≡ got word) {size : ℕ} (c : size ≡ conjunction-size (conjunctions-of s) text word) where
+    module _
+        {word : ℕ} (d : delimiters (s .outer) text place ≡ got word)
+        {size : ℕ} (c : size ≡ conjunction-size (conjunctions-of s) text word) where
       pub connection-plain : size ≡ 0 → got word ≡ connection s text place
       unfolding connection conjunction-step if_then_else_
       connection-plain none = rw (e, bind-got _ d, ← c, eq-eqb _ _ none)

@@ -60,10 +60,17 @@ module _ (set : ByteSet) (text : List ℕ) (place : ℕ) {end : ℕ} (at : end �
   delimiters-none h = rw (← there, sees-none (holds set) text place (rw (← there) h))
 
 -- a run that is got ends within the text
-pub delimiters-within : (set : ByteSet) (text : List ℕ) (place : ℕ) → sees (holds set) text place ≡ true → {word : ℕ} → delimiters set text place ≡ got word → word ≤ length text
+pub delimiters-within :
+    (set : ByteSet) (text : List ℕ) (place : ℕ)
+    → sees (holds set) text place ≡ true
+    → {word : ℕ}
+    → delimiters set text place ≡ got word
+    → word ≤ length text
 unfolding delimiters
 delimiters-within set text place e d =
-    all-of {P = λ word. word ≤ length text} (all-if (λ _. all-refused) (λ _. all-got (run-within (holds set) text place (omega (arith, sees-in (holds set) text place e))))) d
+    let here : place < length text = sees-in (holds set) text place e in
+    all-of {P = λ word. word ≤ length text}
+    (all-if (λ _. all-refused) (λ _. all-got (run-within (holds set) text place (omega arith)))) d
 
 pub gap-on : (s : Settings) (text : List ℕ) (place : ℕ) → gap true s text place ≡ delimiters (s .inner) text place
 unfolding gap if_then_else_

@@ -44,11 +44,15 @@ module _ (negative : Bool) (text : List ℕ) (power place : ℕ) where
     digits-stop e = rw (drop-cons text place 0 h, e)
 
     module _ (d : is DIGIT (getD text place 0) ≡ true) where
-      pub digits-passed : exponent-limit negative < power * 10 + (getD text place 0 - 48) → digits-from negative text power place ≡ refused (exponent-passed negative place)
+      pub digits-passed :
+          exponent-limit negative < power * 10 + (getD text place 0 - 48)
+          → digits-from negative text power place ≡ refused (exponent-passed negative place)
       unfolding exponent-digits if_then_else_
       digits-passed k = rw (drop-cons text place 0 h, d, lt-leb _ _ k)
 
-      pub digits-more : power * 10 + (getD text place 0 - 48) ≤ exponent-limit negative → digits-from negative text power place ≡ digits-from negative text (power * 10 + (getD text place 0 - 48)) (place + 1)
+      pub digits-more :
+          power * 10 + (getD text place 0 - 48) ≤ exponent-limit negative
+          → digits-from negative text power place ≡ digits-from negative text (power * 10 + (getD text place 0 - 48)) (place + 1)
       unfolding exponent-digits if_then_else_
       digits-more k = rw (drop-cons text place 0 h, d, le-leb _ _ k, add-one place)
 
@@ -90,11 +94,15 @@ module _ (text : List ℕ) (place : ℕ) where
   sign-ends h = rw (sees-end (eqb 45) text place h, sees-end (is SIGN) text place h)
 
   module _ (h : place < length text) where
-    pub sign-none : is SIGN (getD text place 0) ≡ false → _≡_ {A = Signed} (record { negative = false; next = place }) (exponent-sign text place)
+    pub sign-none :
+        is SIGN (getD text place 0) ≡ false
+        → _≡_ {A = Signed} (record { negative = false; next = place }) (exponent-sign text place)
     unfolding exponent-sign if_then_else_
     sign-none e = rw (sees-here (eqb 45) text place h, sees-here (is SIGN) text place h, e, no-minus (getD text place 0) e)
 
-    pub sign-there : is SIGN (getD text place 0) ≡ true → _≡_ {A = Signed} (record { negative = eqb (getD text place 0) 45; next = place + 1 }) (exponent-sign text place)
+    pub sign-there :
+        is SIGN (getD text place 0) ≡ true
+        → _≡_ {A = Signed} (record { negative = eqb (getD text place 0) 45; next = place + 1 }) (exponent-sign text place)
     unfolding exponent-sign if_then_else_
     sign-there e = rw (sees-here (eqb 45) text place h, sees-here (is SIGN) text place h, e, eqb-sym 45 (getD text place 0))
 
@@ -110,10 +118,14 @@ module _ (s : Settings) (text : List ℕ) (place : ℕ) where
     unfolding exponent-step if_then_else_
     exponent-off off = rw (e, off)
 
-    pub exponent-on : s .exponents ≡ true → {sign : Signed} → sign ≡ exponent-sign text (place + 1) → exponent-number text (sign .negative) (sign .next) ≡ exponent-step s text place
+    pub exponent-on :
+        s .exponents ≡ true
+        → {sign : Signed}
+        → sign ≡ exponent-sign text (place + 1)
+        → exponent-number text (sign .negative) (sign .next) ≡ exponent-step s text place
     unfolding exponent-step exponent-sign if_then_else_
-    exponent-on on f = rw (e, on, f) (go (sees (is SIGN) text (place + 1)))
+    exponent-on on f = rw (e, on, f) (ap (exponent-number text (sees (eqb 45) text (place + 1))) (after (sees (is SIGN) text (place + 1))))
       where
-        go : (c : Bool) → exponent-number text (sees (eqb 45) text (place + 1)) (if c then place + 1 + 1 else place + 1) ≡ exponent-number text (sees (eqb 45) text (place + 1)) (if c then place + 2 else place + 1)
-        go true = ap (exponent-number text (sees (eqb 45) text (place + 1))) (omega arith)
-        go false = refl
+        after : (c : Bool) → (if c then place + 1 + 1 else place + 1) ≡ (if c then place + 2 else place + 1)
+        after true = omega arith
+        after false = refl

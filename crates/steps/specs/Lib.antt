@@ -1,5 +1,6 @@
 -- What the contracts of the steps need besides the definitions of document 01, and laws of those definitions.
 pub mod Outcomes
+pub mod Joined
 pub mod Bytes
 pub mod Sets
 pub mod Delimiters

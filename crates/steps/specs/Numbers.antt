@@ -19,7 +19,10 @@ use Rattle.rules.specs.Laws.Texts.{run-from}
 use Rattle.steps.specs.Delimiters.{sees-run, sees-none}
 
 module _ (s : Settings) (text : List ℕ) (any-whole : Bool) (whole : Whole) (place : ℕ) where
-  pub fraction-absent : sees (is POINT) text place ≡ false → got (record { whole = whole; fract = record { start = place; end = place }; next = place }) ≡ fraction-step s text any-whole whole place
+  pub fraction-absent :
+      sees (is POINT) text place ≡ false
+      → got (record { whole = whole; fract = record { start = place; end = place }; next = place })
+      ≡ fraction-step s text any-whole whole place
   unfolding fraction-step if_then_else_
   fraction-absent e = rw e
 
@@ -28,27 +31,38 @@ module _ (s : Settings) (text : List ℕ) (any-whole : Bool) (whole : Whole) (pl
     unfolding fraction-step if_then_else_
     fraction-off off = rw (e, off)
 
-    module _ (on : s .fractions ≡ true) {fract : Fract} (f : fract ≡ record { start = place + 1; end = run (is DIGIT) text (place + 1) }) where
-      pub fraction-empty : fract .end ≡ place + 1 → any-whole ≡ false → refused (FractionEmpty place) ≡ fraction-step s text any-whole whole place
+    module _
+        (on : s .fractions ≡ true)
+        {fract : Fract} (f : fract ≡ record { start = place + 1; end = run (is DIGIT) text (place + 1) }) where
+      pub fraction-empty :
+          fract .end ≡ place + 1
+          → any-whole ≡ false
+          → refused (FractionEmpty place) ≡ fraction-step s text any-whole whole place
       unfolding fraction-step if_then_else_
       fraction-empty h w = rw (e, on, w, sees-none (is DIGIT) text (place + 1) (omega (arith, rw f at h)))
 
-      pub fraction-after : any-whole ≡ true → got (record { whole = whole; fract = fract; next = fract .end }) ≡ fraction-step s text any-whole whole place
+      pub fraction-after :
+          any-whole ≡ true
+          → got (record { whole = whole; fract = fract; next = fract .end }) ≡ fraction-step s text any-whole whole place
       unfolding fraction-step if_then_else_
       fraction-after w = rw (e, on, w, f)
 
-      pub fraction-some : (fract .end ≡ place + 1 → ⊥) → got (record { whole = whole; fract = fract; next = fract .end }) ≡ fraction-step s text any-whole whole place
+      pub fraction-some :
+          (fract .end ≡ place + 1 → ⊥)
+          → got (record { whole = whole; fract = fract; next = fract .end }) ≡ fraction-step s text any-whole whole place
       unfolding fraction-step if_then_else_
       fraction-some h = rw (e, on, sees-run (is DIGIT) text (place + 1) (beyond (ap (λ x. x .end) f)), or-true, f)
         where
           beyond : fract .end ≡ run (is DIGIT) text (place + 1) → place + 1 < run (is DIGIT) text (place + 1)
           beyond g = omega (arith, run-from (is DIGIT) text (place + 1))
 
-module _ (s : Settings) (text : List ℕ) (place : ℕ) {whole : Whole} (w : whole ≡ record { start = run (eqb 48) text place; end = run (is DIGIT) text place }) where
+module _
+    (s : Settings) (text : List ℕ) (place : ℕ)
+    {whole : Whole} (w : whole ≡ record { start = run (eqb 48) text place; end = run (is DIGIT) text place }) where
   -- there are digits before the point exactly if their run goes on
   pub number-whole : fraction-step s text (ltb place (whole .end)) whole (whole .end) ≡ number-step s text place
   unfolding number-step
-  number-whole = rw w (ap (λ b. fraction-step s text b (record { start = run (eqb 48) text place; end = run (is DIGIT) text place }) (run (is DIGIT) text place)) (any (ltb place (run (is DIGIT) text place)) refl))
+  number-whole = rw (w, any (ltb place (run (is DIGIT) text place)) refl)
     where
       any : (b : Bool) → ltb place (run (is DIGIT) text place) ≡ b → b ≡ sees (is DIGIT) text place
       any true e = sym (sees-run (is DIGIT) text place (ltb-true place (run (is DIGIT) text place) e))

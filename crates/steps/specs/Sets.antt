@@ -27,7 +27,9 @@ unlike true false e = refl
 unlike false true e = refl
 unlike false false e = absurd (false≢true e)
 
-module _ (set : ByteSet) (held : Bool) (text : List ℕ) (place : ℕ) (h : place < length text) {found : Bool} (asked : found ≡ holds set (getD text place 0)) where
+module _
+    (set : ByteSet) (held : Bool) (text : List ℕ) (place : ℕ) (h : place < length text)
+    {found : Bool} (asked : found ≡ holds set (getD text place 0)) where
   -- a byte that passes goes on with the run, and one that does not stops it
   pub passes-on : xor found held ≡ false → run (passes set held) text place ≡ run (passes set held) text (place + 1)
   unfolding passes

@@ -30,19 +30,31 @@ module _ (s : Settings) (text : List ℕ) (place : ℕ) where
     sign-other e = sign-absent (sees-here (is SIGN) text place here ∙ e)
 
     module _ (e : is SIGN (getD text place 0) ≡ true) where
+      there : sees (is SIGN) text place ≡ true
+      there = sees-here (is SIGN) text place here ∙ e
+
       pub sign-last : length text ≤ place + 1 → refused (SignEnds (place + 1)) ≡ sign-step s text place
       unfolding sign-step ends if_then_else_
-      sign-last h = rw (sees-here (is SIGN) text place here, e, le-leb (length text) (place + 1) h)
+      sign-last h = rw (there, le-leb (length text) (place + 1) h)
 
       module _ (h : place + 1 < length text) {on : Bool} (a : s .«after_sign» ≡ on) where
         switched : gap (s .«after_sign») s text (place + 1) ≡ gap on s text (place + 1)
         switched = ap (λ b. gap b s text (place + 1)) a
 
-        pub sign-got : {next : ℕ} → gap on s text (place + 1) ≡ got next → got (record { negative = eqb (getD text place 0) 45; next = next }) ≡ sign-step s text place
+        pub sign-got :
+            {next : ℕ}
+            → gap on s text (place + 1) ≡ got next
+            → got (record { negative = eqb (getD text place 0) 45; next = next }) ≡ sign-step s text place
         unfolding sign-step ends if_then_else_
         sign-got g =
-            rw (sees-here (is SIGN) text place here, e, lt-leb (length text) (place + 1) h, bind-got _ (switched ∙ g), sees-here (eqb 45) text place here, eqb-sym 45 (getD text place 0))
+            rw (
+              there,
+              lt-leb (length text) (place + 1) h,
+              bind-got _ (switched ∙ g),
+              sees-here (eqb 45) text place here,
+              eqb-sym 45 (getD text place 0),
+            )
 
         pub sign-refused : {cause : Refusal} → gap on s text (place + 1) ≡ refused cause → refused cause ≡ sign-step s text place
         unfolding sign-step ends if_then_else_
-        sign-refused g = rw (sees-here (is SIGN) text place here, e, lt-leb (length text) (place + 1) h, bind-refused _ (switched ∙ g))
+        sign-refused g = rw (there, lt-leb (length text) (place + 1) h, bind-refused _ (switched ∙ g))

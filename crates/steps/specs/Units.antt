@@ -34,7 +34,8 @@ pub record Readable (table : List ℕ) : Type 0 where
 
 -- between two places that do not ascend nothing stands, and nothing has no name
 pub nothing-found : (table text : List ℕ) (place end : ℕ) → Readable table → end ≤ place → Nowhere ≡ lookup table (slice place end text)
-nothing-found table text place end t h = sym (ap (lookup table) (drop-of-length-le (take end text) {i = place} (omega (arith, length-take end text))) ∙ t .named)
+nothing-found table text place end t h =
+    sym (ap (lookup table) (drop-of-length-le (take end text) {i = place} (omega (arith, length-take end text))) ∙ t .named)
 
 -- ---- where a name ends
 
@@ -71,7 +72,10 @@ unfolding front
 front-alike test other [] h = refl
 front-alike test other (b ∷ rest) h = rw (h 0, front-alike test other rest (λ k. h (suc k)))
 
-run-alike : (test other : ℕ → Bool) (text : List ℕ) (place : ℕ) → ((k : ℕ) → test (getD text k 0) ≡ other (getD text k 0)) → run test text place ≡ run other text place
+run-alike :
+    (test other : ℕ → Bool) (text : List ℕ) (place : ℕ)
+    → ((k : ℕ) → test (getD text k 0) ≡ other (getD text k 0))
+    → run test text place ≡ run other text place
 unfolding run
 run-alike test other text place h = rw (front-alike test other (drop place text) (λ k. rw (getD-drop place text k 0) (h (place + k))))
 
@@ -82,7 +86,11 @@ outside false true e = refl
 outside false false e = absurd (false≢true e)
 
 -- the bytes that do not stop a name are those of the stretch
-pub stretch-ends : (s : Settings) (set : ByteSet) (text : List ℕ) (place : ℕ) → Bytes text → ((b : ℕ) → b < 256 → holds set b ≡ not (in-stretch s b)) → run (passes set false) text place ≡ run (in-stretch s) text place
+pub stretch-ends :
+    (s : Settings) (set : ByteSet) (text : List ℕ) (place : ℕ)
+    → Bytes text
+    → ((b : ℕ) → b < 256 → holds set b ≡ not (in-stretch s b))
+    → run (passes set false) text place ≡ run (in-stretch s) text place
 unfolding passes
 stretch-ends s set text place bytes h = run-alike _ _ text place (λ k. outside _ _ (h (getD text k 0) (bytes k)))
 
@@ -148,17 +156,30 @@ module _ (s : Settings) {inner : ByteSet} (i : s .inner ≡ inner) (text : List 
           unfolding ago-step if_then_else_ closes-unit
           ago-open c = rw (a, inner-sees e, bind-got _ (taken d), w, c)
 
-          pub ago-there : closes-unit s text (word + 3) ≡ true → {n : Multiplier} → n ≡ negated m → got (record { multiplier = n; next = word + 3 }) ≡ ago-step s text m place
+          pub ago-there :
+              closes-unit s text (word + 3) ≡ true
+              → {n : Multiplier}
+              → n ≡ negated m
+              → got (record { multiplier = n; next = word + 3 }) ≡ ago-step s text m place
           unfolding ago-step if_then_else_ closes-unit
           ago-there c f = rw (a, inner-sees e, bind-got _ (taken d), w, c, f)
 
 -- ---- what the lookup finds
 
-module _ (s : Settings) (table text : List ℕ) (place : ℕ) {end : ℕ} (e : end ≡ run (in-stretch s) text place) {found : Found} (f : found ≡ lookup table (slice place end text)) where
+module _
+    (s : Settings) (table text : List ℕ) (place : ℕ)
+    {end : ℕ} (e : end ≡ run (in-stretch s) text place)
+    {found : Found} (f : found ≡ lookup table (slice place end text)) where
   stretch : lookup table (slice place (run (in-stretch s) text place) text) ≡ found
   stretch = ap (λ n. lookup table (slice place n text)) (sym e) ∙ sym f
 
-  pub unit-none : found ≡ Nowhere → {kind : ℕ} → s .«default_kind» ≡ kind → {m : Multiplier} → m ≡ kind-multiplier kind → got (record { multiplier = m; next = place }) ≡ unit-step s table text place
+  pub unit-none :
+      found ≡ Nowhere
+      → {kind : ℕ}
+      → s .«default_kind» ≡ kind
+      → {m : Multiplier}
+      → m ≡ kind-multiplier kind
+      → got (record { multiplier = m; next = place }) ≡ unit-step s table text place
   unfolding unit-step unit-found
   unit-none n k g = rw (stretch, n, g) (ap (λ kind. got (record { multiplier = kind-multiplier kind; next = place })) (sym k))
 

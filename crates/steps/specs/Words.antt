@@ -32,7 +32,10 @@ prefix-matching [] rest = refl
 prefix-matching (w ∷ word) [] = sym (ne-eqb 0 (suc (length word)) (λ e. omega arith))
 prefix-matching (w ∷ word) (b ∷ rest) = go (same-letter w b) (prefix-matching word rest)
   where
-    go : (c : Bool) → prefix word rest ≡ eqb (matching word rest) (length word) → (c && prefix word rest) ≡ eqb (if c then suc (matching word rest) else 0) (suc (length word))
+    go :
+        (c : Bool)
+        → prefix word rest ≡ eqb (matching word rest) (length word)
+        → (c && prefix word rest) ≡ eqb (if c then suc (matching word rest) else 0) (suc (length word))
     go true e = e ∙ eqb-iff (matching word rest) (length word) (suc (matching word rest)) (suc (length word)) (ap suc) (λ h. omega arith)
     go false e = sym (ne-eqb 0 (suc (length word)) (λ h. omega arith))
 
@@ -51,7 +54,9 @@ module _ (word text : List ℕ) (i place : ℕ) where
   matching-done h = rw (drop-of-length-le word h)
 
   module _ (hi : i < length word) (hp : place < length text) where
-    pub matching-more : lower (getD word i 0) ≡ lower (getD text place 0) → matching (drop i word) (drop place text) ≡ suc (matching (drop (i + 1) word) (drop (place + 1) text))
+    pub matching-more :
+        lower (getD word i 0) ≡ lower (getD text place 0)
+        → matching (drop i word) (drop place text) ≡ suc (matching (drop (i + 1) word) (drop (place + 1) text))
     unfolding matching same-letter if_then_else_
     matching-more e = rw (drop-cons word i 0 hi, drop-cons text place 0 hp, eq-eqb _ _ e, add-one i, add-one place)
 
@@ -74,10 +79,16 @@ module _ (size letters : ℕ) (text : List ℕ) (place : ℕ) where
   letters-end h k = rw (one-more h, drop-of-length-le text k)
 
   module _ (h : 0 < size) (k : place < length text) where
-    pub letters-more : lower (letters % 256) ≡ lower (getD text place 0) → says (low-bytes size letters) text place ≡ says (low-bytes (size - 1) (letters / 256)) text (place + 1)
+    letters-here :
+        says (low-bytes size letters) text place
+        ≡ (eqb (lower (letters % 256)) (lower (getD text place 0)) && says (low-bytes (size - 1) (letters / 256)) text (place + 1))
     unfolding says low-bytes prefix same-letter
-    letters-more e = ap (λ n. prefix (low-bytes n letters) (drop place text)) (one-more h) ∙ rw (drop-cons text place 0 k, eq-eqb _ _ e, add-one place)
+    letters-here = ap (λ n. prefix (low-bytes n letters) (drop place text)) (one-more h) ∙ rw (drop-cons text place 0 k, add-one place)
+
+    pub letters-more :
+        lower (letters % 256) ≡ lower (getD text place 0)
+        → says (low-bytes size letters) text place ≡ says (low-bytes (size - 1) (letters / 256)) text (place + 1)
+    letters-more e = letters-here ∙ rw (eq-eqb _ _ e)
 
     pub letters-stop : (lower (letters % 256) ≡ lower (getD text place 0) → ⊥) → says (low-bytes size letters) text place ≡ false
-    unfolding says low-bytes prefix same-letter
-    letters-stop e = ap (λ n. prefix (low-bytes n letters) (drop place text)) (one-more h) ∙ rw (drop-cons text place 0 k, ne-eqb _ _ e)
+    letters-stop e = letters-here ∙ rw (ne-eqb _ _ e)

@@ -24,7 +24,9 @@ read-part-checked-requires c κs = sym (c .before .before .card-check .ensures) 
 
 returns : tie.Need-returns
 unfolding outcome
-returns c = c .refusal .ensures ∙ part-card _ _ _ _ (sym (c .before .before .before .before .card-check .ensures) ∙ ap outcome (c .before .before .card .given .1))
+returns c =
+    c .refusal .ensures
+    ∙ part-card _ _ _ _ (sym (c .before .before .before .before .card-check .ensures) ∙ ap outcome (c .before .before .card .given .1))
 
 returns-2 : tie.Need-returns-2
 returns-2 c = c .read-part-checked .ensures

@@ -1,8 +1,8 @@
 -- `reading::entries::read_total_checked` meets its contract: 8, and what the parts come to. Assumes nothing.
 use mathlib.Core.Path.{sym, ap, _∙_}
 use borrow.Author.Needs.{needs}
-use Rattle.reading.specs.Entries.{card-readable, total-long, total-refused, total-got}
 use Rattle.reading.specs.Outcomes.{total}
+use Rattle.reading.specs.Entries.{card-readable, total-long, total-refused, total-got}
 use Rattle.reading.proofs.entries.read_total_checked.Statement.{statement}
 use Rattle.reading.proofs.entries.read_total_checked.Tie as tie
 
@@ -28,10 +28,18 @@ done-requires : tie.Need-done-requires
 done-requires c κs = search needs
 
 returns-2 : tie.Need-returns-2
-returns-2 c = c .refusal2 .ensures ∙ total-refused _ _ _ (c .before .before .before .before .before .before .before .before .pre) (c .before .before .before .before .before .if1 .left) (sym (c .before .before .before .before .parse-multiple .ensures) ∙ ap total (c .before .before .cause .given .1))
+returns-2 c =
+    let short = c .before .before .before .before .before in
+    c .refusal2 .ensures
+    ∙ total-refused _ _ _ (short .before .before .before .pre) (short .if1 .left)
+    (sym (c .before .before .before .before .parse-multiple .ensures) ∙ ap total (c .before .before .cause .given .1))
 
 returns-3 : tie.Need-returns-3
-returns-3 c = c .done .ensures ∙ total-got _ _ _ (c .before .before .before .before .before .before .before .before .pre) (c .before .before .before .before .before .if1 .left) (sym (c .before .before .before .before .parse-multiple .ensures) ∙ ap total (c .before .before .length .given .1))
+returns-3 c =
+    let short = c .before .before .before .before .before in
+    c .done .ensures
+    ∙ total-got _ _ _ (short .before .before .before .pre) (short .if1 .left)
+    (sym (c .before .before .before .before .parse-multiple .ensures) ∙ ap total (c .before .before .length .given .1))
 
 pub read-total-checked-spec : {M : Type 1} → statement M
 read-total-checked-spec =

@@ -1,12 +1,21 @@
 -- `reading::part::parse_part` meets its contract: the part, evaluated, and tested. Assumes nothing.
-use mathlib.Core.Path.{refl, sym, ap, _∙_}
+use mathlib.Core.Path.{_≡_, refl, sym, ap, _∙_}
 use borrow.Author.Needs.{needs}
+use Rattle.rules.specs.NumbersHandedBack.{got}
+use Rattle.rules.specs.ReadingOnePart.{part}
 use Rattle.rules.specs.Evaluation.{part-reading, allowed}
 use Rattle.rules.specs.Laws.Outcomes.{all-of, bind-got, bind-refused}
+use Rattle.reading.specs.Outcomes as outcomes
 use Rattle.reading.specs.Spans.{part-spans}
-use Rattle.reading.specs.Outcomes.{part}
 use Rattle.reading.proofs.part.parse_part.Statement.{statement}
 use Rattle.reading.proofs.part.parse_part.Tie as tie
+
+-- the part that was read, as its definition has it
+got-part :
+    (c : tie.After-part)
+    → let args = c .before .before .before .before .before .args in
+    part (args .s) (args .table .now) (args .text .now) (args .place) ≡ got (c .part .given .0 .0)
+got-part c = sym (c .before .before .connected-part .ensures) ∙ ap outcomes.part (c .part .given .1)
 
 connected-part-requires : tie.Need-connected-part-requires
 connected-part-requires c κs = search needs
@@ -18,14 +27,15 @@ enum-known-part : tie.Need-enum-known-part
 enum-known-part c = search needs
 
 evaluate-requires : tie.Need-evaluate-requires
-evaluate-requires c κs = all-of (part-spans _ _ _ _) (sym (c .before .before .before .connected-part .ensures) ∙ ap part (c .before .part .given .1))
+evaluate-requires c κs = all-of (part-spans _ _ _ _) (got-part (c .before))
 
 allowed-requires : tie.Need-allowed-requires
 allowed-requires c κs = search needs
 
 returns : tie.Need-returns
 unfolding part-reading
-returns c = sym (bind-refused _ (sym (c .before .before .before .connected-part .ensures) ∙ ap part (c .before .cause .given .1)))
+returns c =
+    sym (bind-refused _ (sym (c .before .before .before .connected-part .ensures) ∙ ap outcomes.part (c .before .cause .given .1)))
 
 returns-2 : tie.Need-returns-2
 unfolding part-reading
@@ -33,7 +43,7 @@ returns-2 c =
     let args = c .before .before .before .before .before .before .before .before .args in
     c .allowed .ensures (args .s) refl
     ∙ ap (allowed (args .s) (args .place) (c .before .before .before .part .given .0 .0 .next)) (c .before .evaluate .ensures)
-    ∙ sym (bind-got _ (sym (c .before .before .before .before .before .connected-part .ensures) ∙ ap part (c .before .before .before .part .given .1)))
+    ∙ sym (bind-got _ (got-part (c .before .before .before)))
 
 pub parse-part-spec : {M : Type 1} → statement M
 parse-part-spec =

@@ -1,11 +1,19 @@
 -- `reading::part::typed_part` meets its contract: the start, and then the number or the word after the sign. Assumes nothing.
-use mathlib.Core.Path.{refl, sym, ap, _∙_}
+use mathlib.Core.Path.{_≡_, refl, sym, ap, _∙_}
 use borrow.Author.Needs.{needs}
+use Rattle.rules.specs.NumbersHandedBack.{got}
 use Rattle.rules.specs.Laws.Outcomes.{bind-got, bind-refused}
-use Rattle.reading.specs.Typed.{typed-part, start-class}
 use Rattle.reading.specs.Outcomes.{started}
+use Rattle.reading.specs.Typed.{typed-part, start-class, part-start}
 use Rattle.reading.proofs.part.typed_part.Statement.{statement}
 use Rattle.reading.proofs.part.typed_part.Tie as tie
+
+-- the start, as its definition has it
+got-start :
+    (c : tie.After-start)
+    → let args = c .before .before .before .before .before .args in
+    part-start (args .s) (args .text .now) (args .place) ≡ got (c .start .given .0 .0)
+got-start c = sym (c .before .before .part-start .ensures _ refl refl) ∙ ap started (c .start .given .1)
 
 part-start-requires : tie.Need-part-start-requires
 part-start-requires c κs = search needs
@@ -17,15 +25,18 @@ enum-known-start : tie.Need-enum-known-start
 enum-known-start c = search needs
 
 unsigned-part-requires : tie.Need-unsigned-part-requires
-unsigned-part-requires c κs = (c .before .before .before .before .before .before .pre, start-class (c .before .before .before .before .before .before .args .s) _ _ (sym (c .before .before .before .part-start .ensures _ refl refl) ∙ ap started (c .before .start .given .1)))
+unsigned-part-requires c κs =
+    let entry = c .before .before .before .before .before .before in
+    (entry .pre, start-class (entry .args .s) _ _ (got-start (c .before)))
 
 returns : tie.Need-returns
 unfolding typed-part
-returns c = sym (bind-refused _ (sym (c .before .before .before .part-start .ensures _ refl refl) ∙ ap started (c .before .cause .given .1)))
+returns c =
+    sym (bind-refused _ (sym (c .before .before .before .part-start .ensures _ refl refl) ∙ ap started (c .before .cause .given .1)))
 
 returns-2 : tie.Need-returns-2
 unfolding typed-part
-returns-2 c = c .unsigned-part .ensures ∙ sym (bind-got _ (sym (c .before .before .before .before .part-start .ensures _ refl refl) ∙ ap started (c .before .before .start .given .1)))
+returns-2 c = c .unsigned-part .ensures ∙ sym (bind-got _ (got-start (c .before .before)))
 
 pub typed-part-spec : {M : Type 1} → statement M
 typed-part-spec =

@@ -16,13 +16,15 @@ is-digit-requires : tie.Need-is-digit-requires
 is-digit-requires c κs = search needs
 
 returns-2 : tie.Need-returns-2
-returns-2 c = class-known _ _ DIGIT (c .before .before .before .if1 .left) (sym (c .before .is-digit .ensures) ∙ c .if2 .taken)
+returns-2 c =
+    class-known _ _ DIGIT (c .before .before .before .if1 .left) (sym (c .before .is-digit .ensures) ∙ c .if2 .taken)
 
 is-sign-requires : tie.Need-is-sign-requires
 is-sign-requires c κs = search needs
 
 returns-3 : tie.Need-returns-3
-returns-3 c = class-known _ _ SIGN (c .before .before .before .before .before .if1 .left) (sym (c .before .is-sign .ensures) ∙ c .if3 .taken)
+returns-3 c =
+    class-known _ _ SIGN (c .before .before .before .before .before .if1 .left) (sym (c .before .is-sign .ensures) ∙ c .if3 .taken)
 
 class-of-requires : tie.Need-class-of-requires
 class-of-requires c κs = search needs

@@ -19,10 +19,14 @@ class-at-requires : tie.Need-class-at-requires
 class-at-requires c κs = search needs
 
 returns : tie.Need-returns
-returns c s a i = signed-refused s _ _ (sym (c .before .before .before .parse-number-sign .ensures s a i) ∙ ap signed (c .before .cause .given .1))
+returns c s a i =
+    signed-refused s _ _ (sym (c .before .before .before .parse-number-sign .ensures s a i) ∙ ap signed (c .before .cause .given .1))
 
 returns-2 : tie.Need-returns-2
-returns-2 c s a i = signed-got s _ _ (sym (c .before .before .before .before .parse-number-sign .ensures s a i) ∙ ap signed (c .before .before .signed .given .1)) (c .class-at .ensures)
+returns-2 c s a i =
+    signed-got s _ _
+    (sym (c .before .before .before .before .parse-number-sign .ensures s a i) ∙ ap signed (c .before .before .signed .given .1))
+    (c .class-at .ensures)
 
 pub signed-start-spec : {M : Type 1} → statement M
 signed-start-spec =

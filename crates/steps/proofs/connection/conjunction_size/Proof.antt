@@ -27,7 +27,10 @@ next-is-letters-requires c κs = search needs
 
 returns-2 : tie.Need-returns-2 Inv-loop μ-loop
 unfolding letters-of
-returns-2 c = sym (size-here _ _ _ _ (search needs) (c .before .before .before .if1 .left) (c .before .before .conjunction-at .ensures) (sym (c .before .next-is-letters .ensures) ∙ c .if2 .taken)) ∙ c .before .before .before .before .before .loop .inv .1
+returns-2 c =
+    sym (size-here _ _ _ _ (search needs) (c .before .before .before .if1 .left) (c .before .before .conjunction-at .ensures)
+    (sym (c .before .next-is-letters .ensures) ∙ c .if2 .taken))
+    ∙ c .before .before .before .before .before .loop .inv .1
 
 add-i : tie.Need-add-i Inv-loop μ-loop
 add-i c = search needs
@@ -37,7 +40,12 @@ loop-less c = search needs
 
 loop-again : tie.Need-loop-again Inv-loop μ-loop
 unfolding letters-of
-loop-again c = (c .before .before .before .before .before .loop .inv .0, sym (size-next _ _ _ (c .before .before .before .before .before .loop .i) (search needs) (c .before .before .before .if1 .left) (c .before .before .conjunction-at .ensures) (sym (c .before .next-is-letters .ensures) ∙ c .if2 .left)) ∙ c .before .before .before .before .before .loop .inv .1)
+loop-again c = (
+  c .before .before .before .before .before .loop .inv .0,
+  sym (size-next _ _ _ (c .before .before .before .before .before .loop .i) (search needs)
+      (c .before .before .before .if1 .left) (c .before .before .conjunction-at .ensures) (sym (c .before .next-is-letters .ensures) ∙ c .if2 .left))
+      ∙ c .before .before .before .before .before .loop .inv .1,
+)
 
 returns-3 : tie.Need-returns-3 Inv-loop μ-loop
 returns-3 c = sym (size-end (c .before .before .before .args .s) _ _ (c .before .loop .i) (search needs)) ∙ c .before .loop .inv .1

@@ -1,13 +1,28 @@
 -- `steps::connection::try_consume_connection` meets its contract: no delimiter, a run that ends the text, a run alone, and a run with a conjunction. Assumes nothing.
-use mathlib.Core.Path.{refl, sym, ap, _∙_}
+use mathlib.Core.Path.{_≡_, refl, sym, ap, _∙_}
+use mathlib.Core.Bool.{true}
 use native.Mathlib.Omega.{arith}
 use borrow.Author.Needs.{needs}
 use borrow.Author.Tests.{not-true, not-false}
+use Rattle.rules.specs.Common.{sees}
+use Rattle.rules.specs.NumbersHandedBack.{got}
+use Rattle.rules.specs.SettingsAndUnitTable.{holds}
+use Rattle.rules.specs.ReadingOnePart.{delimiters}
 use Rattle.steps.specs.Outcomes.{next}
 use Rattle.steps.specs.Delimiters.{delimiters-within}
 use Rattle.steps.specs.Connections.{connection-none, connection-refused, connection-plain, connection-joined}
 use Rattle.steps.proofs.connection.try_consume_connection.Statement.{statement}
 use Rattle.steps.proofs.connection.try_consume_connection.Tie as tie
+
+-- past the first test a delimiter stands at the place, and the run that it begins was got
+there : (c : tie.Else1) → let args = c .before .before .before .before .args in sees (holds (args .s .outer)) (args .text .now) (args .place) ≡ true
+there c = sym (c .before .is-delimiter .ensures) ∙ not-false _ (c .if1 .left)
+
+got-word :
+    (c : tie.After-word)
+    → let args = c .before .before .before .before .before .before .before .args in
+    delimiters (args .s .outer) (args .text .now) (args .place) ≡ got (c .word .given .0 .0)
+got-word c = sym (c .before .before .try-consume-delimiter .ensures) ∙ ap next (c .word .given .1)
 
 is-delimiter-requires : tie.Need-is-delimiter-requires
 is-delimiter-requires c κs = search needs
@@ -31,19 +46,28 @@ cast-size : tie.Need-cast-size
 cast-size c = search needs
 
 returns-2 : tie.Need-returns-2
-returns-2 c = connection-plain _ _ _ (sym (c .before .before .before .before .before .before .before .is-delimiter .ensures) ∙ not-false _ (c .before .before .before .before .before .before .if1 .left)) (sym (c .before .before .before .before .before .try-consume-delimiter .ensures) ∙ ap next (c .before .before .before .word .given .1)) (c .before .conjunction-size .ensures) (c .if2 .taken)
+returns-2 c =
+    let found = c .before .before .before in
+    connection-plain _ _ _ (there (found .before .before .before)) (got-word found) (c .before .conjunction-size .ensures) (c .if2 .taken)
 
 add-after-conjunction : tie.Need-add-after-conjunction
-add-after-conjunction c = omega (arith, delimiters-within _ _ _ (sym (c .before .before .before .before .before .before .before .is-delimiter .ensures) ∙ not-false _ (c .before .before .before .before .before .before .if1 .left)) (sym (c .before .before .before .before .before .try-consume-delimiter .ensures) ∙ ap next (c .before .before .before .word .given .1)))
+add-after-conjunction c =
+    let found = c .before .before .before in
+    omega (arith, delimiters-within _ _ _ (there (found .before .before .before)) (got-word found))
 
 after-conjunction-requires : tie.Need-after-conjunction-requires
 after-conjunction-requires c κs = search needs
 
 returns-3 : tie.Need-returns-3
-returns-3 c = connection-refused _ _ _ (sym (c .before .before .before .before .before .is-delimiter .ensures) ∙ not-false _ (c .before .before .before .before .if1 .left)) (sym (c .before .before .before .try-consume-delimiter .ensures) ∙ ap next (c .before .cause .given .1))
+returns-3 c =
+    connection-refused _ _ _ (there (c .before .before .before .before))
+    (sym (c .before .before .before .try-consume-delimiter .ensures) ∙ ap next (c .before .cause .given .1))
 
 returns-4 : tie.Need-returns-4
-returns-4 c = c .after-conjunction .ensures _ refl ∙ connection-joined _ _ _ (sym (c .before .before .before .before .before .before .before .before .is-delimiter .ensures) ∙ not-false _ (c .before .before .before .before .before .before .before .if1 .left)) (sym (c .before .before .before .before .before .before .try-consume-delimiter .ensures) ∙ ap next (c .before .before .before .before .word .given .1)) (c .before .before .conjunction-size .ensures) (c .before .if2 .left)
+returns-4 c =
+    let found = c .before .before .before .before in
+    c .after-conjunction .ensures _ refl
+    ∙ connection-joined _ _ _ (there (found .before .before .before)) (got-word found) (c .before .before .conjunction-size .ensures) (c .before .if2 .left)
 
 pub try-consume-connection-spec : {M : Type 1} → statement M
 try-consume-connection-spec =

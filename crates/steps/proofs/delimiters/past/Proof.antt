@@ -1,11 +1,12 @@
+-- `steps::delimiters::past` meets its contract: the run from here on ends where the run from the first place does. Assumes nothing.
 use mathlib.Core.Path.{_≡_, refl, sym, _∙_}
 use mathlib.Core.Bool.{xor}
 use Prim.Native.Nat.{_-_}
 use borrow.Author.Needs.{needs}
 use lib.ListN.{length}
 use Rattle.rules.specs.Common.{run}
-use Rattle.steps.specs.Sets.{passes, passes-on, passes-off}
 use Rattle.value.specs.Digits.{run-end}
+use Rattle.steps.specs.Sets.{passes, passes-on, passes-off}
 use Rattle.steps.proofs.delimiters.past.Statement.{statement}
 use Rattle.steps.proofs.delimiters.past.Tie as tie
 
@@ -26,7 +27,9 @@ holds-requires c κs = search needs
 
 returns : tie.Need-returns Inv-loop μ-loop
 unfolding xor
-returns c = sym (passes-off _ _ _ _ (search needs) (c .before .holds .ensures) (c .if1 .taken)) ∙ c .before .before .before .before .loop .inv
+returns c =
+    sym (passes-off _ _ _ _ (search needs) (c .before .holds .ensures) (c .if1 .taken))
+    ∙ c .before .before .before .before .loop .inv
 
 add-next : tie.Need-add-next Inv-loop μ-loop
 add-next c = search needs
@@ -36,7 +39,9 @@ loop-less c = search needs
 
 loop-again : tie.Need-loop-again Inv-loop μ-loop
 unfolding xor
-loop-again c = sym (passes-on _ _ _ _ (search needs) (c .before .holds .ensures) (c .if1 .left)) ∙ c .before .before .before .before .loop .inv
+loop-again c =
+    sym (passes-on _ _ _ _ (search needs) (c .before .holds .ensures) (c .if1 .left))
+    ∙ c .before .before .before .before .loop .inv
 
 returns-2 : tie.Need-returns-2 Inv-loop μ-loop
 returns-2 c = sym (run-end _ _ _ (c .loop-test .left)) ∙ c .before .loop .inv

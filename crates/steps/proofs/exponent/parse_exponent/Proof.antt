@@ -16,13 +16,16 @@ is-digit-requires : tie.Need-is-digit-requires
 is-digit-requires c κs = search needs
 
 returns-2 : tie.Need-returns-2
-returns-2 c = number-byte _ _ _ (c .before .before .before .if1 .left) (sym (c .before .is-digit .ensures) ∙ not-true _ (c .if2 .taken))
+returns-2 c =
+    number-byte _ _ _ (c .before .before .before .if1 .left) (sym (c .before .is-digit .ensures) ∙ not-true _ (c .if2 .taken))
 
 exponent-digits-requires : tie.Need-exponent-digits-requires
 exponent-digits-requires c κs = search needs
 
 returns-3 : tie.Need-returns-3
-returns-3 c = c .exponent-digits .ensures ∙ number-digits _ _ _ (c .before .before .before .before .if1 .left) (sym (c .before .before .is-digit .ensures) ∙ not-false _ (c .before .if2 .left))
+returns-3 c =
+    c .exponent-digits .ensures
+    ∙ number-digits _ _ _ (c .before .before .before .before .if1 .left) (sym (c .before .before .is-digit .ensures) ∙ not-false _ (c .before .if2 .left))
 
 pub parse-exponent-spec : {M : Type 1} → statement M
 parse-exponent-spec =

@@ -20,7 +20,9 @@ letters-matching-requires c κs = search needs
 
 add-end : tie.Need-add-end
 unfolding ascii
-add-end c = omega (arith, c .letters-matching .ensures, five-most (drop (c .before .before .before .args .inf + 3) (c .before .before .before .args .text .now)))
+add-end c =
+    let args = c .before .before .before .args in
+    omega (arith, c .letters-matching .ensures, five-most (drop (args .inf + 3) (args .text .now)))
 
 returns : tie.Need-returns
 unfolding ascii
@@ -35,11 +37,15 @@ closes-infinity-requires c κs = search needs
 
 returns-3 : tie.Need-returns-3
 unfolding ascii
-returns-3 c s o = long-closed s _ _ (search needs) (c .before .before .before .letters-matching .ensures) (c .before .before .if1 .left) (sym (c .before .closes-infinity .ensures s o) ∙ c .if3 .taken)
+returns-3 c s o =
+    long-closed s _ _ (search needs) (c .before .before .before .letters-matching .ensures) (c .before .before .if1 .left)
+    (sym (c .before .closes-infinity .ensures s o) ∙ c .if3 .taken)
 
 returns-4 : tie.Need-returns-4
 unfolding ascii
-returns-4 c s o = long-goes-on s _ _ (search needs) (c .before .before .before .letters-matching .ensures) (c .before .before .if1 .left) (sym (c .before .closes-infinity .ensures s o) ∙ c .if3 .left)
+returns-4 c s o =
+    long-goes-on s _ _ (search needs) (c .before .before .before .letters-matching .ensures) (c .before .before .if1 .left)
+    (sym (c .before .closes-infinity .ensures s o) ∙ c .if3 .left)
 
 pub parse-inity-spec : {M : Type 1} → statement M
 parse-inity-spec =

@@ -14,7 +14,8 @@ shared-slice-read-result : tie.Need-shared-slice-read-result
 shared-slice-read-result c = search needs
 
 returns-2 : tie.Need-returns-2
-returns-2 c = sym (sees-here _ _ _ (c .before .if1 .left) ∙ point-byte _ (omega (arith, c .shared-slice-known .given (c .before .before .args .place))))
+returns-2 c =
+    sym (sees-here _ _ _ (c .before .if1 .left) ∙ point-byte _ (omega (arith, c .shared-slice-known .given (c .before .before .args .place))))
 
 pub is-point-spec : {M : Type 1} → statement M
 is-point-spec = tie.close (tie.spec returns shared-slice-read-result returns-2)

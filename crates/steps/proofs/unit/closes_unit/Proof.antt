@@ -18,10 +18,14 @@ is-next-duration-requires : tie.Need-is-next-duration-requires
 is-next-duration-requires c κs = search needs
 
 returns-2 : tie.Need-returns-2
-returns-2 c s o = c .if2 .taken ∙ closes-outer s o _ _ (c .before .before .before .if1 .left) (sym (c .before .holds .ensures) ∙ c .if2 .taken)
+returns-2 c s o =
+    c .if2 .taken
+    ∙ closes-outer s o _ _ (c .before .before .before .if1 .left) (sym (c .before .holds .ensures) ∙ c .if2 .taken)
 
 returns-3 : tie.Need-returns-3
-returns-3 c s o = c .is-next-duration .ensures ∙ closes-next s o _ _ (c .before .before .before .before .if1 .left) (sym (c .before .before .holds .ensures) ∙ c .before .if2 .left)
+returns-3 c s o =
+    c .is-next-duration .ensures
+    ∙ closes-next s o _ _ (c .before .before .before .before .if1 .left) (sym (c .before .before .holds .ensures) ∙ c .before .if2 .left)
 
 pub closes-unit-spec : {M : Type 1} → statement M
 closes-unit-spec =

@@ -16,7 +16,9 @@ either-requires-3 : tie.Need-either-requires-3
 either-requires-3 c κs = search needs
 
 returns : tie.Need-returns
-returns c s a i o b h = ap (λ set. holds set b) (c .either2 .ensures ∙ rw (c .before .either .ensures)) ∙ stops-with s i o b h (a ∙ c .before .before .if1 .taken)
+returns c s a i o b h =
+    ap (λ set. holds set b) (c .either2 .ensures ∙ rw (c .before .either .ensures))
+    ∙ stops-with s i o b h (a ∙ c .before .before .if1 .taken)
 
 returns-2 : tie.Need-returns-2
 returns-2 c s a i o b h = ap (λ set. holds set b) (c .either3 .ensures) ∙ stops-without s i o b h (a ∙ c .before .if1 .left)

@@ -9,7 +9,8 @@ use Rattle.steps.proofs.words.letters_matching.Statement.{statement}
 use Rattle.steps.proofs.words.letters_matching.Tie as tie
 
 abbrev Inv-loop : tie.InvT-loop
-Inv-loop word text place count₀ next₀ count next = (count + matching (drop count word) (drop next text) ≡ matching word (drop place text)) × (count ≤ length word)
+Inv-loop word text place count₀ next₀ count next =
+    (count + matching (drop count word) (drop next text) ≡ matching word (drop place text)) × (count ≤ length word)
 
 abbrev μ-loop : tie.MeasureT-loop
 μ-loop word text place count₀ next₀ count next = length word - count
@@ -18,7 +19,10 @@ loop-holds : tie.Need-loop-holds Inv-loop μ-loop
 loop-holds c = (search needs, search needs)
 
 returns : tie.Need-returns Inv-loop μ-loop
-returns c = omega (arith, matching-ends (c .before .before .before .before .before .args .word .now) (c .before .before .before .before .before .args .text .now) (c .before .before .loop .count) (c .before .before .loop .next) (c .if1 .taken), c .before .before .loop .inv .0)
+returns c =
+    let args = c .before .before .before .before .before .args in
+    let loop = c .before .before .loop in
+    omega (arith, matching-ends (args .word .now) (args .text .now) (loop .count) (loop .next) (c .if1 .taken), loop .inv .0)
 
 shared-slice-read-lower : tie.Need-shared-slice-read-lower Inv-loop μ-loop
 shared-slice-read-lower c = search needs
@@ -33,7 +37,15 @@ lower-requires-2 : tie.Need-lower-requires-2 Inv-loop μ-loop
 lower-requires-2 c κs = search needs
 
 returns-2 : tie.Need-returns-2 Inv-loop μ-loop
-returns-2 c = omega (arith, matching-stops (c .before .before .before .before .before .before .before .before .before .before .args .word .now) (c .before .before .before .before .before .before .before .before .before .before .args .text .now) (c .before .before .before .before .before .before .before .loop .count) (c .before .before .before .before .before .before .before .loop .next) (search needs) (search needs) (λ e. c .if2 .taken (c .before .before .before .lower .ensures ∙ e ∙ sym (c .before .lower2 .ensures))), c .before .before .before .before .before .before .before .loop .inv .0)
+returns-2 c =
+    let args = c .before .before .before .before .before .before .before .before .before .before .args in
+    let loop = c .before .before .before .before .before .before .before .loop in
+    omega (
+      arith,
+      matching-stops (args .word .now) (args .text .now) (loop .count) (loop .next) (search needs) (search needs)
+          (λ e. c .if2 .taken (c .before .before .before .lower .ensures ∙ e ∙ sym (c .before .lower2 .ensures))),
+      loop .inv .0,
+    )
 
 add-count : tie.Need-add-count Inv-loop μ-loop
 add-count c = search needs
@@ -45,10 +57,23 @@ loop-less : tie.Need-loop-less Inv-loop μ-loop
 loop-less c = search needs
 
 loop-again : tie.Need-loop-again Inv-loop μ-loop
-loop-again c = (omega (arith, matching-more (c .before .before .before .before .before .before .before .before .before .before .args .word .now) (c .before .before .before .before .before .before .before .before .before .before .args .text .now) (c .before .before .before .before .before .before .before .loop .count) (c .before .before .before .before .before .before .before .loop .next) (search needs) (search needs) (sym (c .before .before .before .lower .ensures) ∙ c .if2 .left ∙ c .before .lower2 .ensures), c .before .before .before .before .before .before .before .loop .inv .0), search needs)
+loop-again c =
+    let args = c .before .before .before .before .before .before .before .before .before .before .args in
+    let loop = c .before .before .before .before .before .before .before .loop in (
+      omega (
+        arith,
+        matching-more (args .word .now) (args .text .now) (loop .count) (loop .next) (search needs) (search needs)
+            (sym (c .before .before .before .lower .ensures) ∙ c .if2 .left ∙ c .before .lower2 .ensures),
+        loop .inv .0,
+      ),
+      search needs,
+    )
 
 returns-3 : tie.Need-returns-3 Inv-loop μ-loop
-returns-3 c = omega (arith, matching-done (c .before .before .before .before .args .word .now) (c .before .before .before .before .args .text .now) (c .before .loop .count) (c .before .loop .next) (c .loop-test .left), c .before .loop .inv .0)
+returns-3 c =
+    let args = c .before .before .before .before .args in
+    let loop = c .before .loop in
+    omega (arith, matching-done (args .word .now) (args .text .now) (loop .count) (loop .next) (c .loop-test .left), loop .inv .0)
 
 pub letters-matching-spec : {M : Type 1} → statement M
 letters-matching-spec =

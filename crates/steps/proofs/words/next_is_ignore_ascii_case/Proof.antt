@@ -11,7 +11,8 @@ letters-matching-requires : tie.Need-letters-matching-requires
 letters-matching-requires c κs = search needs
 
 returns : tie.Need-returns
-returns c = ap (λ n. eqb n (length (c .before .before .before .args .word .now))) (c .letters-matching .ensures) ∙ says-matching _ _ _
+returns c =
+    ap (λ n. eqb n (length (c .before .before .before .args .word .now))) (c .letters-matching .ensures) ∙ says-matching _ _ _
 
 pub next-is-ignore-ascii-case-spec : {M : Type 1} → statement M
 next-is-ignore-ascii-case-spec = tie.close (tie.spec letters-matching-requires returns)
