@@ -2,3 +2,5 @@
 pub mod Spelled
 pub mod Layout
 pub mod OnePart
+pub mod ExactSum
+pub mod Demand3

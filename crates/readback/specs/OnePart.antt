@@ -1,34 +1,38 @@
 -- One written length is read as itself, wherever it stands: behind it the text ends, or a sign begins the next. Assumes nothing.
-use mathlib.Core.Path.{_≡_, refl, sym, ap, _∙_}
-use mathlib.Core.Bool.{Bool, true, false, not, _&&_, _||_, false≢true}
+use mathlib.Core.Path.{_≡_, refl, sym, ap, _∙_, ap₂}
+use mathlib.Core.Bool.{Bool, true, false, not, _&&_, _||_, false≢true, xor}
 use mathlib.Core.Logic.{_⊎_, inl, inr, ⊎-elim}
 use mathlib.Core.List.{List, [], _∷_, _++_, append-assoc}
 use Prim.Native.Nat.{ℕ, _+_, _*_, _-_, _/_, _^_, _≤_, _<_}
 use native.Mathlib.Nat.{add-zero, mul-assoc, mul-div-cancel}
 use native.Mathlib.Omega.{arith}
-use borrow.Author.Tests.{eqb-true, eqb-false, ne-eqb, ltb-true}
+use borrow.Author.Tests.{eqb-true, eqb-false, ne-eqb, ltb-true, lt-leb}
 use lib.Dec.{eqb, ltb, lit<}
-use lib.ListN.{length, drop}
+use lib.ListN.{length, drop, length-append}
 use lib.Seq.{slice, slice-empty}
 use Rattle.rules.specs.declared.ByteSet.{ByteSet}
+use Rattle.rules.specs.declared.DurationRepr.{DurationRepr}
+use Rattle.rules.specs.declared.Number.{Number}
 use Rattle.rules.specs.declared.Length.{Length}
 use Rattle.rules.specs.declared.Settings.{Settings}
 use Rattle.rules.specs.declared.Whole.{Whole}
-use Rattle.rules.specs.Common.{if_then_else_, between, starts, sees, run}
-use Rattle.rules.specs.NumbersHandedBack.{got}
+use Rattle.rules.specs.Common.{if_then_else_, between, starts, sees, run, ends}
+use Rattle.rules.specs.NumbersHandedBack.{got, _>>=_}
 use Rattle.rules.specs.ThePartOfTheCrateWeTake.{size, well-formed, zero-length}
-use Rattle.rules.specs.SettingsAndUnitTable.{DIGIT, SIGN, POINT, OTHER, class, is, is-next-duration, lower, holds, may-delimit, kind-multiplier, card-check}
-use Rattle.rules.specs.ReadingOnePart.{same-letter, gap, delimiters, fraction-step, number-step, exponent-step, in-stretch, unit-found, unit-step, connection}
-use Rattle.rules.specs.Evaluation.{spelled, attos, length-of}
+use Rattle.rules.specs.SettingsAndUnitTable.{DIGIT, SIGN, POINT, OTHER, class, is, is-next-duration, lower, holds, may-delimit, kind-multiplier, card-check, kind-coefficients, kind-downs}
+use Rattle.rules.specs.ReadingOnePart.{same-letter, gap, delimiters, fraction-step, number-step, exponent-step, in-stretch, unit-found, unit-step, connection, finite-part, unsigned-part, part, sign-step}
+use Rattle.rules.specs.Evaluation.{spelled, attos, length-of, digits-of, up, down, nanos, evaluate, allowed, part-reading}
 use Rattle.rules.specs.WriterAndShiftTotal.{decimals, no-leading-zeros, second-digits, sign-byte, whole-digits, fraction-digits, written-fraction, written}
-use Rattle.rules.specs.Laws.Texts.{run-stop}
-use Rattle.rules.specs.Laws.Written.{Digits, decimals-digits, whole-digits-only, fraction-digits-only}
+use Rattle.rules.specs.Laws.Texts.{run-stop, sees-in, sees-or}
+use Rattle.rules.specs.Laws.Written.{Digits, decimals-digits, whole-digits-only, fraction-digits-only, written-sign}
 use Rattle.rules.specs.Laws.Apart.{proper, apart, none as no-length}
 use Rattle.rules.specs.Laws.Choices.{if-either, all-first, all-others, and-left, and-right}
 use Rattle.value.specs.Digits.{ten-pos, ten-sum, digit-high}
 use Rattle.card.specs.Laws.Accepted.{card-settings, card-table, delimiter-class, inner-delimits, outer-delimits, lookup-empty}
-use Rattle.readback.specs.Layout.{sees-of, behind, run-over, spelled-stretch}
-use Rattle.readback.specs.Spelled.{spelled-whole}
+use Rattle.rules.specs.Laws.Tests.{and-false}
+use Rattle.writing.specs.Forms.{no-decimals}
+use Rattle.readback.specs.Layout.{sees-of, behind, run-over, spelled-stretch, goes-on, stretch}
+use Rattle.readback.specs.Spelled.{spelled-whole, fraction-few, spelled-fraction, spelled-append}
 
 -- ---- from the digits to the length
 
@@ -89,6 +93,30 @@ a-sign b e = go (between 48 57 b) (eqb b 43) (eqb b 45) (eqb b 46) (between 65 9
     go false false false true letter p m e = absurd (false≢true e)
     go false false false false true p m e = absurd (false≢true e)
     go false false false false false p m e = absurd (false≢true e)
+
+-- where a byte of one kind stands, there is none of another, and the text goes on
+starts-other : (f g : ℕ → Bool) (rest : List ℕ) → ((b : ℕ) → f b ≡ true → g b ≡ false) → starts f rest ≡ true → starts g rest ≡ false
+unfolding starts
+starts-other f g [] other e = refl
+starts-other f g (b ∷ rest) other e = other b e
+
+sees-other : (f g : ℕ → Bool) (text : List ℕ) (place : ℕ) → ((b : ℕ) → f b ≡ true → g b ≡ false) → sees f text place ≡ true → sees g text place ≡ false
+unfolding sees
+sees-other f g text place other e = starts-other f g (drop place text) other e
+
+sees-goes-on : (f : ℕ → Bool) (text : List ℕ) (place : ℕ) → sees f text place ≡ true → ends text place ≡ false
+unfolding ends
+sees-goes-on f text place e = lt-leb (length text) place (sees-in f text place e)
+
+minus-sign : (negative : Bool) (rest : List ℕ) → starts (eqb 45) (sign-byte negative ∷ rest) ≡ negative
+unfolding starts sign-byte if_then_else_
+minus-sign true rest = refl
+minus-sign false rest = refl
+
+xor-false : (b : Bool) → xor b false ≡ b
+unfolding xor
+xor-false true = refl
+xor-false false = refl
 
 -- seconds have a digit at least
 first-digit : (d : ℕ) (digits post : List ℕ) → Digits (d ∷ digits) → starts (is DIGIT) (no-leading-zeros (d ∷ digits) ++ post) ≡ true
@@ -214,6 +242,23 @@ module _ (s : Settings) (table : List ℕ) (good : card-check s table ≡ got tt
       begins : sees (is DIGIT) text (place + 1) ≡ true
       begins = sees-of text (place + 1) (is DIGIT) at-whole ∙ whole-begins (l .seconds) (fract ++ rest)
 
+      a-sign-here : sees (is SIGN) text place ≡ true
+      unfolding starts
+      a-sign-here = sees-of text place (is SIGN) at-sign ∙ written-sign (l .negative)
+
+      the-sign : sees (eqb 45) text place ≡ l .negative
+      the-sign = sees-of text place (eqb 45) at-sign ∙ minus-sign (l .negative) (whole ++ (fract ++ rest))
+
+      signed : sign-step s text place ≡ got (record { negative = l .negative; next = place + 1 })
+      unfolding sign-step if_then_else_ _>>=_
+      signed =
+          rw (
+            a-sign-here,
+            sees-goes-on (is DIGIT) text (place + 1) begins,
+            gap-none text (place + 1) (s .«after_sign») (sees-other (is DIGIT) (holds (s .inner)) text (place + 1) digit-not-inner begins),
+            the-sign,
+          )
+
       -- the point's place, or that of the rest
       abbrev point : ℕ
       point = place + 1 + length whole
@@ -234,9 +279,12 @@ module _ (s : Settings) (table : List ℕ) (good : card-check s table ≡ got tt
         number-none = rw (whole-ends, no text point rest-at-point follows (is POINT) no-point)
 
       module _ (some : l .nanoseconds ≡ 0 → ⊥) where
-        decimals-at : drop point text ≡ (46 ∷ []) ++ (fraction-digits (l .nanoseconds) ++ rest)
+        fract-is : fract ≡ 46 ∷ fraction-digits (l .nanoseconds)
         unfolding written-fraction if_then_else_
-        decimals-at = at-fraction ∙ rw (ne-eqb (l .nanoseconds) 0 some)
+        fract-is = rw (ne-eqb (l .nanoseconds) 0 some)
+
+        decimals-at : drop point text ≡ (46 ∷ []) ++ (fraction-digits (l .nanoseconds) ++ rest)
+        decimals-at = at-fraction ∙ ap (λ f. f ++ rest) fract-is
 
         first-decimal : drop (point + 1) text ≡ fraction-digits (l .nanoseconds) ++ rest
         first-decimal = behind text point (46 ∷ []) (fraction-digits (l .nanoseconds) ++ rest) decimals-at
@@ -257,3 +305,77 @@ module _ (s : Settings) (table : List ℕ) (good : card-check s table ≡ got tt
 
         rest-at-last : drop last text ≡ rest
         rest-at-last = behind text (point + 1) (fraction-digits (l .nanoseconds)) rest first-decimal
+
+      -- ---- what was typed, evaluated
+
+      module _ (number : Number) (at-end : number .next ≡ place + length (written l)) where
+        module _ (seconds : spelled 0 (digits-of text (number .whole) (number .fract)) ≡ spelled (l .seconds) (fraction-digits (l .nanoseconds))) (decimals-typed : number .fract .end - number .fract .start ≡ length (fraction-digits (l .nanoseconds))) where
+          -- the decimals are those of the nanoseconds, so that nothing is cut
+          typed-attos : attos (spelled 0 (digits-of text (number .whole) (number .fract))) (number .fract .end - number .fract .start) 0 0 ≡ size l * 10 ^ 9
+          unfolding size
+          typed-attos =
+              ap₂ (λ n f. attos n f 0 0) seconds decimals-typed
+              ∙ attos-nine (spelled (l .seconds) (fraction-digits (l .nanoseconds))) (length (fraction-digits (l .nanoseconds))) (fraction-few (l .nanoseconds))
+              ∙ ap (λ n. n * 10 ^ 9) (spelled-fraction (l .seconds) (l .nanoseconds) (proper l well))
+
+          abbrev repr : DurationRepr
+          repr = record { negative = l .negative; infinite = false; whole = number .whole; fract = number .fract; exponent = record { negative = false; power = 0 }; multiplier = kind-multiplier (s .«default_kind») }
+
+          evaluated : evaluate text repr ≡ l
+          unfolding evaluate if_then_else_ up down nanos kind-multiplier kind-coefficients kind-downs
+          evaluated = rw (default, typed-attos) (ap₂ length-of (xor-false (l .negative)) (omega arith) ∙ length-of-size l well)
+
+          module _ (read : number-step s text (place + 1) ≡ got number) (rest-there : drop (number .next) text ≡ rest) where
+            finite : finite-part s table text (l .negative) (place + 1) ≡ got (record { repr = repr; next = number .next })
+            unfolding finite-part _>>=_
+            finite =
+                rw (
+                  read,
+                  no-exponent text (number .next) rest-there follows,
+                  no-gap text (number .next) rest-there follows (s .«before_unit»),
+                  no-unit text (number .next) rest-there follows,
+                  no-connection text (number .next) rest-there follows,
+                )
+
+            one-part : part s table text place ≡ got (record { repr = repr; next = number .next })
+            unfolding part unsigned-part if_then_else_ _>>=_
+            one-part = rw (goes-on text place at-sign, signed, finite, sees-or (is DIGIT) (is POINT) text (place + 1), begins)
+
+            reads : part-reading s table text place ≡ got (record { length = l; next = place + length (written l) })
+            unfolding part-reading allowed if_then_else_ _>>=_
+            reads = rw (one-part, evaluated, negatives, at-end, and-false)
+
+      -- ---- without decimals, and with some
+
+      size-written : length (written l) ≡ 1 + length whole + length fract
+      unfolding written
+      size-written = omega (arith, length-append whole fract)
+
+      reads-whole : l .nanoseconds ≡ 0 → part-reading s table text place ≡ got (record { length = l; next = place + length (written l) })
+      unfolding digits-of
+      reads-whole none =
+          reads (record { whole = typed; fract = record { start = point; end = point }; next = point })
+          (omega (arith, size-written, ap length (no-fract none)))
+          (spelled-append 0 (slice (typed .start) (typed .end) text) (slice point point text)
+          ∙ ap₂ spelled whole-spelled (slice-empty point text ∙ sym (ap fraction-digits none ∙ no-decimals)))
+          (omega (arith, ap length (ap fraction-digits none ∙ no-decimals)))
+          (number-none none)
+          (rest-at-point none)
+
+      reads-decimals : (l .nanoseconds ≡ 0 → ⊥) → part-reading s table text place ≡ got (record { length = l; next = place + length (written l) })
+      unfolding digits-of
+      reads-decimals some =
+          reads (record { whole = typed; fract = record { start = point + 1; end = last some }; next = last some })
+          (omega (arith, size-written, ap length (fract-is some)))
+          (spelled-append 0 (slice (typed .start) (typed .end) text) (slice (point + 1) (last some) text)
+          ∙ ap₂ spelled whole-spelled (stretch text (point + 1) (fraction-digits (l .nanoseconds)) rest (first-decimal some)))
+          (omega arith)
+          (number-some some)
+          (rest-at-last some)
+
+      pub part-reads : part-reading s table text place ≡ got (record { length = l; next = place + length (written l) })
+      part-reads = go (eqb (l .nanoseconds) 0) refl
+        where
+          go : (b : Bool) → eqb (l .nanoseconds) 0 ≡ b → part-reading s table text place ≡ got (record { length = l; next = place + length (written l) })
+          go true e = reads-whole (eqb-true (l .nanoseconds) 0 e)
+          go false e = reads-decimals (eqb-false (l .nanoseconds) 0 e)

@@ -102,7 +102,7 @@ all-zeros (suc n) x h e = go (eqb (x % 10) 0) refl (all-zeros n (x / 10))
         omega (arith, before fewer zeros, eqb-true (x % 10) 0 z)
     go false z before = absurd (omega (arith, sym (decimals-length (suc n) x) ∙ ap length (sym (trailing-kept (suc n) x some (eqb-false _ 0 z)) ∙ e)))
 
-no-decimals : fraction-digits 0 ≡ []
+pub no-decimals : fraction-digits 0 ≡ []
 unfolding fraction-digits no-trailing-zeros decimals before-zeros if_then_else_
 no-decimals = refl
 
