@@ -58,10 +58,10 @@ all-are-written [] buffer place good room = (refl, laid-nothing buffer place)
 all-are-written (l ∷ more) buffer place good room =
     let here : length (written l ++ written-all more) ≡ length (written l) + length (written-all more) = length-append (written l) (written-all more) in
     let wrote = write-done l buffer place (all-first well-formed l more good) (omega arith) (omega (arith, here)) in
-    let others =
-    all-are-written more (laid buffer place (written l)) (place + length (written l)) (all-others well-formed l more good)
-    (rw (laid-length buffer place (written l) (omega (arith, here))) (omega (arith, here))) in
-    rw (← (wrote .0), ← (wrote .1)) (others .0, others .1 ∙ laid-then buffer place (place + length (written l)) (written l) (written-all more) refl (omega arith))
+    let next : ℕ = place + length (written l) in
+    let kept : length (laid buffer place (written l)) ≡ length buffer = laid-length buffer place (written l) (omega (arith, here)) in
+    let others = all-are-written more (laid buffer place (written l)) next (all-others well-formed l more good) (omega (arith, here, kept)) in
+    rw (← (wrote .0), ← (wrote .1)) (others .0, others .1 ∙ laid-then buffer place next (written l) (written-all more) refl (omega arith))
 
 -- a length is refused by 9 exactly if it does not fit
 pub refused-if-it-does-not-fit :
@@ -151,10 +151,9 @@ no-two-share-a-line (l ∷ ls) (m ∷ ms) good fine same =
     let one = part-reads card-A [] plain-card refl refl refl l (all-first well-formed l ls good) (written-all ls) (follows ls) text 0 refl in
     let other = part-reads card-A [] plain-card refl refl refl m (all-first well-formed m ms fine) (written-all ms) (follows ms) text 0 same in
     let first : l ≡ m = ap length-got (sym one ∙ other) in
-    let rest : ls ≡ ms =
-    no-two-share-a-line ls ms (all-others well-formed l ls good) (all-others well-formed m ms fine)
-    (append-cancel-left (written l) (written-all ls) (written-all ms) (same ∙ ap (λ x. written x ++ written-all ms) (sym first))) in
-    ap₂ (λ x xs. x ∷ xs) first rest
+    let rest : written-all ls ≡ written-all ms =
+    append-cancel-left (written l) (written-all ls) (written-all ms) (same ∙ ap (λ x. written x ++ written-all ms) (sym first)) in
+    ap₂ (λ x xs. x ∷ xs) first (no-two-share-a-line ls ms (all-others well-formed l ls good) (all-others well-formed m ms fine) rest)
 
 -- ---- 4. the total
 

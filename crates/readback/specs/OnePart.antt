@@ -41,7 +41,9 @@ attos-nine : (n f : ℕ) → f ≤ 9 → attos n f 0 0 ≡ n * 10 ^ (9 - f) * 10
 unfolding attos
 attos-nine n f h =
     let power : 10 ^ 18 ≡ 10 ^ (9 - f) * 10 ^ 9 * 10 ^ f = ten-sum (9 - f + 9) f 18 (omega arith) ∙ ap (λ p. p * 10 ^ f) (ten-sum (9 - f) 9 (9 - f + 9) refl) in
-    let product : n * 10 ^ 18 ≡ n * 10 ^ (9 - f) * 10 ^ 9 * 10 ^ f = ap (λ p. n * p) power ∙ sym (mul-assoc n (10 ^ (9 - f) * 10 ^ 9) (10 ^ f)) ∙ ap (λ m. m * 10 ^ f) (sym (mul-assoc n (10 ^ (9 - f)) (10 ^ 9))) in
+    let moved : n * (10 ^ (9 - f) * 10 ^ 9) ≡ n * 10 ^ (9 - f) * 10 ^ 9 = sym (mul-assoc n (10 ^ (9 - f)) (10 ^ 9)) in
+    let product : n * 10 ^ 18 ≡ n * 10 ^ (9 - f) * 10 ^ 9 * 10 ^ f =
+    ap (λ p. n * p) power ∙ sym (mul-assoc n (10 ^ (9 - f) * 10 ^ 9) (10 ^ f)) ∙ ap (λ m. m * 10 ^ f) moved in
     ap (λ k. n * 10 ^ 18 / 10 ^ k) (add-zero f) ∙ ap (λ m. m / 10 ^ f) product ∙ mul-div-cancel (n * 10 ^ (9 - f) * 10 ^ 9) (ten-pos f)
 
 few-seconds : (l : Length) → well-formed l ≡ true → l .seconds < 2 ^ 64
@@ -140,7 +142,14 @@ of-signs P plus minus b e = ⊎-elim (λ z. rw z plus) (λ z. rw z minus) (a-sig
 
 module _ (s : Settings) (table : List ℕ) (good : card-check s table ≡ got tt) where
   -- no sign and no digit is a delimiter
-  no-delimiter : (set : ByteSet) → ((b : ℕ) → b < 256 → holds set b ≡ true → may-delimit b ≡ true) → (c b : ℕ) → (c ≡ OTHER → ⊥) → b < 256 → is c b ≡ true → holds set b ≡ false
+  no-delimiter :
+      (set : ByteSet)
+      → ((b : ℕ) → b < 256 → holds set b ≡ true → may-delimit b ≡ true)
+      → (c b : ℕ)
+      → (c ≡ OTHER → ⊥)
+      → b < 256
+      → is c b ≡ true
+      → holds set b ≡ false
   unfolding is
   no-delimiter set only c b other below e = go (holds set b) refl
     where
@@ -227,7 +236,9 @@ module _ (s : Settings) (table : List ℕ) (good : card-check s table ≡ got tt
       -- nor does one stand behind the whole digits
       whole-stops : (test : ℕ → Bool) → test 46 ≡ false → ((b : ℕ) → is SIGN b ≡ true → test b ≡ false) → starts test (fract ++ rest) ≡ false
       unfolding written-fraction starts
-      whole-stops test point signs = if-either (λ f. starts test (f ++ rest) ≡ false) (eqb (l .nanoseconds) 0) {x = []} {y = 46 ∷ fraction-digits (l .nanoseconds)} (λ _. follows test signs) (λ _. point)
+      whole-stops test point signs =
+          if-either (λ f. starts test (f ++ rest) ≡ false) (eqb (l .nanoseconds) 0) {x = []} {y = 46 ∷ fraction-digits (l .nanoseconds)}
+          (λ _. follows test signs) (λ _. point)
 
       whole-ends : run (is DIGIT) text (place + 1) ≡ place + 1 + length whole
       unfolding is class between if_then_else_
@@ -309,7 +320,9 @@ module _ (s : Settings) (table : List ℕ) (good : card-check s table ≡ got tt
       -- ---- what was typed, evaluated
 
       module _ (number : Number) (at-end : number .next ≡ place + length (written l)) where
-        module _ (seconds : spelled 0 (digits-of text (number .whole) (number .fract)) ≡ spelled (l .seconds) (fraction-digits (l .nanoseconds))) (decimals-typed : number .fract .end - number .fract .start ≡ length (fraction-digits (l .nanoseconds))) where
+        module _
+            (seconds : spelled 0 (digits-of text (number .whole) (number .fract)) ≡ spelled (l .seconds) (fraction-digits (l .nanoseconds)))
+            (decimals-typed : number .fract .end - number .fract .start ≡ length (fraction-digits (l .nanoseconds))) where
           -- the decimals are those of the nanoseconds, so that nothing is cut
           typed-attos : attos (spelled 0 (digits-of text (number .whole) (number .fract))) (number .fract .end - number .fract .start) 0 0 ≡ size l * 10 ^ 9
           unfolding size
@@ -319,7 +332,15 @@ module _ (s : Settings) (table : List ℕ) (good : card-check s table ≡ got tt
               ∙ ap (λ n. n * 10 ^ 9) (spelled-fraction (l .seconds) (l .nanoseconds) (proper l well))
 
           abbrev repr : DurationRepr
-          repr = record { negative = l .negative; infinite = false; whole = number .whole; fract = number .fract; exponent = record { negative = false; power = 0 }; multiplier = kind-multiplier (s .«default_kind») }
+          repr =
+              record {
+                negative = l .negative;
+                infinite = false;
+                whole = number .whole;
+                fract = number .fract;
+                exponent = record { negative = false; power = 0 };
+                multiplier = kind-multiplier (s .«default_kind»);
+              }
 
           evaluated : evaluate text repr ≡ l
           unfolding evaluate if_then_else_ up down nanos kind-multiplier kind-coefficients kind-downs

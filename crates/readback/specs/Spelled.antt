@@ -37,7 +37,11 @@ spelled-leading [] = refl
 spelled-leading (d ∷ []) = refl
 spelled-leading (d ∷ e ∷ digits) = go (eqb d 48) refl (spelled-leading (e ∷ digits))
   where
-    go : (b : Bool) → eqb d 48 ≡ b → spelled 0 (no-leading-zeros (e ∷ digits)) ≡ spelled 0 (e ∷ digits) → spelled 0 (if b then no-leading-zeros (e ∷ digits) else d ∷ e ∷ digits) ≡ spelled 0 (d ∷ e ∷ digits)
+    go :
+        (b : Bool)
+        → eqb d 48 ≡ b
+        → spelled 0 (no-leading-zeros (e ∷ digits)) ≡ spelled 0 (e ∷ digits)
+        → spelled 0 (if b then no-leading-zeros (e ∷ digits) else d ∷ e ∷ digits) ≡ spelled 0 (d ∷ e ∷ digits)
     go true z more = more ∙ rw (eqb-true d 48 z)
     go false z more = refl
 
