@@ -1,15 +1,43 @@
 -- `writing::writer::write_length` meets its contract: each refusal in its order, before anything is written. Assumes nothing.
-use mathlib.Core.Path.{_∙_, ap, sym}
+use mathlib.Core.Path.{_≡_, _∙_, ap, sym}
+use mathlib.Core.Bool.{true}
 use Prim.Native.Nat.{_+_}
 use native.Mathlib.Omega.{arith}
 use borrow.Author.Tests.{not-true, not-false}
 use borrow.Author.Needs.{needs}
 use lib.ListN.{length}
+use Rattle.rules.specs.ThePartOfTheCrateWeTake.{well-formed}
 use Rattle.rules.specs.NumbersHandedBack.{done}
+use Rattle.rules.specs.WriterAndShiftTotal.{sign-byte, written}
 use Rattle.writing.specs.Forms.{fraction-size-most, form-bytes, form-length, form-is, written-size, write-malformed, write-beyond, write-no-room, write-done}
 use Rattle.writing.specs.Laid.{laid, laid-length}
 use Rattle.writing.proofs.writer.write_length.Statement.{statement}
 use Rattle.writing.proofs.writer.write_length.Tie as tie
+
+-- ---- what is known on the way
+
+good : (c : tie.Else1) → well-formed (c .before .before .before .args .length) ≡ true
+good c = sym (c .before .well-formed .ensures) ∙ not-false _ (c .if1 .left)
+
+-- the digits found are those of what is written
+form :
+    (c : tie.After-fraction)
+    → let l = c .before .before .before .before .before .before .args .length in
+    form-bytes (sign-byte (l .negative)) (c .before .whole .result) (c .fraction .result) ≡ written l
+form c = form-is _ (c .before .whole .result) (c .fraction .result) (good (c .before .before .before)) (c .before .whole .ensures .0) (c .fraction .ensures .0)
+
+-- and the size is that of what is written
+size-is :
+    (c : tie.After-fraction-size)
+    → let whole = c .before .before .before in
+    1 + whole .whole .result .count + c .fraction-size .result ≡ length (written (whole .before .before .before .before .before .args .length))
+size-is c =
+    let fract = c .before .before in
+    let whole = fract .before in
+    ap (λ n. 1 + whole .whole .result .count + n) (c .fraction-size .ensures)
+    ∙ sym (written-size _ (whole .whole .result) (fract .fraction .result) (good (whole .before .before)) (whole .whole .ensures .0) (fract .fraction .ensures .0))
+
+-- ---- the needs
 
 well-formed-requires : tie.Need-well-formed-requires
 well-formed-requires c κs = search needs
@@ -31,8 +59,7 @@ refusal-requires-2 c κs = search needs
 returns-2 : tie.Need-returns-2
 returns-2 c =
     let far = c .before in
-    let good = far .before in
-    let kept = write-beyond _ _ _ (sym (good .before .well-formed .ensures) ∙ not-false _ (good .if1 .left)) (far .if2 .taken) in (
+    let kept = write-beyond _ _ _ (good (far .before)) (far .if2 .taken) in (
       c .refusal2 .ensures ∙ kept .0,
       kept .1,
     )
@@ -61,18 +88,11 @@ refusal-requires-3 c κs = search needs
 returns-3 : tie.Need-returns-3
 returns-3 c =
     let full = c .before in
-    let size = full .before in
-    let fract = size .before .before in
-    let whole = fract .before in
-    let within = whole .before in
-    let good = within .before in
-    let checked = good .before in
-    let args = checked .before .before .args in
-    let well = sym (checked .well-formed .ensures) ∙ not-false _ (good .if1 .left) in
-    let bytes = written-size (args .length) (whole .whole .result) (fract .fraction .result) well (whole .whole .ensures .0) (fract .fraction .ensures .0) in
+    let within = full .before .before .before .before .before in
+    let args = within .before .before .before .before .args in
     let kept =
-    write-no-room (args .length) (args .buffer .now) (args .place) well (within .if2 .left)
-    (omega (arith, bytes, size .fraction-size .ensures, full .if3 .taken)) in (
+    write-no-room (args .length) (args .buffer .now) (args .place) (good (within .before)) (within .if2 .left)
+    (omega (arith, size-is (full .before), full .if3 .taken)) in (
       c .refusal3 .ensures ∙ kept .0,
       kept .1,
     )
@@ -108,24 +128,15 @@ returns-4 c =
     let put = c .before .before .before in
     let sign = put .before .before in
     let fits = sign .before in
-    let size = fits .before in
-    let fract = size .before .before in
-    let whole = fract .before in
-    let within = whole .before in
-    let good = within .before in
-    let checked = good .before in
-    let args = checked .before .before .args in
-    let well = sym (checked .well-formed .ensures) ∙ not-false _ (good .if1 .left) in
-    let bytes = written-size (args .length) (whole .whole .result) (fract .fraction .result) well (whole .whole .ensures .0) (fract .fraction .ensures .0) in
-    let form = form-is (args .length) (whole .whole .result) (fract .fraction .result) well (whole .whole .ensures .0) (fract .fraction .ensures .0) in
+    let fract = fits .before .before .before in
+    let within = fract .before .before in
+    let args = within .before .before .before .before .args in
     let kept =
-    write-done (args .length) (args .buffer .now) (args .place) well (within .if2 .left)
-    (omega (arith, bytes, size .fraction-size .ensures, fits .if3 .left)) in (
-      c .done .ensures
-          ∙ ap (λ n. done (args .place + n) (args .length)) (ap (λ n. 1 + whole .whole .result .count + n) (size .fraction-size .ensures) ∙ sym bytes)
-          ∙ kept .0,
+    write-done (args .length) (args .buffer .now) (args .place) (good (within .before)) (within .if2 .left)
+    (omega (arith, size-is (fits .before), fits .if3 .left)) in (
+      c .done .ensures ∙ ap (λ n. done (args .place + n) (args .length)) (size-is (fits .before)) ∙ kept .0,
       put .put-form .ensures
-          ∙ ap (laid (args .buffer .now) (args .place)) (ap (λ b. form-bytes b (whole .whole .result) (fract .fraction .result)) (sign .sign-byte .ensures) ∙ form)
+          ∙ ap (laid (args .buffer .now) (args .place)) (ap (λ b. form-bytes b (fract .before .whole .result) (fract .fraction .result)) (sign .sign-byte .ensures) ∙ form fract)
           ∙ kept .1,
     )
 
