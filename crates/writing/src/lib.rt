@@ -1,3 +1,3 @@
 // The writer: one length at a place of a lent buffer.
-pub mod digits;
+mod digits;
 pub mod writer;
