@@ -3,7 +3,7 @@ ghost use mathlib.Core.Path.{_≡_};
 ghost use mathlib.Core.Bool.{true};
 ghost use Prim.Native.Nat.{ℕ, _<_, _≤_};
 ghost use lib.Dec.{eqb};
-ghost use lib.ListN.{length};
+ghost use lib.ListN.{length, drop};
 ghost use Rattle.rules.specs.Common.{all, same};
 ghost use Rattle.rules.specs.SettingsAndUnitTable.{row-size, rows, row, name, named, row-accepted, rows-check, table-check, card-check};
 ghost use Rattle.settings.specs.Outcomes.{outcome};
@@ -12,6 +12,7 @@ use rows::fields::KIND_AT;
 use rows::fields::NAME_AT;
 use rows::fields::ROW_SIZE;
 use rows::fields::ZEROS_AT;
+use rows::fields::half_at;
 use rows::fields::name_of;
 use rows::fields::product_in_range;
 use rows::fields::row_at;
@@ -32,17 +33,12 @@ const SECOND_WORD_AT: usize = 9;
 // `+`, `-`, `.` and the digits, as bits of a set's first word.
 const NUMBER_BYTES: u64 = 288_063_250_384_289_792;
 
-fn zeros(part: &[u8]) -> bool
-    ensures { λ r. ⌜ r ≡ all (eqb 0) (now (part .entry)) ⌝ }
+// Whether zeros stand after a row's fields. They are read as one number.
+fn zeros(row: &[u8]) -> bool
+    requires { ⌜ length (now row) ≡ row-size ⌝ }
+    ensures { λ r. ⌜ r ≡ all (eqb 0) (drop 28 (now (row .entry))) ⌝ }
 {
-    let mut i = 0;
-    while i < part.len() {
-        if part[i] != 0 {
-            return false;
-        }
-        i += 1;
-    }
-    true
+    half_at(row, ZEROS_AT) == 0
 }
 
 // A name of 1 to 16 bytes, and zeros after it. The name's room is two words: what stands above the name in them is asked at once.
@@ -141,7 +137,7 @@ fn row_accepted(s: Settings, set: ByteSet, table: &[u8], i: usize) -> bool
     if own[KIND_AT] > 7 {
         return false;
     }
-    if !zeros(&own[ZEROS_AT..]) {
+    if !zeros(own) {
         return false;
     }
     if !name_accepted(set, name_of(own)) {

@@ -1,6 +1,6 @@
 // The fields of a row, and its product with its kind.
 ghost use mathlib.Core.Path.{_≡_};
-ghost use mathlib.Core.Bool.{true};
+ghost use mathlib.Core.Bool.{true, _&&_};
 ghost use Prim.Native.Nat.{_+_, _*_, _^_, _<_, _≤_};
 ghost use lib.Dec.{ltb};
 ghost use lib.ListN.{length, take, drop};
@@ -21,6 +21,11 @@ const COEFFICIENT_AT: usize = 18;
 const POWER_AT: usize = 26;
 
 pub const ZEROS_AT: usize = 28;
+
+// Below these no kind, of which the largest coefficient is 604800 and the lowest power -9, takes a row out of the range.
+const SMALL_COEFFICIENT: u64 = 8_796_093_022_208;
+
+const SMALL_DOWN: u16 = 32_760;
 
 // The row with this number: a part of the lent table.
 pub fn row_at(table: &[u8], i: usize) -> &[u8]
@@ -54,7 +59,7 @@ fn low_first_2(row: &[u8], at: usize) -> u16
     row[at] as u16 + row[at + 1] as u16 * 256
 }
 
-fn low_first_4(row: &[u8], at: usize) -> u32
+pub fn half_at(row: &[u8], at: usize) -> u32
     requires { ⌜ at + 4 ≤ length (now row) ⌝ }
     ensures { λ r. ⌜ r ≡ low-first (take 4 (drop at (now (row .entry)))) ⌝ }
 {
@@ -65,7 +70,7 @@ pub fn word_at(row: &[u8], at: usize) -> u64
     requires { ⌜ at + 8 ≤ length (now row) ⌝ }
     ensures { λ r. ⌜ r ≡ low-first (take 8 (drop at (now (row .entry)))) ⌝ }
 {
-    low_first_4(row, at) as u64 + low_first_4(row, at + 4) as u64 * 4_294_967_296
+    half_at(row, at) as u64 + half_at(row, at + 4) as u64 * 4_294_967_296
 }
 
 // The magnitude of a coefficient in two's complement: 9223372036854775808 and above stand below zero.
@@ -122,13 +127,24 @@ fn within(factor: u64, magnitude: u64) -> bool
     magnitude <= 9_223_372_036_854_775_807 / factor
 }
 
-// Whether kind times row lies in the range. A power above zero is never too high.
+// Whether no kind takes the row out of the range.
+fn small(own: Multiplier) -> bool
+    ensures { λ r. ⌜ r ≡ (ltb (own .coefficient) 8796093022208 && ltb (own .down) 32760) ⌝ }
+{
+    own.coefficient < SMALL_COEFFICIENT && own.down < SMALL_DOWN
+}
+
+// Whether kind times row lies in the range. A power above zero is never too high. Most rows are told
+// without a read of the kinds.
 pub fn product_in_range(row: &[u8]) -> bool
     requires { ⌜ length (now row) ≡ row-size ⌝ }
     ensures { λ r. ⌜ r ≡ in-range (product (now (row .entry))) ⌝ }
 {
-    let unit = kind_multiplier(row[KIND_AT]);
     let own = row_multiplier(row);
+    if small(own) {
+        return true;
+    }
+    let unit = kind_multiplier(row[KIND_AT]);
     if !within(unit.coefficient, own.coefficient) {
         return false;
     }

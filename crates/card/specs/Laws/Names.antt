@@ -146,7 +146,7 @@ module _ (r q : List ℕ) (r-long : length r ≡ row-size) (q-long : length q �
 
 -- ---- zeros after a name, a word at a time
 
-zeros-number : (l : List ℕ) → all (eqb 0) l ≡ eqb (low-first l) 0
+pub zeros-number : (l : List ℕ) → all (eqb 0) l ≡ eqb (low-first l) 0
 unfolding all low-first
 zeros-number [] = refl
 zeros-number (b ∷ l) =

@@ -3,7 +3,7 @@ use mathlib.Core.Path.{_≡_, refl}
 use mathlib.Core.Bool.{Bool, true, false, xor, _&&_}
 use mathlib.Core.List.{List, [], _∷_, _++_}
 use Prim.Native.Nat.{ℕ, zero-le, _+_, _*_, _-_, _/_, _^_, _≤_, _<_}
-use native.Mathlib.Nat.{mul-add, mul-assoc, add-assoc, pow-succ', zero-add, mul-comm, le-div-iff-mul-le}
+use native.Mathlib.Nat.{mul-add, mul-assoc, add-assoc, pow-succ', zero-add, mul-comm, mul-le-mul, le-div-iff-mul-le}
 use native.Mathlib.Omega.{arith}
 use lib.ListN.{length, getD, take, drop, length-take, length-drop}
 use lib.Seq.{drop-cons, drop-drop, take-add}
@@ -11,7 +11,7 @@ use lib.Dec.{leb, ltb, lit<}
 use borrow.Author.Tests.{le-leb, lt-leb, leb-true, leb-false, ltb-true, lt-ltb}
 use Rattle.rules.specs.declared.Multiplier.{Multiplier}
 use Rattle.rules.specs.Common.{if_then_else_, all}
-use Rattle.rules.specs.SettingsAndUnitTable.{power-size, row-size, rows, row, kind, low-first, power-field, below-zero, magnitude, kind-downs, kind-multiplier, row-multiplier, times, product, in-range}
+use Rattle.rules.specs.SettingsAndUnitTable.{power-size, row-size, rows, row, kind, low-first, power-field, below-zero, magnitude, kind-coefficients, kind-downs, kind-multiplier, row-multiplier, times, product, in-range}
 use Rattle.rules.specs.Laws.Choices.{if-either, and-left, and-right}
 use Rattle.rules.specs.Laws.Tests.{and-true, same-test}
 use Rattle.rules.specs.Laws.Lists.{all-at}
@@ -85,6 +85,10 @@ pub kind-down-most : (k : ℕ) → getD kind-downs k 0 ≤ 9
 unfolding kind-downs all
 kind-down-most k = leb-true (getD kind-downs k 0) 9 (all-at (λ x. leb x 9) kind-downs 0 refl refl k)
 
+pub kind-coefficient-most : (k : ℕ) → getD kind-coefficients k 0 ≤ 604800
+unfolding kind-coefficients all
+kind-coefficient-most k = leb-true (getD kind-coefficients k 0) 604800 (all-at (λ x. leb x 604800) kind-coefficients 0 refl refl k)
+
 -- a product is within a limit if what is multiplied is within the limit divided
 pub within-divided : (factor m most : ℕ) → 0 < factor → leb m (most / factor) ≡ ltb (factor * m) (most + 1)
 within-divided factor m most h =
@@ -127,6 +131,22 @@ module _ (r : List ℕ) where
   in-range-product =
       let down : ℕ = kind-multiplier (kind r) .down + row-multiplier r .down in
       rw (product-fields, le-leb (row-multiplier r .up) (down + 32767) (omega (arith, up-most)), and-true)
+
+  -- which no kind takes a small row out of
+  pub in-range-small : (ltb (row-multiplier r .coefficient) 8796093022208 && ltb (row-multiplier r .down) 32760) ≡ true → in-range (product r) ≡ true
+  unfolding kind-multiplier
+  in-range-small e =
+      let c : ℕ = getD kind-coefficients (kind r) 0 in
+      let own : ℕ = row-multiplier r .coefficient in
+      let few : own < 8796093022208 = ltb-true own 8796093022208 (and-left _ _ e) in
+      let near : row-multiplier r .down < 32760 = ltb-true (row-multiplier r .down) 32760 (and-right (ltb own 8796093022208) _ e) in
+      let below : own ≤ 8796093022208 = omega arith in
+      let most : c * own ≤ 604800 * 8796093022208 = mul-le-mul (kind-coefficient-most (kind r)) below in
+      rw (
+        in-range-product,
+        lt-ltb (c * own) (2 ^ 63) (omega arith),
+        le-leb (getD kind-downs (kind r) 0 + row-multiplier r .down) (row-multiplier r .up + 32768) (omega (arith, kind-down-most (kind r))),
+      )
 
 -- what the range says in numbers
 pub in-range-bounds : (m : Multiplier) → in-range m ≡ true → (m .coefficient < 2 ^ 63) × (m .up ≤ m .down + 32767) × (m .down ≤ m .up + 32768)

@@ -13,20 +13,13 @@ use Rattle.rules.specs.declared.ByteSet.{ByteSet}
 use Rattle.rules.specs.Common.{if_then_else_, between}
 use Rattle.rules.specs.SettingsAndUnitTable.{LETTER, class, is, word, holds, may-delimit, delimits}
 use Rattle.rules.specs.Laws.Choices.{and-left, and-right}
-use Rattle.rules.specs.Laws.Tests.{and-assoc, or-assoc, or-true, or-false, eqb-iff}
+use Rattle.rules.specs.Laws.Tests.{and-assoc, or-true, or-false, eqb-iff}
 use Rattle.settings.specs.Sets.{either}
 
 -- each of the n bytes from b on passes
 unfoldable pub runs : (ℕ → Bool) → ℕ → ℕ → Bool
 runs test b zero = true
 runs test b (suc n) = test b && runs test (suc b) n
-
-pub word-last : (set : ByteSet) (i : ℕ) → 3 ≤ i → word set i ≡ set .word3
-unfolding word
-word-last set zero h = absurd (omega arith)
-word-last set (suc zero) h = absurd (omega arith)
-word-last set (suc (suc zero)) h = absurd (omega arith)
-word-last set (suc (suc (suc i))) h = refl
 
 -- one more bit is zero
 bit-more : (x n : ℕ) → eqb (x % 2 ^ suc n) 0 ≡ (not (eqb (x % 2) 1) && eqb (x / 2 % 2 ^ n) 0)

@@ -4,8 +4,7 @@ use mathlib.Core.Path.{_≡_, ap, _∙_}
 use Prim.Native.Nat.{_-_}
 use native.Mathlib.Omega.{arith}
 use lib.Dec.{eqb, leb}
-use lib.ListN.{length, drop, length-drop}
-use lib.Seq.{take-all}
+use lib.ListN.{length, drop}
 use borrow.Author.Tests.{le-leb, lt-leb, not-true, not-false}
 use borrow.Author.Count.{below-more}
 use borrow.Author.Needs.{needs}
@@ -21,18 +20,13 @@ use Rattle.card.proofs.table.row_accepted.Tie as tie
 long : (c : tie.After-row-at) → length (c .row-at .result .now) ≡ row-size
 long c = ap length (c .row-at .ensures) ∙ length-row (c .before .before .args .table .now) (c .before .before .args .i) (c .before .before .pre .0)
 
-rest : (c : tie.After-zeros) → c .zeros .result ≡ all (eqb 0) (drop 28 (c .before .before .before .before .before .before .row-at .result .now))
-rest c =
-    let own = c .before .before .before .before .before .before .row-at .result .now in
-    c .zeros .ensures ∙ ap (all (eqb 0)) (take-all (length own - 28) (drop 28 own) (simp length-drop (omega arith)))
-
 -- what was asked of the name's bytes
-asked : (c : tie.After-name-accepted) → c .name-accepted .result ≡ all (may-name (c .before .before .before .before .before .before .before .before .before .before .before .args .s)) (name (c .before .before .before .before .before .before .before .before .before .row-at .result .now))
+asked : (c : tie.After-name-accepted) → c .name-accepted .result ≡ all (may-name (c .before .before .before .before .before .before .before .before .before .before .args .s)) (name (c .before .before .before .before .before .before .before .before .row-at .result .now))
 asked c =
-    let start = c .before .before .before .before .before .before .before .before .before .before .before in
-    let own = c .before .before .before .before .before .before .before .before .before .row-at .result .now in
+    let start = c .before .before .before .before .before .before .before .before .before .before in
+    let own = c .before .before .before .before .before .before .before .before .row-at .result .now in
     c .name-accepted .ensures
-    ∙ rw (c .before .name-of .ensures, start .pre .1 .1) (names-outside (start .args .s) own (λ k. c .before .before .before .before .before .before .shared-slice-known2 .given k .fits))
+    ∙ rw (c .before .name-of .ensures, start .pre .1 .1) (names-outside (start .args .s) own (λ k. c .before .before .before .before .before .shared-slice-known2 .given k .fits))
 
 -- ---- what each test that passed says of the row
 
@@ -43,11 +37,11 @@ good-kind : (c : tie.Else2) → leb (kind (row (c .before .before .before .befor
 unfolding kind
 good-kind c = rw (← (c .before .before .before .before .row-at .ensures)) (le-leb _ _ (c .if2 .left))
 
-good-zeros : (c : tie.Else3) → all (eqb 0) (drop 28 (row (c .before .before .before .before .before .before .before .before .before .args .table .now) (c .before .before .before .before .before .before .before .before .before .args .i))) ≡ true
-good-zeros c = rw (← (c .before .before .before .before .before .before .before .row-at .ensures), ← (rest (c .before))) (not-false (c .before .zeros .result) (c .if3 .left))
+good-zeros : (c : tie.Else3) → all (eqb 0) (drop 28 (row (c .before .before .before .before .before .before .before .before .args .table .now) (c .before .before .before .before .before .before .before .before .args .i))) ≡ true
+good-zeros c = rw (← (c .before .before .before .before .before .before .row-at .ensures), ← (c .before .zeros .ensures)) (not-false (c .before .zeros .result) (c .if3 .left))
 
-good-name : (c : tie.Else4) → all (may-name (c .before .before .before .before .before .before .before .before .before .before .before .before .args .s)) (name (row (c .before .before .before .before .before .before .before .before .before .before .before .before .args .table .now) (c .before .before .before .before .before .before .before .before .before .before .before .before .args .i))) ≡ true
-good-name c = rw (← (c .before .before .before .before .before .before .before .before .before .before .row-at .ensures), ← (asked (c .before))) (not-false (c .before .name-accepted .result) (c .if4 .left))
+good-name : (c : tie.Else4) → all (may-name (c .before .before .before .before .before .before .before .before .before .before .before .args .s)) (name (row (c .before .before .before .before .before .before .before .before .before .before .before .args .table .now) (c .before .before .before .before .before .before .before .before .before .before .before .args .i))) ≡ true
+good-name c = rw (← (c .before .before .before .before .before .before .before .before .before .row-at .ensures), ← (asked (c .before))) (not-false (c .before .name-accepted .result) (c .if4 .left))
 
 -- ---- the needs
 
@@ -81,61 +75,52 @@ returns-2 c =
       lt-leb _ _ (c .if2 .taken),
     )
 
-sub-zeros : tie.Need-sub-zeros
-sub-zeros c = omega (arith, long (c .before .before .before .before))
-
-part-zeros-start : tie.Need-part-zeros-start
-part-zeros-start c = omega (arith, long (c .before .before .before .before))
-
-part-zeros-end : tie.Need-part-zeros-end
-part-zeros-end c = search needs
-
 zeros-requires : tie.Need-zeros-requires
-zeros-requires c κs = search needs
+zeros-requires c κs = long (c .before .before .before .before)
 
 returns-3 : tie.Need-returns-3
 returns-3 c =
-    let start = c .before .before .before .before .before .before .before .before .before in
+    let start = c .before .before .before .before .before .before .before .before in
     rw (
       row-accepted-parts (start .args .s) (start .args .table .now) (start .args .i),
-      good-padded (c .before .before .before .before .before),
-      good-kind (c .before .before .before),
-      ← (c .before .before .before .before .before .before .before .row-at .ensures),
-      ← (rest (c .before)),
+      good-padded (c .before .before .before .before),
+      good-kind (c .before .before),
+      ← (c .before .before .before .before .before .before .row-at .ensures),
+      ← (c .before .zeros .ensures),
       not-true (c .before .zeros .result) (c .if3 .taken),
     )
 
 name-of-requires : tie.Need-name-of-requires
-name-of-requires c κs = long (c .before .before .before .before .before .before .before)
+name-of-requires c κs = long (c .before .before .before .before .before .before)
 
 name-accepted-requires : tie.Need-name-accepted-requires
 name-accepted-requires c κs = search needs
 
 returns-4 : tie.Need-returns-4
 returns-4 c =
-    let start = c .before .before .before .before .before .before .before .before .before .before .before .before in
+    let start = c .before .before .before .before .before .before .before .before .before .before .before in
     rw (
       row-accepted-parts (start .args .s) (start .args .table .now) (start .args .i),
-      good-padded (c .before .before .before .before .before .before .before .before),
-      good-kind (c .before .before .before .before .before .before),
+      good-padded (c .before .before .before .before .before .before .before),
+      good-kind (c .before .before .before .before .before),
       good-zeros (c .before .before .before),
-      ← (c .before .before .before .before .before .before .before .before .before .before .row-at .ensures),
+      ← (c .before .before .before .before .before .before .before .before .before .row-at .ensures),
       ← (asked (c .before)),
       not-true (c .before .name-accepted .result) (c .if4 .taken),
     )
 
 named-before-requires : tie.Need-named-before-requires
 named-before-requires c κs =
-    let start = c .before .before .before .before .before .before .before .before .before .before .before .before in
-    (start .pre .0, λ j h. below-more _ (start .args .i) (start .pre .1 .0) (good-padded (c .before .before .before .before .before .before .before .before)) j (omega arith))
+    let start = c .before .before .before .before .before .before .before .before .before .before .before in
+    (start .pre .0, λ j h. below-more _ (start .args .i) (start .pre .1 .0) (good-padded (c .before .before .before .before .before .before .before)) j (omega arith))
 
 returns-5 : tie.Need-returns-5
 returns-5 c =
-    let start = c .before .before .before .before .before .before .before .before .before .before .before .before .before .before in
+    let start = c .before .before .before .before .before .before .before .before .before .before .before .before .before in
     rw (
       row-accepted-parts (start .args .s) (start .args .table .now) (start .args .i),
-      good-padded (c .before .before .before .before .before .before .before .before .before .before),
-      good-kind (c .before .before .before .before .before .before .before .before),
+      good-padded (c .before .before .before .before .before .before .before .before .before),
+      good-kind (c .before .before .before .before .before .before .before),
       good-zeros (c .before .before .before .before .before),
       good-name (c .before .before),
       ← (c .before .named-before .ensures),
@@ -143,20 +128,20 @@ returns-5 c =
     )
 
 product-in-range-requires : tie.Need-product-in-range-requires
-product-in-range-requires c κs = long (c .before .before .before .before .before .before .before .before .before .before .before .before)
+product-in-range-requires c κs = long (c .before .before .before .before .before .before .before .before .before .before .before)
 
 returns-6 : tie.Need-returns-6
 returns-6 c =
-    let start = c .before .before .before .before .before .before .before .before .before .before .before .before .before .before .before in
+    let start = c .before .before .before .before .before .before .before .before .before .before .before .before .before .before in
     rw (
       row-accepted-parts (start .args .s) (start .args .table .now) (start .args .i),
-      good-padded (c .before .before .before .before .before .before .before .before .before .before .before),
-      good-kind (c .before .before .before .before .before .before .before .before .before),
+      good-padded (c .before .before .before .before .before .before .before .before .before .before),
+      good-kind (c .before .before .before .before .before .before .before .before),
       good-zeros (c .before .before .before .before .before .before),
       good-name (c .before .before .before),
       ← (c .before .before .named-before .ensures),
       c .before .if5 .left,
-      ← (c .before .before .before .before .before .before .before .before .before .before .before .before .before .row-at .ensures),
+      ← (c .before .before .before .before .before .before .before .before .before .before .before .before .row-at .ensures),
       ← (c .product-in-range .ensures),
     )
 
@@ -169,9 +154,6 @@ row-accepted-spec =
     returns
     shared-slice-read-if2
     returns-2
-    sub-zeros
-    part-zeros-start
-    part-zeros-end
     zeros-requires
     returns-3
     name-of-requires

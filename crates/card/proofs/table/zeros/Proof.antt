@@ -1,59 +1,23 @@
--- `card::table::zeros` meets its contract: the bytes from `i` on decide what all of them do. The measure is how many are left.
--- Assumes nothing.
-use mathlib.Core.Path.{_≡_, refl, sym}
-use Prim.Native.Nat.{_≤_, _-_}
+-- `card::table::zeros` meets its contract: the number that bytes spell is 0 exactly if all of them are. Assumes nothing.
+use mathlib.Core.Path.{sym, ap, _∙_}
 use native.Mathlib.Omega.{arith}
-use lib.ListN.{length, getD, drop}
 use lib.Dec.{eqb}
-use borrow.Author.Tests.{eq-eqb, ne-eqb}
+use lib.ListN.{drop, length-drop}
+use lib.Seq.{take-all}
+use borrow.Author.Needs.{needs}
 use Rattle.rules.specs.Common.{all}
-use Rattle.rules.specs.Laws.Lists.{all-from, all-done}
+use Rattle.card.specs.Laws.Names.{zeros-number}
 use Rattle.card.proofs.table.zeros.Statement.{statement}
 use Rattle.card.proofs.table.zeros.Tie as tie
 
-abbrev Inv-loop : tie.InvT-loop
-Inv-loop part i₀ i = (i ≤ length part) × (all (eqb 0) (drop i part) ≡ all (eqb 0) part)
+half-at-requires : tie.Need-half-at-requires
+half-at-requires c κs = search needs
 
-abbrev μ-loop : tie.MeasureT-loop
-μ-loop part i₀ i = length part - i
-
-loop-holds : tie.Need-loop-holds Inv-loop μ-loop
-loop-holds c = (omega arith, refl)
-
-shared-slice-read-if1 : tie.Need-shared-slice-read-if1 Inv-loop μ-loop
-shared-slice-read-if1 c = omega arith
-
-returns : tie.Need-returns Inv-loop μ-loop
+returns : tie.Need-returns
 returns c =
-    let part = c .before .before .before .before .args .part .now in
-    let loop = c .before .before .before .loop in
-    rw (← (loop .inv .1), all-from (eqb 0) part (loop .i) 0 (omega arith), ne-eqb 0 (getD part (loop .i) 0) (λ e. c .if1 .taken (sym e)))
-
-add-i : tie.Need-add-i Inv-loop μ-loop
-add-i c = omega arith
-
-loop-less : tie.Need-loop-less Inv-loop μ-loop
-loop-less c = omega arith
-
-loop-again : tie.Need-loop-again Inv-loop μ-loop
-loop-again c =
-    let part = c .before .before .before .before .args .part .now in
-    let loop = c .before .before .before .loop in
-    (omega arith, rw (← (loop .inv .1), all-from (eqb 0) part (loop .i) 0 (omega arith), eq-eqb 0 (getD part (loop .i) 0) (sym (c .if1 .left))))
-
-returns-2 : tie.Need-returns-2 Inv-loop μ-loop
-returns-2 c = rw (← (c .before .loop .inv .1), all-done (eqb 0) (c .before .before .args .part .now) (c .before .loop .i) (omega arith))
+    let start = c .before .before in
+    let row = start .args .row .now in
+    ap (λ n. eqb n 0) (c .half-at .ensures) ∙ sym (zeros-number _) ∙ ap (all (eqb 0)) (take-all 4 (drop 28 row) (simp length-drop (omega (arith, start .pre))))
 
 pub zeros-spec : {M : Type 1} → statement M
-zeros-spec =
-    tie.close
-    (tie.spec
-    Inv-loop
-    μ-loop
-    loop-holds
-    shared-slice-read-if1
-    returns
-    add-i
-    loop-less
-    loop-again
-    returns-2)
+zeros-spec = tie.close (tie.spec half-at-requires returns)

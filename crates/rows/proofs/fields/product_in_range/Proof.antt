@@ -1,11 +1,23 @@
--- `rows::fields::product_in_range` meets its contract: the two tests of the range that can fail. Assumes nothing.
+-- `rows::fields::product_in_range` meets its contract: no kind takes a small row out of the range, and of any other the two tests that can fail are made. Assumes nothing.
+use mathlib.Core.Path.{sym, _∙_}
 use native.Mathlib.Omega.{arith}
 use borrow.Author.Tests.{not-true, not-false}
 use borrow.Author.Needs.{needs}
 use Rattle.rules.specs.SettingsAndUnitTable.{kind}
-use Rattle.rows.specs.Laws.Rows.{in-range-product, down-most, up-most}
+use Rattle.rows.specs.Laws.Rows.{in-range-product, in-range-small, down-most, up-most}
 use Rattle.rows.proofs.fields.product_in_range.Statement.{statement}
 use Rattle.rows.proofs.fields.product_in_range.Tie as tie
+
+row-multiplier-requires : tie.Need-row-multiplier-requires
+row-multiplier-requires c κs = search needs
+
+small-requires : tie.Need-small-requires
+small-requires c κs = search needs
+
+returns : tie.Need-returns
+returns c =
+    let start = c .before .before .before .before in
+    sym (in-range-small (start .args .row .now) (rw (← (c .before .before .row-multiplier .ensures)) (sym (c .before .small .ensures) ∙ c .if1 .taken)))
 
 shared-slice-read-kind-multiplier : tie.Need-shared-slice-read-kind-multiplier
 shared-slice-read-kind-multiplier c = search needs
@@ -13,62 +25,61 @@ shared-slice-read-kind-multiplier c = search needs
 kind-multiplier-requires : tie.Need-kind-multiplier-requires
 kind-multiplier-requires c κs = search needs
 
-row-multiplier-requires : tie.Need-row-multiplier-requires
-row-multiplier-requires c κs = search needs
-
 within-requires : tie.Need-within-requires
 within-requires c κs = search needs
 
-returns : tie.Need-returns
+returns-2 : tie.Need-returns-2
 unfolding kind
-returns c =
-    let start = c .before .before .before .before .before .before in
+returns-2 c =
+    let start = c .before .before .before .before .before .before .before .before in
     rw (
       in-range-product (start .args .row .now),
-      ← (c .before .before .before .kind-multiplier .ensures),
-      ← (c .before .before .row-multiplier .ensures),
+      ← (c .before .before .kind-multiplier .ensures),
+      ← (c .before .before .before .before .before .before .row-multiplier .ensures),
       ← (c .before .within .ensures),
-      not-true (c .before .within .result) (c .if1 .taken),
+      not-true (c .before .within .result) (c .if2 .taken),
     )
 
 add-result : tie.Need-add-result
 unfolding kind
 add-result c =
-    let start = c .before .before .before .before .before .before .before .before in
+    let start = c .before .before .before .before .before .before .before .before .before .before in
     rw (
-      c .before .before .before .before .before .kind-multiplier .ensures,
-      c .before .before .before .before .row-multiplier .ensures,
+      c .before .before .before .before .kind-multiplier .ensures,
+      c .before .before .before .before .before .before .before .before .row-multiplier .ensures,
     )
     (omega (arith, down-most (start .args .row .now)))
 
 add-result-2 : tie.Need-add-result-2
 unfolding kind
 add-result-2 c =
-    let start = c .before .before .before .before .before .before .before .before .before in
-    rw (c .before .before .before .before .before .row-multiplier .ensures)
+    let start = c .before .before .before .before .before .before .before .before .before .before .before in
+    rw (c .before .before .before .before .before .before .before .before .before .row-multiplier .ensures)
     (omega (arith, up-most (start .args .row .now)))
 
-returns-2 : tie.Need-returns-2
+returns-3 : tie.Need-returns-3
 unfolding kind
-returns-2 c =
-    let start = c .before .before .before .before .before .before .before .before .before in
+returns-3 c =
+    let start = c .before .before .before .before .before .before .before .before .before .before .before in
     rw (
       in-range-product (start .args .row .now),
-      ← (c .before .before .before .before .before .before .kind-multiplier .ensures),
-      ← (c .before .before .before .before .before .row-multiplier .ensures),
+      ← (c .before .before .before .before .before .kind-multiplier .ensures),
+      ← (c .before .before .before .before .before .before .before .before .before .row-multiplier .ensures),
       ← (c .before .before .before .before .within .ensures),
-      not-false (c .before .before .before .before .within .result) (c .before .before .before .if1 .left),
+      not-false (c .before .before .before .before .within .result) (c .before .before .before .if2 .left),
     )
 
 pub product-in-range-spec : {M : Type 1} → statement M
 product-in-range-spec =
     tie.close
     (tie.spec
+    row-multiplier-requires
+    small-requires
+    returns
     shared-slice-read-kind-multiplier
     kind-multiplier-requires
-    row-multiplier-requires
     within-requires
-    returns
+    returns-2
     add-result
     add-result-2
-    returns-2)
+    returns-3)

@@ -8,7 +8,7 @@ use Rattle.rows.proofs.fields.word_at.Tie as tie
 returns : tie.Need-returns
 returns c =
     let a = c .before .before .before .args in
-    omega (arith, low-first-twice (a .row .now) (a .at) 4 (omega arith), c .before .low-first-4 .ensures, c .low-first-42 .ensures)
+    omega (arith, low-first-twice (a .row .now) (a .at) 4 (omega arith), c .before .half-at .ensures, c .half-at2 .ensures)
 
 pub word-at-spec : {M : Type 1} → statement M
 word-at-spec =

@@ -1,16 +1,16 @@
--- `rows::fields::low_first_4` meets its contract: one half and the other. Assumes nothing.
+-- `rows::fields::half_at` meets its contract: one half and the other. Assumes nothing.
 use native.Mathlib.Omega.{arith}
 use borrow.Author.Needs.{needs}
 use Rattle.rows.specs.Laws.Rows.{low-first-twice}
-use Rattle.rows.proofs.fields.low_first_4.Statement.{statement}
-use Rattle.rows.proofs.fields.low_first_4.Tie as tie
+use Rattle.rows.proofs.fields.half_at.Statement.{statement}
+use Rattle.rows.proofs.fields.half_at.Tie as tie
 
 returns : tie.Need-returns
 returns c =
     let a = c .before .before .before .args in
     omega (arith, low-first-twice (a .row .now) (a .at) 2 (omega arith), c .before .low-first-2 .ensures, c .low-first-22 .ensures)
 
-pub low-first-4-spec : {M : Type 1} → statement M
-low-first-4-spec =
+pub half-at-spec : {M : Type 1} → statement M
+half-at-spec =
     tie.close
     (tie.spec (λ c κs. search needs) (λ c. search needs) (λ c. search needs) (λ c κs. search needs) (λ c. search needs) (λ c. search needs) (λ c. search needs) returns)
