@@ -1,16 +1,20 @@
 //! The list of texts that the program `readings` reads under card A, and what it
 //! prints of each.
 //!
-//! The first line says how often each text is to be read: eight hexadecimal
-//! digits, the lowest byte first. Card A follows in its stored form, and then
-//! two lines for each text: run and size, and its bytes.
+//! The first line says how often each text is to be read and whether the card
+//! is checked in each call: hexadecimal digits, the lowest byte first. Card A
+//! follows in its stored form, and then two lines for each text: run and size,
+//! and its bytes.
 
 use std::fmt::Write as _;
 
 use crate::card_a::{self, card_a};
 use crate::chosen::{Chosen, reading};
 use crate::request::{Answer, Request};
-use crate::stored::{self, ONCE, card_lines};
+use crate::stored::{self, card_lines};
+
+/// The first line of the list: each text once, the card checked once for all.
+const READ_ONCE: &str = "0100000000\n";
 
 /// Texts of which the instructions are counted, besides those of document 01.
 const COUNTED: [&str; 3] = ["5ms ago", "1s and 200ms", "1min 30s 250ms"];
@@ -24,7 +28,7 @@ const ROOM: usize = 16_384;
 /// Writes the texts into one file and what is printed of them into another.
 pub fn write_files(texts_path: &str, found_path: &str) -> Result<bool, String> {
     let mut chosen = Chosen::default();
-    let mut lines = ONCE.to_string() + &card_lines(&card_a());
+    let mut lines = READ_ONCE.to_string() + &card_lines(&card_a());
     let mut found = String::new();
     for (request, written) in requests() {
         let Some(answer) = chosen.answer(&request, written)? else {

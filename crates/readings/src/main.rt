@@ -1,7 +1,8 @@
-// Reads stored texts under a card that is checked once, and prints number, position and length of each.
-// The first line says how often each text is read, once for a test and often to count instructions: eight hexadecimal digits,
-// the lowest byte first. The card follows, and then the texts. A text is a line of hexadecimal digits (run and size) and the line
-// of its bytes. Of a card that is refused number and position are printed, and no text is read.
+// Reads stored texts under a card, and prints number, position and length of each. The first line says how often each text is read,
+// once for a test and often to count instructions, and whether the card is checked in each call (1) or once for all: a number of four
+// bytes, the lowest first, and one of a byte, as hexadecimal digits. The card follows, and then the texts, each a line of hexadecimal
+// digits (run and size) and the line of its bytes. Of a card that is refused once for all number and position are printed, and no text
+// is read.
 ghost use mathlib.Core.Path.{_≡_};
 ghost use Rattle.rules.specs.NumbersHandedBack.{got};
 ghost use Rattle.rules.specs.SettingsAndUnitTable.{card-check};
@@ -10,6 +11,7 @@ use lists::answers::print_answer;
 use lists::cards::MOST_BYTES;
 use lists::cards::Next;
 use lists::cards::next_card;
+use lists::fields::flag_at;
 use lists::fields::further;
 use lists::fields::half_at;
 use lists::fields::short_at;
@@ -17,13 +19,17 @@ use lists::lines::first_bytes;
 use lists::lines::read_line;
 use lists::texts::read_text;
 use reading::answers::refusal;
+use reading::entries::read_total;
 use reading::entries::read_total_checked;
 use rules::Answer;
 use rules::Settings;
 use settings::Checked;
 
 // Bytes of the first line.
-const ROUNDS: usize = 9;
+const ROUNDS: usize = 11;
+
+// Where the first line says whether the card is checked in each call.
+const IN_EACH_CALL_AT: usize = 8;
 
 // Where run and size of a text stand in its first line, and how many bytes the line has.
 const RUN_AT: usize = 0;
@@ -37,6 +43,11 @@ const ROOM: usize = 16_384;
 
 // More texts than any list has, since a proved loop has to end.
 const MOST_TEXTS: u64 = 1_000_000;
+
+struct Often {
+    rounds: u32,
+    in_each_call: bool,
+}
 
 // The first bytes of a buffer, read so often. The number of an answer is below 12, so 0 is added to the size each time; but the
 // compiler does not know that, and so a round waits for the answer of the one before it and none can be left out.
@@ -53,8 +64,41 @@ fn read_often(settings: Settings, table: &[u8], buffer: &[u8], size: usize, roun
     answer
 }
 
+// The same with the card checked in each call. A loop of its own, since a choice within the loop would be counted.
+fn check_often(
+    settings: Settings,
+    table: &[u8],
+    buffer: &[u8],
+    size: usize,
+    rounds: u32,
+) -> Answer {
+    let mut answer = read_total(settings, table, first_bytes(buffer, size));
+    let mut left = rounds;
+    while left > 1 {
+        let more = (answer.number / 200) as usize;
+        answer = read_total(settings, table, first_bytes(buffer, further(size, more)));
+        left -= 1;
+    }
+    answer
+}
+
+fn read_text_often(
+    settings: Settings,
+    table: &[u8],
+    buffer: &[u8],
+    size: usize,
+    often: Often,
+) -> Answer
+    requires { ⌜ card-check settings (now table) ≡ got tt ⌝ }
+{
+    if often.in_each_call {
+        return check_often(settings, table, buffer, size, often.rounds);
+    }
+    read_often(settings, table, buffer, size, often.rounds)
+}
+
 // One text put into the buffer, read and printed; false where the list ends.
-fn read_next(settings: Settings, table: &[u8], buffer: &mut [u8], rounds: u32) -> bool
+fn read_next(settings: Settings, table: &[u8], buffer: &mut [u8], often: Often) -> bool
     requires { ⌜ card-check settings (now table) ≡ got tt ⌝ }
 {
     let mut line = [0u8; TEXT];
@@ -66,34 +110,29 @@ fn read_next(settings: Settings, table: &[u8], buffer: &mut [u8], rounds: u32) -
     if !read_text(buffer, run, size) {
         return false;
     }
-    print_answer(read_often(
-        settings,
-        table,
-        buffer,
-        run as usize + size as usize,
-        rounds,
-    ));
+    let bytes = run as usize + size as usize;
+    print_answer(read_text_often(settings, table, buffer, bytes, often));
     true
 }
 
 // Every text of the list.
-fn read_all(settings: Settings, table: &[u8], rounds: u32)
+fn read_all(settings: Settings, table: &[u8], often: Often)
     requires { ⌜ card-check settings (now table) ≡ got tt ⌝ }
 {
     let mut buffer = [0u8; ROOM];
     let mut left = MOST_TEXTS;
     while left > 0 {
-        if !read_next(settings, table, &mut buffer, rounds) {
+        if !read_next(settings, table, &mut buffer, often) {
             return;
         }
         left -= 1;
     }
 }
 
-fn read_under(settings: Settings, table: &[u8], rounds: u32) {
+fn read_under(settings: Settings, table: &[u8], often: Often) {
     match card_check(settings, table) {
         Checked::Refused(cause) => print_answer(refusal(cause)),
-        Checked::Accepted => read_all(settings, table, rounds),
+        Checked::Accepted => read_all(settings, table, often),
     }
 }
 
@@ -106,9 +145,9 @@ fn main() {
     let Next::Card(card) = next_card(&mut table) else {
         return;
     };
-    read_under(
-        card.settings,
-        first_bytes(&table, card.size),
-        half_at(&line, 0),
-    );
+    let often = Often {
+        rounds: half_at(&line, 0),
+        in_each_call: flag_at(&line, IN_EACH_CALL_AT),
+    };
+    read_under(card.settings, first_bytes(&table, card.size), often);
 }

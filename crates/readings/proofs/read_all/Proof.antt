@@ -6,10 +6,10 @@ use Rattle.readings.proofs.read_all.Statement.{statement}
 use Rattle.readings.proofs.read_all.Tie as tie
 
 abbrev Inv-loop : tie.InvT-loop
-Inv-loop settings table rounds buffer₀ left₀ buffer left = length buffer ≡ length buffer₀
+Inv-loop settings table often buffer₀ left₀ buffer left = length buffer ≡ length buffer₀
 
 abbrev μ-loop : tie.MeasureT-loop
-μ-loop settings table rounds buffer₀ left₀ buffer left = left
+μ-loop settings table often buffer₀ left₀ buffer left = left
 
 loop-holds : tie.Need-loop-holds Inv-loop μ-loop
 loop-holds c = search needs
