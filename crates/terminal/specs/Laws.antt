@@ -9,6 +9,7 @@ use borrow.Author.Tests.{le-ltb, le-leb, lt-leb}
 use lib.Dec.{leb}
 use lib.ListN.{length}
 use Rattle.rules.specs.declared.Length.{Length}
+use Rattle.rules.specs.declared.Answer.{Answer}
 use Rattle.rules.specs.declared.Settings.{Settings}
 use Rattle.rules.specs.declared.Refusal.{Refusal}
 use Rattle.rules.specs.declared.Refusal.the-variants.{Nothing, SignEnds, DelimiterEnds, FractionOff, FractionEmpty, ExponentOff, ExponentByte, ExponentEnds, ExponentAbove, ExponentBelow, InfinityByte, InfinityEnds, InfinityGoesOn, ConjunctionEnds, ConjunctionGoesOn, NegativeForbidden, NoNumber, Delimiters, Conjunctions, DefaultKind, TableSize, BadRow, TextTooLong, NoRoom, Beyond, Malformed}
@@ -20,7 +21,7 @@ use Rattle.rules.specs.Laws.Choices.{if-either}
 use Rattle.rules.specs.Laws.Tests.{and-false}
 use Rattle.rules.specs.WriterAndShiftTotal.{record-after}
 use Rattle.rules.specs.WhatEveryEntryOwes.{add-total, shift-answer, shifted-record}
-use Rattle.terminal.specs.Words.{word, on, held-to, most-of-a-byte, most-of-a-half, set-of, conjunction-of, settings-of, length-of, bit, length-words, words-after, shifted-words}
+use Rattle.terminal.specs.Words.{word, on, held-to, most-of-a-byte, most-of-a-half, set-of, conjunction-of, settings-of, length-of, bit, length-words, answer-words, words-after, shifted-words}
 
 -- ---- a word held to the most that its field can hold
 
@@ -126,6 +127,11 @@ settings-back s fit =
       ← held-fits most-of-a-byte (s .fourth .size) (fit .fourth-size),
       ← held-fits most-of-a-byte (s .«default_kind») (fit .kind),
     )
+
+-- ---- what is handed back of an answer is handed back of its equal
+
+pub handed : {a b : Answer} {n : ℕ} {words : List ℕ} → (n ≡ a .number) × (words ≡ answer-words a) → a ≡ b → (n ≡ b .number) × (words ≡ answer-words b)
+handed h e = rw e at h
 
 -- ---- the shift total's words afterwards
 

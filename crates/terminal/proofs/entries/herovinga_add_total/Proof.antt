@@ -5,7 +5,7 @@ use borrow.Author.Needs.{needs}
 use Rattle.rules.specs.declared.Answer.{Answer}
 use Rattle.rules.specs.WhatEveryEntryOwes.{shift-answer, shifted-record}
 use Rattle.terminal.specs.Words.{settings-of, length-of, length-words}
-use Rattle.terminal.specs.Laws.{shifted-done, shifted-kept}
+use Rattle.terminal.specs.Laws.{handed, shifted-done, shifted-kept}
 use Rattle.terminal.proofs.entries.herovinga_add_total.Statement.{statement}
 use Rattle.terminal.proofs.entries.herovinga_add_total.Tie as tie
 
@@ -21,10 +21,11 @@ returns : tie.Need-returns
 returns c =
     let joined = c .before .before in
     let found = shifted (joined .before .before) in
+    let answer = handed (c .put-answer .ensures) (found .0) in
     let number = ap (λ (a : Answer). a .number) (found .0) in (
-      c .put-answer .ensures .0 ∙ number,
+      answer .0,
       (
-        cc (found .0),
+        answer .1,
         ⊎-elim (λ w. w .3 ∙ w .2 .ensures ∙ ap length-words (found .1) ∙ shifted-done _ _ _ _ (sym number ∙ w .0 .taken))
             (λ w. w .1 ∙ shifted-kept _ _ _ _ (λ e. w .0 .left (number ∙ e))) (joined .if1 .came),
       ),
