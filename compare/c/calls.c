@@ -1,0 +1,413 @@
+/* Calls the entries as C calls them, with what only C can pass (null, odd switches, counts that no byte holds, words that are no length) and
+ * with every number of document 01's table, and holds each answer, the buffer and the total to what must be there. Prints how many answers
+ * were held so, and each that is wrong; exits 1 if one is. */
+#include <inttypes.h>
+#include <stdint.h>
+#include <stdio.h>
+#include <string.h>
+
+#include "card_a.h"
+#include "herovinga.h"
+
+#define LARGEST UINT64_MAX
+#define NUMBERS 12
+
+static unsigned long checks, wrong, answers[NUMBERS];
+
+static const herovinga_length zero = {0, 0, 0};
+
+static void check(const char *what, int holds)
+{
+    checks++;
+    if (!holds) {
+        wrong++;
+        printf("wrong: %s\n", what);
+    }
+}
+
+static int same_length(herovinga_length a, herovinga_length b)
+{
+    return a.negative == b.negative && a.seconds == b.seconds && a.nanoseconds == b.nanoseconds;
+}
+
+/* An answer in which no word is right by chance. */
+static herovinga_answer unwritten(void)
+{
+    herovinga_answer answer;
+    memset(&answer, 0xa5, sizeof answer);
+    return answer;
+}
+
+static void check_answer(const char *what, uint8_t number, herovinga_answer answer, uint8_t wanted, uint64_t position, herovinga_length length)
+{
+    if (number < NUMBERS)
+        answers[number]++;
+    check(what, number == wanted && answer.position == position && same_length(answer.length, length));
+}
+
+/* ---- a text under a card: its total, and that total added to a shift total */
+
+static void check_total(const card *c, size_t rows, const char *text, size_t size, uint8_t number, uint64_t position, herovinga_length length)
+{
+    const herovinga_length odd = {5, 7, 0};
+    const size_t table_size = rows * HEROVINGA_ROW_SIZE;
+    herovinga_answer answer = unwritten();
+    herovinga_length total = zero;
+    uint8_t got = herovinga_read_total(&c->settings, c->table, table_size, (const uint8_t *)text, size, &answer);
+    check_answer(text, got, answer, number, position, length);
+
+    answer = unwritten();
+    got = herovinga_add_total(&total, &c->settings, c->table, table_size, (const uint8_t *)text, size, &answer);
+    check_answer(text, got, answer, number, position, length);
+    check(text, same_length(total, length));
+
+    if (number != HEROVINGA_DONE) {
+        total = odd;
+        answer = unwritten();
+        got = herovinga_add_total(&total, &c->settings, c->table, table_size, (const uint8_t *)text, size, &answer);
+        check_answer(text, got, answer, number, position, zero);
+        check("a refusal leaves the total", same_length(total, odd));
+    }
+}
+
+static void reads(const card *c, const char *text, uint64_t negative, uint64_t seconds, uint64_t nanoseconds)
+{
+    herovinga_length length;
+    length.negative = negative;
+    length.seconds = seconds;
+    length.nanoseconds = nanoseconds;
+    check_total(c, 6, text, strlen(text), HEROVINGA_DONE, strlen(text), length);
+}
+
+static void fails(const card *c, const char *text, uint8_t number, uint64_t position)
+{
+    check_total(c, 6, text, strlen(text), number, position, zero);
+}
+
+/* ---- the tests */
+
+static void layout(void)
+{
+    check("settings are 25 words", sizeof(herovinga_settings) == 25 * sizeof(uint64_t));
+    check("inner at word 7", offsetof(herovinga_settings, inner) == 7 * sizeof(uint64_t));
+    check("outer at word 11", offsetof(herovinga_settings, outer) == 11 * sizeof(uint64_t));
+    check("conjunctions at word 15", offsetof(herovinga_settings, conjunctions) == 15 * sizeof(uint64_t));
+    check("conjunction at word 16", offsetof(herovinga_settings, conjunction) == 16 * sizeof(uint64_t));
+    check("default kind at word 24", offsetof(herovinga_settings, default_kind) == 24 * sizeof(uint64_t));
+    check("a length is 3 words", sizeof(herovinga_length) == 3 * sizeof(uint64_t));
+    check("an answer is 4 words", sizeof(herovinga_answer) == 4 * sizeof(uint64_t));
+    check("a size is a word", sizeof(size_t) == sizeof(uint64_t));
+}
+
+static void readings(const card *a)
+{
+    card forbidden = *a;
+    char text[HEROVINGA_LONGEST_TEXT + 2];
+
+    reads(a, "61.7ms", 0, 0, 61700000);
+    reads(a, "3turn", 0, 0, 36900000);
+    reads(a, "1.9e-18block", 0, 0, 10);
+    reads(a, "+1.5-2+0", 1, 0, 500000000);
+    reads(a, "18446744073709551616s", 0, LARGEST, 999999999);
+    reads(a, "-inf", 1, LARGEST, 999999999);
+    fails(a, "", HEROVINGA_NOTHING, 0);
+    fails(a, ".", HEROVINGA_SYNTAX, 0);
+    fails(a, "1s and", HEROVINGA_SYNTAX, 3);
+    fails(a, "1e32768", HEROVINGA_EXPONENT_ABOVE, 0);
+    fails(a, "1e-32769", HEROVINGA_EXPONENT_BELOW, 0);
+    fails(a, "1 and 2", HEROVINGA_NO_NUMBER, 2);
+    forbidden.settings.negatives = 0;
+    fails(&forbidden, "1s -1s", HEROVINGA_NEGATIVE, 0);
+
+    memset(text, '0', sizeof text);
+    check_total(a, 6, text, HEROVINGA_LONGEST_TEXT, HEROVINGA_DONE, HEROVINGA_LONGEST_TEXT, zero);
+    check_total(a, 6, text, HEROVINGA_LONGEST_TEXT + 1, HEROVINGA_TEXT_TOO_LONG, 4096, zero);
+}
+
+static void part(const card *a, const char *text, size_t place, uint8_t number, uint64_t position, uint64_t seconds)
+{
+    herovinga_answer answer = unwritten();
+    herovinga_length length = zero;
+    uint8_t got = herovinga_read_part(&a->settings, a->table, sizeof a->table, (const uint8_t *)text, strlen(text), place, &answer);
+    length.seconds = seconds;
+    check_answer(text, got, answer, number, position, length);
+}
+
+static void parts(const card *a)
+{
+    card worse = *a;
+    part(a, "1s and 2s", 0, HEROVINGA_DONE, 7, 1);
+    part(a, "1s and 2s", 7, HEROVINGA_DONE, 9, 2);
+    part(a, "1s and 2s", 9, HEROVINGA_NOTHING, 9, 0);
+    part(a, "1s and 2s", 10, HEROVINGA_BEYOND, 10, 0);
+    part(a, "1s and 2s", SIZE_MAX, HEROVINGA_BEYOND, SIZE_MAX, 0);
+    part(a, "1s and 2s", 3, HEROVINGA_NO_NUMBER, 3, 0);
+    worse.settings.default_kind = 8;
+    part(&worse, "1s and 2s", SIZE_MAX, HEROVINGA_CARD, HEROVINGA_WRONG_DEFAULT_KIND, 0);
+}
+
+/* Null with size 0 is an empty table, text or buffer. */
+static void nothing_there(const card *a)
+{
+    const herovinga_length second = {0, 1, 0};
+    herovinga_length total = {0, 1, 0};
+    herovinga_answer answer = unwritten();
+    uint8_t got = herovinga_read_total(&a->settings, NULL, 0, (const uint8_t *)"1", 1, &answer);
+    check_answer("null table", got, answer, HEROVINGA_DONE, 1, second);
+    answer = unwritten();
+    got = herovinga_read_total(&a->settings, a->table, sizeof a->table, NULL, 0, &answer);
+    check_answer("null text", got, answer, HEROVINGA_NOTHING, 0, zero);
+    answer = unwritten();
+    got = herovinga_read_part(&a->settings, NULL, 0, NULL, 0, 0, &answer);
+    check_answer("part of null", got, answer, HEROVINGA_NOTHING, 0, zero);
+    answer = unwritten();
+    got = herovinga_read_part(&a->settings, NULL, 0, NULL, 0, 1, &answer);
+    check_answer("part beyond null", got, answer, HEROVINGA_BEYOND, 1, zero);
+    answer = unwritten();
+    got = herovinga_add_total(&total, &a->settings, NULL, 0, NULL, 0, &answer);
+    check_answer("null added", got, answer, HEROVINGA_NOTHING, 0, zero);
+    check("null leaves the total", same_length(total, second));
+    answer = unwritten();
+    got = herovinga_write(&second, NULL, 0, 0, &answer);
+    check_answer("null buffer", got, answer, HEROVINGA_NO_ROOM, 0, zero);
+    answer = unwritten();
+    got = herovinga_write(&second, NULL, 0, 1, &answer);
+    check_answer("beyond a null buffer", got, answer, HEROVINGA_BEYOND, 1, zero);
+}
+
+/* The words of the settings by number: the switches are the first seven. */
+static void set_word(card *c, size_t i, uint64_t word)
+{
+    memcpy((unsigned char *)&c->settings + i * sizeof word, &word, sizeof word);
+}
+
+/* A switch is on for every word but 0. Each has a text that is read while it is on, and refused while it is off. */
+static void switches(const card *a)
+{
+    static const uint64_t on[] = {1, 2, 256, (uint64_t)1 << 32, (uint64_t)1 << 63, LARGEST};
+    static const struct {
+        const char *text;
+        uint64_t negative, seconds, nanoseconds;
+        uint8_t number;
+        uint64_t position;
+    } of[7] = {
+        {"-1s", 1, 1, 0, HEROVINGA_NEGATIVE, 0},
+        {"1.5s", 0, 1, 500000000, HEROVINGA_SYNTAX, 1},
+        {"1e1s", 0, 10, 0, HEROVINGA_SYNTAX, 1},
+        {"inf", 0, LARGEST, 999999999, HEROVINGA_NO_NUMBER, 0},
+        {"2s ago", 1, 2, 0, HEROVINGA_NO_NUMBER, 3},
+        {"+ 1s", 0, 1, 0, HEROVINGA_NO_NUMBER, 1},
+        {"1 s", 0, 1, 0, HEROVINGA_NO_NUMBER, 2},
+    };
+    size_t i, j;
+    for (i = 0; i < 7; i++) {
+        card c = *a;
+        set_word(&c, i, 0);
+        fails(&c, of[i].text, of[i].number, of[i].position);
+        for (j = 0; j < sizeof on / sizeof on[0]; j++) {
+            set_word(&c, i, on[j]);
+            reads(&c, of[i].text, of[i].negative, of[i].seconds, of[i].nanoseconds);
+        }
+    }
+}
+
+/* Counts and kinds that are right, and the first that is not. */
+static void counts(const card *a)
+{
+    static const uint64_t seconds[8] = {0, 0, 0, 1, 60, 3600, 86400, 604800};
+    static const uint64_t nanoseconds[8] = {1, 1000, 1000000, 0, 0, 0, 0, 0};
+    card c = *a;
+    size_t i;
+    for (i = 1; i < 4; i++)
+        c.settings.conjunction[i] = conjunction("then");
+    c.settings.conjunctions = 0;
+    fails(&c, "1s and 2s", HEROVINGA_NO_NUMBER, 3);
+    for (i = 1; i <= 4; i++) {
+        c.settings.conjunctions = i;
+        reads(&c, "1s and 2s", 0, 3, 0);
+    }
+    reads(&c, "1s then 2s", 0, 3, 0);
+    c.settings.conjunctions = 5;
+    fails(&c, "1s and 2s", HEROVINGA_CARD, HEROVINGA_WRONG_CONJUNCTIONS);
+    c = *a;
+    for (i = 0; i < 8; i++) {
+        c.settings.default_kind = i;
+        reads(&c, "1", 0, seconds[i], nanoseconds[i]);
+    }
+    c.settings.default_kind = 8;
+    fails(&c, "1", HEROVINGA_CARD, HEROVINGA_WRONG_DEFAULT_KIND);
+}
+
+/* Counts, sizes and kinds that no byte holds, also where their low byte would be right. What does not count is not looked at. */
+static void too_large(const card *a)
+{
+    static const uint64_t words[] = {255, 256, 257, 256 + 3, (uint64_t)1 << 32, ((uint64_t)1 << 32) + 3, ((uint64_t)1 << 63) + 1, LARGEST};
+    size_t i;
+    for (i = 0; i < sizeof words / sizeof words[0]; i++) {
+        card c = *a;
+        c.settings.conjunctions = words[i];
+        fails(&c, "1s", HEROVINGA_CARD, HEROVINGA_WRONG_CONJUNCTIONS);
+        c = *a;
+        c.settings.default_kind = words[i];
+        fails(&c, "1s", HEROVINGA_CARD, HEROVINGA_WRONG_DEFAULT_KIND);
+        c = *a;
+        c.settings.conjunction[0].size = words[i];
+        fails(&c, "1s", HEROVINGA_CARD, HEROVINGA_WRONG_CONJUNCTIONS);
+        c = *a;
+        c.settings.conjunction[1].size = words[i];
+        reads(&c, "1s and 2s", 0, 3, 0);
+    }
+}
+
+/* Delimiters, conjunctions and tables that are refused, and the order of the refusals. */
+static void cards(const card *a)
+{
+    card c = *a;
+    size_t i;
+    c.settings.conjunction[0].size = 0;
+    fails(&c, "1s", HEROVINGA_CARD, HEROVINGA_WRONG_CONJUNCTIONS);
+    c.settings.conjunction[0].size = 9;
+    fails(&c, "1s", HEROVINGA_CARD, HEROVINGA_WRONG_CONJUNCTIONS);
+    for (i = 0; i < 4; i++) {
+        c = *a;
+        c.settings.inner[i] |= (uint64_t)1 << ('0' % 64);
+        fails(&c, "1s", HEROVINGA_CARD, HEROVINGA_WRONG_DELIMITERS);
+        c = *a;
+        c.settings.outer[i] |= (uint64_t)1 << ('0' % 64);
+        fails(&c, "1s", HEROVINGA_CARD, HEROVINGA_WRONG_DELIMITERS);
+    }
+    c.settings.conjunctions = LARGEST;
+    c.settings.default_kind = LARGEST;
+    fails(&c, "1s", HEROVINGA_CARD, HEROVINGA_WRONG_DELIMITERS);
+    c = *a;
+    c.table[5 * HEROVINGA_ROW_SIZE + HEROVINGA_ZEROS_AT] = 1;
+    fails(&c, "1s", HEROVINGA_CARD, 5);
+    check_total(&c, 5, "1s", 2, HEROVINGA_DONE, 2, (herovinga_length){0, 1, 0});
+    c.table[HEROVINGA_KIND_AT] = 8;
+    fails(&c, "1s", HEROVINGA_CARD, 0);
+}
+
+static void tables(const card *a)
+{
+    static uint8_t table[(HEROVINGA_MOST_ROWS + 1) * HEROVINGA_ROW_SIZE];
+    const herovinga_length second = {0, 1, 0};
+    herovinga_answer answer;
+    uint8_t got;
+    char name[3] = "aA";
+    size_t i;
+    for (i = 0; i <= HEROVINGA_MOST_ROWS; i++) {
+        name[0] = (char)('a' + i % 26);
+        name[1] = (char)('A' + i / 26);
+        put_row(table + i * HEROVINGA_ROW_SIZE, name, HEROVINGA_SECOND, 1, 0);
+    }
+    answer = unwritten();
+    got = herovinga_read_total(&a->settings, table, sizeof table - HEROVINGA_ROW_SIZE, (const uint8_t *)"1lC", 3, &answer);
+    check_answer("64 rows, the last one", got, answer, HEROVINGA_DONE, 3, second);
+    answer = unwritten();
+    got = herovinga_read_total(&a->settings, table, sizeof table, (const uint8_t *)"1lC", 3, &answer);
+    check_answer("65 rows", got, answer, HEROVINGA_CARD, HEROVINGA_WRONG_TABLE_SIZE, zero);
+    answer = unwritten();
+    got = herovinga_read_total(&a->settings, table, HEROVINGA_ROW_SIZE - 1, (const uint8_t *)"1", 1, &answer);
+    check_answer("no whole row", got, answer, HEROVINGA_CARD, HEROVINGA_WRONG_TABLE_SIZE, zero);
+}
+
+/* A length at a place of a buffer of so many bytes. What must be in the buffer then: wanted, or what was there. */
+static void writes(herovinga_length length, size_t size, size_t place, uint8_t number, uint64_t position, const char *wanted)
+{
+    uint8_t buffer[40], then[40];
+    herovinga_answer answer = unwritten();
+    const herovinga_length written = {length.negative != 0, length.seconds, length.nanoseconds};
+    uint8_t got;
+    memset(buffer, '#', sizeof buffer);
+    memset(then, '#', sizeof then);
+    memcpy(then, wanted, strlen(wanted));
+    got = herovinga_write(&length, buffer, size, place, &answer);
+    check_answer(wanted, got, answer, number, position, number == HEROVINGA_DONE ? written : zero);
+    check("the buffer then", memcmp(buffer, then, sizeof buffer) == 0);
+}
+
+static void writings(void)
+{
+    static const uint64_t too_many[] = {1000000000, 0xffffffff, (uint64_t)1 << 32, ((uint64_t)1 << 32) + 5, (uint64_t)1 << 63, LARGEST};
+    const herovinga_length small = {0, 0, 61700000}, least = {LARGEST, LARGEST, 999999999}, minus_zero = {1, 0, 0};
+    size_t i;
+    writes(zero, 40, 0, HEROVINGA_DONE, 2, "+0");
+    writes(small, 40, 0, HEROVINGA_DONE, 7, "+0.0617");
+    writes(small, 7, 0, HEROVINGA_DONE, 7, "+0.0617");
+    writes(small, 6, 0, HEROVINGA_NO_ROOM, 0, "");
+    writes(small, 10, 3, HEROVINGA_DONE, 10, "###+0.0617");
+    writes(small, 9, 3, HEROVINGA_NO_ROOM, 3, "");
+    writes(small, 9, 9, HEROVINGA_NO_ROOM, 9, "");
+    writes(small, 9, 10, HEROVINGA_BEYOND, 10, "");
+    writes(small, 9, SIZE_MAX, HEROVINGA_BEYOND, SIZE_MAX, "");
+    writes(least, HEROVINGA_LONGEST_FORM, 0, HEROVINGA_DONE, 31, "-18446744073709551615.999999999");
+    writes(least, HEROVINGA_LONGEST_FORM - 1, 0, HEROVINGA_NO_ROOM, 0, "");
+    writes(minus_zero, 40, 0, HEROVINGA_MALFORMED, 0, "");
+    writes(minus_zero, 9, SIZE_MAX, HEROVINGA_MALFORMED, 0, "");
+    for (i = 0; i < sizeof too_many / sizeof too_many[0]; i++) {
+        herovinga_length length = {0, 1, 0};
+        length.nanoseconds = too_many[i];
+        writes(length, 40, 0, HEROVINGA_MALFORMED, 0, "");
+        length.negative = 7;
+        writes(length, 40, 0, HEROVINGA_MALFORMED, 0, "");
+    }
+}
+
+/* A text added to a total: what is handed back, and what the total is then. */
+static void adds(const card *a, herovinga_length total, const char *text, uint8_t number, uint64_t position, herovinga_length then)
+{
+    herovinga_answer answer = unwritten();
+    uint8_t got = herovinga_add_total(&total, &a->settings, a->table, sizeof a->table, (const uint8_t *)text, strlen(text), &answer);
+    check_answer(text, got, answer, number, position, number == HEROVINGA_DONE ? then : zero);
+    check("the total then", same_length(total, then));
+}
+
+static void shift_totals(const card *a)
+{
+    static const uint64_t too_many[] = {1000000000, 0xffffffff, (uint64_t)1 << 32, ((uint64_t)1 << 32) + 5, LARGEST};
+    const herovinga_length second = {0, 1, 0}, less = {1, 0, 938300000}, odd = {5, 1, 0}, largest = {0, LARGEST, 999999999};
+    const herovinga_length odd_zero = {5, 0, 0}, minus_zero = {1, 0, 0};
+    card worse = *a;
+    size_t i;
+    adds(a, zero, "1s", HEROVINGA_DONE, 2, second);
+    adds(a, odd, "61.7ms", HEROVINGA_DONE, 6, less);
+    adds(a, odd, "1s", HEROVINGA_DONE, 2, zero);
+    adds(a, odd, ".", HEROVINGA_SYNTAX, 0, odd);
+    adds(a, largest, "1ns", HEROVINGA_DONE, 3, largest);
+    adds(a, odd_zero, "1s", HEROVINGA_MALFORMED, 0, odd_zero);
+    adds(a, minus_zero, ".", HEROVINGA_MALFORMED, 0, minus_zero);
+    for (i = 0; i < sizeof too_many / sizeof too_many[0]; i++) {
+        herovinga_length malformed = {5, 1, 0};
+        malformed.nanoseconds = too_many[i];
+        adds(a, malformed, "1s", HEROVINGA_MALFORMED, 0, malformed);
+    }
+    worse.settings.conjunctions = 256;
+    adds(&worse, minus_zero, ".", HEROVINGA_CARD, HEROVINGA_WRONG_CONJUNCTIONS, minus_zero);
+}
+
+int main(void)
+{
+    card a, before;
+    unsigned long sum = 0;
+    int i;
+    make_card_a(&a);
+    before = a;
+    layout();
+    readings(&a);
+    parts(&a);
+    nothing_there(&a);
+    switches(&a);
+    counts(&a);
+    too_large(&a);
+    cards(&a);
+    tables(&a);
+    writings();
+    shift_totals(&a);
+    check("the card is as it was", memcmp(&a, &before, sizeof a) == 0);
+    for (i = 0; i < NUMBERS; i++) {
+        sum += answers[i];
+        check("every number was handed back", answers[i] > 0);
+    }
+    printf("%lu answers, %lu checks, %lu wrong\n", sum, checks, wrong);
+    return wrong != 0;
+}

@@ -1,0 +1,12 @@
+-- `terminal::words::length_of` meets its contract. Assumes nothing.
+use borrow.Author.Needs.{needs}
+use Rattle.terminal.specs.Words.{on, length-of}
+use Rattle.terminal.proofs.words.length_of.Statement.{statement}
+use Rattle.terminal.proofs.words.length_of.Tie as tie
+
+returns : tie.Need-returns
+unfolding on length-of
+returns c = rw (c .held-to-half .ensures)
+
+pub length-of-spec : {M : Type 1} → statement M
+length-of-spec = tie.close (tie.spec (λ c. search needs) (λ c. search needs) (λ c. search needs) (λ c κs. search needs) returns)

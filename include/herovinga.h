@@ -1,0 +1,177 @@
+/* Herovinga for C99 and C++: timings that are read exactly.
+ *
+ * Four functions, over numbers and bytes: a part of a text, a text's total, a length written, and a shift total added to. They keep
+ * nothing between calls, so any number of threads may call them. The library is target/staticlib/libterminal.a (rt staticlib terminal),
+ * for Linux on x86-64; every function in it is proved to answer as document 01 says, whatever it is passed.
+ *
+ * Each function returns a number of enum herovinga_number and writes the whole answer. On 0 the answer has the position and the length
+ * that stand at the function below; on a refusal it has the position that stands at the number, and a length of zero with a plus, and
+ * nothing else that was passed has changed.
+ *
+ * What a caller owes:
+ * - A pointer to settings, a length, a total or an answer points to one, and is not null.
+ * - A pointer to bytes points to as many as the size beside it says. With size 0 it may be null.
+ * - What a function writes (answer, total, buffer) overlaps nothing else that the call is passed. So the length to be written is not the
+ *   one within the answer. What it only reads (settings, table, text, length) may overlap, and no other thread changes it meanwhile.
+ * Nothing else: every value of every word, byte, size and place has an answer.
+ */
+#ifndef HEROVINGA_H
+#define HEROVINGA_H
+
+#include <stddef.h>
+#include <stdint.h>
+
+#ifdef __cplusplus
+extern "C" {
+#endif
+
+/* What is handed back, and the position that then stands in the answer. The first test that fails decides, in the order 7, 11, 8, 10 and
+ * then left to right through the text; the writer's order is 11, 10, 9. */
+enum herovinga_number {
+    HEROVINGA_DONE = 0,           /* read or written: the next place, or the text's size for a total */
+    HEROVINGA_NOTHING = 1,        /* nothing at the place: the place */
+    HEROVINGA_SYNTAX = 2,         /* the text is no timing: where that shows */
+    HEROVINGA_EXPONENT_ABOVE = 3, /* an exponent above 32767: 0 */
+    HEROVINGA_EXPONENT_BELOW = 4, /* an exponent below -32768: 0 */
+    HEROVINGA_NEGATIVE = 5,       /* a part is negative while negatives are off: 0 */
+    HEROVINGA_NO_NUMBER = 6,      /* a part begins with no number: that byte */
+    HEROVINGA_CARD = 7,           /* settings or table are wrong: one of enum herovinga_wrong, or the number of the first bad row */
+    HEROVINGA_TEXT_TOO_LONG = 8,  /* a text of more than 4,096 bytes: 4096 */
+    HEROVINGA_NO_ROOM = 9,        /* the buffer has fewer bytes left than the length needs: the place */
+    HEROVINGA_BEYOND = 10,        /* a place beyond the text or the buffer: the place */
+    HEROVINGA_MALFORMED = 11      /* no length: 1,000,000,000 nanoseconds or more, or zero with a minus: 0 */
+};
+
+/* Positions of number 7 beside those of rows, which are 0 to 63. */
+enum herovinga_wrong {
+    HEROVINGA_WRONG_TABLE_SIZE = 64,
+    HEROVINGA_WRONG_DELIMITERS = 65,
+    HEROVINGA_WRONG_CONJUNCTIONS = 66,
+    HEROVINGA_WRONG_DEFAULT_KIND = 67
+};
+
+/* Unit kinds: of a row, and of a number without a unit. */
+enum herovinga_kind {
+    HEROVINGA_NANOSECOND = 0,
+    HEROVINGA_MICROSECOND = 1,
+    HEROVINGA_MILLISECOND = 2,
+    HEROVINGA_SECOND = 3,
+    HEROVINGA_MINUTE = 4,
+    HEROVINGA_HOUR = 5,
+    HEROVINGA_DAY = 6,
+    HEROVINGA_WEEK = 7
+};
+
+/* The rows of a unit table: where each field of a row stands, and how many bytes it has. */
+enum herovinga_row {
+    HEROVINGA_NAME_SIZE_AT = 0, /* one byte: how many bytes the name has, 1 to 16 */
+    HEROVINGA_NAME_AT = 1,
+    HEROVINGA_NAME_ROOM = 16, /* zeros behind the name */
+    HEROVINGA_KIND_AT = 17,   /* one byte */
+    HEROVINGA_COEFFICIENT_AT = 18,
+    HEROVINGA_COEFFICIENT_SIZE = 8, /* two's complement, low byte first */
+    HEROVINGA_POWER_AT = 26,
+    HEROVINGA_POWER_SIZE = 2, /* the same */
+    HEROVINGA_ZEROS_AT = 28,  /* zeros up to the row's end */
+    HEROVINGA_ROW_SIZE = 32,
+    HEROVINGA_MOST_ROWS = 64
+};
+
+enum herovinga_limit {
+    HEROVINGA_LONGEST_TEXT = 4096, /* bytes of a text that is read */
+    HEROVINGA_LONGEST_FORM = 31    /* bytes of a length that is written, at most */
+};
+
+/* A length of time. The sign is minus if negative is not 0; in an answer and in a total that was added to it is 0 or 1. */
+typedef struct herovinga_length {
+    uint64_t negative;
+    uint64_t seconds;
+    uint64_t nanoseconds; /* 0 to 999999999; all else is refused by 11 */
+} herovinga_length;
+
+typedef struct herovinga_answer {
+    uint64_t position;
+    herovinga_length length;
+} herovinga_answer;
+
+/* A word that may stand between two parts: 1 to 8 ASCII letters, the first in the low byte. */
+typedef struct herovinga_conjunction {
+    uint64_t size;
+    uint64_t letters;
+} herovinga_conjunction;
+
+/* A switch is on if it is not 0. A count, a size or a kind that is too large is refused by 7, however large it is. */
+typedef struct herovinga_settings {
+    uint64_t negatives;   /* a part may be below zero */
+    uint64_t fractions;   /* 1.5 */
+    uint64_t exponents;   /* 1e3 */
+    uint64_t infinity;    /* inf, infinity */
+    uint64_t ago;         /* 5ms ago */
+    uint64_t after_sign;  /* inner delimiters may follow a sign */
+    uint64_t before_unit; /* inner delimiters may stand between a number and its unit */
+    uint64_t inner[4];    /* delimiters within a part: byte b is held if bit b % 64 of word b / 64 is 1 */
+    uint64_t outer[4];    /* delimiters between two parts */
+    uint64_t conjunctions; /* how many of the four count */
+    herovinga_conjunction conjunction[4];
+    uint64_t default_kind; /* of a number without a unit */
+} herovinga_settings;
+
+/* How to make a card, that is settings and a table.
+ *
+ * Begin with all zeros (herovinga_settings s = {0}): every switch is off, no byte delimits, there is no conjunction, and a number without
+ * a unit is nanoseconds. Then set what is wanted:
+ *
+ *     s.fractions = 1;
+ *     s.default_kind = HEROVINGA_SECOND;
+ *     s.inner[' ' / 64] |= (uint64_t)1 << (' ' % 64);
+ *     s.outer[' ' / 64] |= (uint64_t)1 << (' ' % 64);
+ *     s.conjunctions = 1;
+ *     s.conjunction[0].size = 3;
+ *     s.conjunction[0].letters = 'a' | 'n' << 8 | 'd' << 16;
+ *
+ * A delimiter is below 128 and is no letter, digit, '+', '-' or '.'. Where several conjunctions fit, the first listed one is taken,
+ * and not the longest. Letters behind a conjunction's size and conjunctions behind the count are not looked at.
+ *
+ * The table is up to 64 rows of 32 bytes, one behind another, and its size is 32 times their number; an empty one may be null. A row names a
+ * unit: its kind, times its coefficient, times ten to its power. So with the name "ms", HEROVINGA_MILLISECOND, 1 and 0 are a millisecond,
+ * and with the name "turn", HEROVINGA_MILLISECOND, 123 and -1 are 12.3 of them:
+ *
+ *     uint8_t row[HEROVINGA_ROW_SIZE] = {0};
+ *     row[HEROVINGA_NAME_SIZE_AT] = 4;
+ *     memcpy(row + HEROVINGA_NAME_AT, "turn", 4);
+ *     row[HEROVINGA_KIND_AT] = HEROVINGA_MILLISECOND;
+ *     row[HEROVINGA_COEFFICIENT_AT] = 123;
+ *     row[HEROVINGA_POWER_AT] = 0xff;
+ *     row[HEROVINGA_POWER_AT + 1] = 0xff;
+ *
+ * A name holds no delimiter of either set, no digit, no '+', '-' or '.', and no two rows have the same. Names are compared byte for byte,
+ * so "S" is not "s". Kind times row, coefficients multiplied and powers added, lies within plus or minus 9223372036854775807 and -32768 to
+ * 32767.
+ *
+ * Every call checks the card, and a wrong one is 7 whatever the text is. examples/c/read_line.c makes a whole card.
+ */
+
+/* Reads one part of a text from a place on, what connects it with the next one included. Position: the place where the next part begins,
+ * which is the text's size after the last one. Length: the part's. */
+uint8_t herovinga_read_part(const herovinga_settings *settings, const uint8_t *table, size_t table_size, const uint8_t *text,
+                            size_t text_size, size_t place, herovinga_answer *answer);
+
+/* Reads all parts of a text. Position: the text's size. Length: their sum, each sum on the way held between the least and the largest
+ * length. */
+uint8_t herovinga_read_total(const herovinga_settings *settings, const uint8_t *table, size_t table_size, const uint8_t *text,
+                             size_t text_size, herovinga_answer *answer);
+
+/* Writes a length at a place of the buffer, as "+0.0617": its sign, its seconds and, if there are nanoseconds, a point and nine digits less
+ * trailing zeros. Position: the place behind it. Length: the one written. No other byte of the buffer changes, and none on a refusal. */
+uint8_t herovinga_write(const herovinga_length *length, uint8_t *buffer, size_t buffer_size, size_t place, herovinga_answer *answer);
+
+/* Adds a text's total to the shift total that is lent, held between the least and the largest length. Position: the text's size. Length: the
+ * new total, which then also stands in *total. A refusal leaves *total as it was. */
+uint8_t herovinga_add_total(herovinga_length *total, const herovinga_settings *settings, const uint8_t *table, size_t table_size,
+                            const uint8_t *text, size_t text_size, herovinga_answer *answer);
+
+#ifdef __cplusplus
+}
+#endif
+
+#endif
