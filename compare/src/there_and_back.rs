@@ -52,8 +52,10 @@ impl Line {
             let (room, place) = (self.buffer.len() - self.place, self.place);
             self.read_back()?;
             let again = write(length, &mut self.buffer, 0);
-            // What takes no more than the room had to be written there.
+            // What takes no more than the room had to be written there. That is
+            // so whatever stood in the buffer, so it is shown blank.
             if again.number != 0 || again.position <= Some(room as u64) {
+                self.begin_anew();
                 return Err(self.wrong_write(length, place, written, "to be written"));
             }
             return self.take(length, again);

@@ -134,6 +134,14 @@ fn length(answer: Answer) -> Result<Length, Refusal> {
 }
 
 /// A card in the making; [`CardBuilder::build`] has it checked.
+///
+/// ```
+/// use herovinga::{Card, Kind};
+///
+/// let card = Card::builder().fractions(true).outer(" ").conjunction("and").unit("ms", Kind::Millisecond, 1, 0).build()?;
+/// assert_eq!(card.read_total("1 and 61.7ms")?.to_string(), "+1.0617");
+/// # Ok::<(), herovinga::Refusal>(())
+/// ```
 #[derive(Clone, Debug)]
 pub struct CardBuilder {
     settings: Settings,
