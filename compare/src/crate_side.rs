@@ -51,77 +51,77 @@ impl fmt::Display for CrateAnswer {
 }
 
 pub fn ask(request: &Request) -> CrateAnswer {
-    let asked = catch_unwind(AssertUnwindSafe(|| match request {
-        Request::Total { card, text } => ask_total(card, text),
-        Request::Part { place, card, text } => ask_part(card, text, *place),
+    let asked = match request {
+        Request::Total { card, text } => {
+            as_utf8(text, "text").and_then(|text| under(card, |set_up| set_up.total(text)))
+        }
+        Request::Part { place, card, text } => {
+            as_utf8(text, "text").and_then(|text| under(card, |set_up| set_up.part(text, *place)))
+        }
         Request::Shift { .. } => Err("it has no shift total".to_string()),
         Request::Write { .. } => Err("it has no writer".to_string()),
-    }));
-    match asked {
-        Ok(Ok(answer)) => answer,
-        Ok(Err(why)) => CrateAnswer::Unasked(why),
-        Err(_) => CrateAnswer::Loud("panicked".to_string()),
-    }
+    };
+    asked.unwrap_or_else(CrateAnswer::Unasked)
 }
 
-/// Whether the crate may be asked at all. It has no refusals of its own for
-/// these; a delimiter that splits a letter would even be unsound.
-fn check_domain(card: &Card, text: &[u8]) -> Result<(), String> {
-    if !plain::accepts(card) {
-        return Err("the settings or the table are not accepted".to_string());
-    }
-    if text.len() > plain::MOST_TEXT_BYTES {
-        return Err("the text is too long".to_string());
-    }
-    Ok(())
+/// The crate set up for one card, to be asked about any number of texts.
+pub struct SetUp<'a> {
+    parser: Parser<'a>,
+    units: Units,
 }
 
-fn ask_total(card: &Card, text: &[u8]) -> Result<CrateAnswer, String> {
-    check_domain(card, text)?;
-    let text = as_utf8(text, "text")?;
-    with_config(card, |config, units| {
-        let parser = Parser::with_config(config.clone());
-        match parser.parse_multiple(text, units, None, None) {
+impl SetUp<'_> {
+    pub fn total(&self, text: &str) -> CrateAnswer {
+        asked(text, || self.ask_total(text))
+    }
+
+    pub fn part(&self, text: &str, place: u64) -> CrateAnswer {
+        asked(text, || self.ask_part(text, place))
+    }
+
+    fn ask_total(&self, text: &str) -> CrateAnswer {
+        match self.parser.parse_multiple(text, &self.units, None, None) {
             Ok(total) => said(Answer::success(text.len() as u64, length_of(total))),
-            Err(ParseError::NegativeNumber) if negative_part_is_zero(config, units, text) => {
-                Ok(CrateAnswer::LeftOut)
+            Err(ParseError::NegativeNumber) if self.negative_part_is_zero(text) => {
+                CrateAnswer::LeftOut
             }
             Err(error) => refusal(error, 0),
         }
-    })
-}
+    }
 
-/// Steps through the parts as `parse_multiple` does, up to the part that made
-/// it refuse, and tells whether that part came to zero. The crate keeps a minus
-/// on such a part and refuses it; the port accepts it as zero.
-fn negative_part_is_zero(config: &Config, units: &Units, text: &str) -> bool {
-    let mut parser = &mut ReprParserMultiple::new(text);
-    loop {
-        let Ok((mut read, rest)) = parser.parse(config, units, None, None) else {
-            return false;
-        };
-        match read.parse() {
-            Ok(part) if part.is_negative() => return part.is_zero(),
-            Ok(_) => {}
-            Err(_) => return false,
-        }
-        match rest {
-            Some(next) => parser = next,
-            None => return false,
+    /// Steps through the parts as `parse_multiple` does, up to the part that
+    /// made it refuse, and tells whether that part came to zero. The crate keeps
+    /// a minus on such a part and refuses it; the port accepts it as zero.
+    fn negative_part_is_zero(&self, text: &str) -> bool {
+        let mut parser = &mut ReprParserMultiple::new(text);
+        loop {
+            let parsed = parser.parse(&self.parser.config, &self.units, None, None);
+            let Ok((mut read, rest)) = parsed else {
+                return false;
+            };
+            match read.parse() {
+                Ok(part) if part.is_negative() => return part.is_zero(),
+                Ok(_) => {}
+                Err(_) => return false,
+            }
+            match rest {
+                Some(next) => parser = next,
+                None => return false,
+            }
         }
     }
-}
 
-fn ask_part(card: &Card, text: &[u8], place: u64) -> Result<CrateAnswer, String> {
-    check_domain(card, text)?;
-    let text = as_utf8(text, "text")?;
-    let rest = usize::try_from(place)
-        .ok()
-        .and_then(|place| text.get(place..))
-        .ok_or("the place is beyond the text or within a letter")?;
-    with_config(card, |config, units| {
+    fn ask_part(&self, text: &str, place: u64) -> CrateAnswer {
+        let rest = usize::try_from(place)
+            .ok()
+            .and_then(|place| text.get(place..));
+        let Some(rest) = rest else {
+            let why = "the place is beyond the text or within a letter";
+            return CrateAnswer::Unasked(why.to_string());
+        };
+        let config = &self.parser.config;
         let mut parser = ReprParserMultiple::new(rest);
-        let (mut read, next) = match parser.parse(config, units, None, None) {
+        let (mut read, next) = match parser.parse(config, &self.units, None, None) {
             Ok((read, Some(parser))) => (read, parser.bytes.current_pos),
             Ok((read, None)) => (read, rest.len()),
             Err(error) => return refusal(error, place),
@@ -129,7 +129,7 @@ fn ask_part(card: &Card, text: &[u8], place: u64) -> Result<CrateAnswer, String>
         match read.parse() {
             Ok(part) if part.is_negative() && !config.allow_negative => {
                 if part.is_zero() {
-                    Ok(CrateAnswer::LeftOut)
+                    CrateAnswer::LeftOut
                 } else {
                     refusal(ParseError::NegativeNumber, place)
                 }
@@ -137,16 +137,25 @@ fn ask_part(card: &Card, text: &[u8], place: u64) -> Result<CrateAnswer, String>
             Ok(part) => said(Answer::success(place + next as u64, length_of(part))),
             Err(error) => refusal(error, place),
         }
-    })
+    }
 }
 
-fn said(answer: Answer) -> Result<CrateAnswer, String> {
-    Ok(CrateAnswer::Says(answer))
+/// The answer to a question about a text that the crate may be asked about.
+fn asked(text: &str, question: impl FnOnce() -> CrateAnswer) -> CrateAnswer {
+    if text.len() > plain::MOST_TEXT_BYTES {
+        return CrateAnswer::Unasked("the text is too long".to_string());
+    }
+    catch_unwind(AssertUnwindSafe(question))
+        .unwrap_or_else(|_| CrateAnswer::Loud("panicked".to_string()))
+}
+
+fn said(answer: Answer) -> CrateAnswer {
+    CrateAnswer::Says(answer)
 }
 
 /// The crate's error under document 01's number, places counted from `base`.
 /// For 1 and 6 the crate gives no place.
-fn refusal(error: ParseError, base: u64) -> Result<CrateAnswer, String> {
+fn refusal(error: ParseError, base: u64) -> CrateAnswer {
     let (number, position) = match error {
         ParseError::Empty => (1, None),
         ParseError::Syntax(place, _) => (2, Some(base + place as u64)),
@@ -154,7 +163,7 @@ fn refusal(error: ParseError, base: u64) -> Result<CrateAnswer, String> {
         ParseError::NegativeExponentOverflow => (4, Some(0)),
         ParseError::NegativeNumber => (5, Some(0)),
         ParseError::InvalidInput(_) => (6, None),
-        unexpected => return Ok(CrateAnswer::Loud(format!("said {unexpected:?}"))),
+        unexpected => return CrateAnswer::Loud(format!("said {unexpected:?}")),
     };
     said(Answer {
         number,
@@ -189,11 +198,16 @@ fn is_outer(byte: u8) -> bool {
     OUTER.with_borrow(|set| set.holds(byte))
 }
 
-/// Runs a question under the crate's form of a card.
-fn with_config<Answered>(
+/// Asks under the crate's form of a card, if the crate may be asked about it at
+/// all: it has no refusals of its own for a wrong one, and a delimiter that
+/// splits a letter would even be unsound.
+pub fn under<Answered>(
     card: &Card,
-    question: impl FnOnce(&Config, &Units) -> Result<Answered, String>,
+    questions: impl FnOnce(&SetUp) -> Answered,
 ) -> Result<Answered, String> {
+    if !plain::accepts(card) {
+        return Err("the settings or the table are not accepted".to_string());
+    }
     INNER.set(card.inner.clone());
     OUTER.set(card.outer.clone());
     let units = Units::from_table(&card.table)?;
@@ -220,7 +234,8 @@ fn with_config<Answered>(
     config.allow_ago = card.switches.ago;
     config.allow_sign_delimiter = card.switches.sign_delimiter;
     config.allow_time_unit_delimiter = card.switches.unit_delimiter;
-    question(&config, &units)
+    let parser = Parser::with_config(config);
+    Ok(questions(&SetUp { parser, units }))
 }
 
 /// The table's rows as the crate looks units up.

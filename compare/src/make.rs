@@ -3,7 +3,7 @@
 //! texts over a small alphabet.
 
 use crate::make_card::{make_card, make_small_card};
-use crate::make_text::{MadeText, Offer, make_text};
+use crate::make_text::{Offer, make_text};
 use crate::request::Request;
 use crate::rng::Random;
 
@@ -51,7 +51,7 @@ impl Maker {
             }
         };
         Request::Total {
-            card: self.walk.offer.card().clone(),
+            card: self.walk.offer().card().clone(),
             text: text.into_bytes(),
         }
     }
@@ -61,7 +61,7 @@ impl Maker {
         let card = self.offer.card().clone();
         if self.random.chance(23) {
             Request::Part {
-                place: make_place(&mut self.random, &made),
+                place: make_place(&mut self.random, &made.bytes, &made.starts),
                 card,
                 text: made.bytes,
             }
@@ -92,25 +92,23 @@ impl Iterator for Maker {
 
 /// A place of the text: its start, a part's start, its end, or any place
 /// between two letters.
-fn make_place(random: &mut Random, made: &MadeText) -> u64 {
+pub fn make_place(random: &mut Random, text: &[u8], starts: &[usize]) -> u64 {
     let place = match random.below(20) {
         0..=5 => 0,
-        6..=13 => *random.pick(&made.starts),
-        14 => made.bytes.len(),
-        _ => random.below(made.bytes.len() as u64 + 1) as usize,
+        6..=13 if !starts.is_empty() => *random.pick(starts),
+        14 => text.len(),
+        _ => random.below(text.len() as u64 + 1) as usize,
     };
-    let place = place.min(made.bytes.len());
+    let place = place.min(text.len());
     let between_letters = (0..=place).rev().find(|place| {
         // A byte that continues a letter has the bits 10 in front.
-        made.bytes
-            .get(*place)
-            .is_none_or(|byte| byte & 0xc0 != 0x80)
+        text.get(*place).is_none_or(|byte| byte & 0xc0 != 0x80)
     });
     between_letters.unwrap_or(0) as u64
 }
 
 /// All texts over a small alphabet up to some length, the shorter ones first.
-struct Walk {
+pub struct Walk {
     offer: Offer,
     alphabet: Vec<char>,
     longest: usize,
@@ -120,7 +118,7 @@ struct Walk {
 }
 
 impl Walk {
-    fn new(random: &mut Random) -> Self {
+    pub fn new(random: &mut Random) -> Self {
         let offer = Offer::new(make_small_card(random));
         let (size, longest) = *random.pick(&[(6, 3), (5, 3), (4, 4), (3, 5)]);
         let alphabet = offer.alphabet(random, size);
@@ -131,6 +129,10 @@ impl Walk {
             places: Vec::new(),
             done: false,
         }
+    }
+
+    pub fn offer(&self) -> &Offer {
+        &self.offer
     }
 
     /// Counts the places up like digits, the first one fastest.

@@ -1,0 +1,279 @@
+//! Cards: the settings and the unit table, under which texts are read.
+
+use crate::length::Length;
+use crate::parts::{Part, Parts};
+use crate::raw::{self, Answer, Settings};
+use crate::refusal::Refusal;
+
+/// How many conjunctions the settings have room for.
+const CONJUNCTION_ROOM: usize = 4;
+
+/// The fields of a row: the size of its name, the name, the kind, coefficient
+/// and power, and zeros.
+const ROW_SIZE: usize = 32;
+const NAME_AT: usize = 1;
+const NAME_ROOM: usize = 16;
+const KIND_AT: usize = 17;
+const COEFFICIENT_AT: usize = 18;
+const POWER_AT: usize = 26;
+const ZEROS_AT: usize = 28;
+
+/// The eight kinds of units.
+#[allow(missing_docs)] // the names say it
+#[derive(Clone, Copy, PartialEq, Eq, Hash, Debug)]
+pub enum Kind {
+    Nanosecond = 0,
+    Microsecond = 1,
+    Millisecond = 2,
+    Second = 3,
+    Minute = 4,
+    Hour = 5,
+    Day = 6,
+    Week = 7,
+}
+
+/// Settings and a unit table that the port accepts. A card is checked when it
+/// is made, and cannot be changed afterwards.
+#[derive(Clone, PartialEq, Eq, Hash, Debug)]
+pub struct Card {
+    settings: Settings,
+    table: Vec<u8>,
+}
+
+impl Card {
+    /// A card to be made step by step. It begins with all switches off, no
+    /// delimiters, no conjunctions, seconds for numbers without a unit, and no
+    /// units.
+    pub fn builder() -> CardBuilder {
+        CardBuilder::default()
+    }
+
+    /// Card A of document 01: all switches on but the one after a sign, spaces
+    /// as delimiters, the conjunction `and`, and the units `ns`, `ms`, `s`,
+    /// `min`, `turn` (12.3 ms) and `block` (10,000,000,000 s).
+    pub fn a() -> Self {
+        Self::builder()
+            .negatives(true)
+            .fractions(true)
+            .exponents(true)
+            .infinity(true)
+            .ago(true)
+            .before_unit(true)
+            .inner(" ")
+            .outer(" ")
+            .conjunction("and")
+            .unit("ns", Kind::Nanosecond, 1, 0)
+            .unit("ms", Kind::Millisecond, 1, 0)
+            .unit("s", Kind::Second, 1, 0)
+            .unit("min", Kind::Minute, 1, 0)
+            .unit("turn", Kind::Millisecond, 123, -1)
+            .unit("block", Kind::Second, 10_000_000_000, 0)
+            .build()
+            .expect("card A is accepted")
+    }
+
+    /// A card from the words of its settings and the bytes of its unit table,
+    /// or what is wrong with them (7).
+    pub fn from_words(settings: Settings, table: Vec<u8>) -> Result<Self, Refusal> {
+        // The card is checked before anything else, so an empty text, of which
+        // nothing can be read, tells whether it is accepted.
+        let answer = raw::read_total(&settings, &table, b"");
+        match answer.number {
+            7 => Err(Refusal::of(&answer)),
+            _ => Ok(Self { settings, table }),
+        }
+    }
+
+    /// The words of the settings, as [`raw`] takes them.
+    pub fn settings(&self) -> &Settings {
+        &self.settings
+    }
+
+    /// The bytes of the unit table, as [`raw`] takes them.
+    pub fn table(&self) -> &[u8] {
+        &self.table
+    }
+
+    /// The sum of a text's parts, clamped at each part between [`Length::MIN`]
+    /// and [`Length::MAX`].
+    pub fn read_total(&self, text: impl AsRef<[u8]>) -> Result<Length, Refusal> {
+        length(raw::read_total(&self.settings, &self.table, text.as_ref()))
+    }
+
+    /// The part of a text at a place, and the place at which the next begins.
+    pub fn read_part(&self, text: impl AsRef<[u8]>, place: usize) -> Result<Part, Refusal> {
+        let answer = raw::read_part(&self.settings, &self.table, text.as_ref(), place);
+        Ok(Part {
+            length: length(answer)?,
+            next: answer.position as usize,
+        })
+    }
+
+    /// The parts of a text one after the other, up to its end or to the first
+    /// that is refused. A text without any gives its refusal (1).
+    pub fn parts<'a>(&'a self, text: &'a (impl AsRef<[u8]> + ?Sized)) -> Parts<'a> {
+        Parts::new(self, text.as_ref())
+    }
+
+    /// Adds a text's total to a shift total, clamped, and gives the new one. If
+    /// the text is refused the shift total stays as it was.
+    pub fn add_total(&self, total: &mut Length, text: impl AsRef<[u8]>) -> Result<Length, Refusal> {
+        let mut record = total.record();
+        let added = raw::add_total(&mut record, &self.settings, &self.table, text.as_ref());
+        // After a refusal the record is as it was.
+        *total = Length::of(record);
+        length(added)
+    }
+}
+
+fn length(answer: Answer) -> Result<Length, Refusal> {
+    match answer.number {
+        0 => Ok(Length::of(answer.length)),
+        _ => Err(Refusal::of(&answer)),
+    }
+}
+
+/// A card in the making; [`CardBuilder::build`] has it checked.
+///
+/// ```
+/// use herovinga::{Card, Kind};
+///
+/// let card = Card::builder().fractions(true).outer(" ").conjunction("and").unit("ms", Kind::Millisecond, 1, 0).build()?;
+/// assert_eq!(card.read_total("1 and 61.7ms")?.to_string(), "+1.0617");
+/// # Ok::<(), herovinga::Refusal>(())
+/// ```
+#[derive(Clone, Debug)]
+pub struct CardBuilder {
+    settings: Settings,
+    table: Vec<u8>,
+}
+
+impl Default for CardBuilder {
+    fn default() -> Self {
+        let builder = Self {
+            settings: [0; 25],
+            table: Vec::new(),
+        };
+        builder.default_kind(Kind::Second)
+    }
+}
+
+impl CardBuilder {
+    /// Whether a part may be below zero.
+    pub fn negatives(self, on: bool) -> Self {
+        self.switch(0, on)
+    }
+
+    /// Whether a number may have a point, as in `1.5`.
+    pub fn fractions(self, on: bool) -> Self {
+        self.switch(1, on)
+    }
+
+    /// Whether a number may have an exponent, as in `1e3`.
+    pub fn exponents(self, on: bool) -> Self {
+        self.switch(2, on)
+    }
+
+    /// Whether `inf` and `infinity` are numbers.
+    pub fn infinity(self, on: bool) -> Self {
+        self.switch(3, on)
+    }
+
+    /// Whether `ago` after a unit negates it.
+    pub fn ago(self, on: bool) -> Self {
+        self.switch(4, on)
+    }
+
+    /// Whether inner delimiters may stand after a sign.
+    pub fn after_sign(self, on: bool) -> Self {
+        self.switch(5, on)
+    }
+
+    /// Whether inner delimiters may stand between a number and its unit.
+    pub fn before_unit(self, on: bool) -> Self {
+        self.switch(6, on)
+    }
+
+    fn switch(mut self, switch: usize, on: bool) -> Self {
+        self.settings[raw::SWITCHES + switch] = on.into();
+        self
+    }
+
+    /// These bytes delimit within a part.
+    pub fn inner(self, delimiters: impl AsRef<[u8]>) -> Self {
+        self.delimiters(raw::INNER, delimiters.as_ref())
+    }
+
+    /// These bytes delimit parts.
+    pub fn outer(self, delimiters: impl AsRef<[u8]>) -> Self {
+        self.delimiters(raw::OUTER, delimiters.as_ref())
+    }
+
+    fn delimiters(mut self, set: usize, delimiters: &[u8]) -> Self {
+        for byte in delimiters {
+            self.settings[set + usize::from(byte / 64)] |= 1 << (byte % 64);
+        }
+        self
+    }
+
+    /// One more word that may stand between parts. A text has the first that
+    /// fits, not the longest.
+    pub fn conjunction(mut self, word: impl AsRef<[u8]>) -> Self {
+        let word = word.as_ref();
+        let count = self.settings[raw::CONJUNCTIONS] as usize;
+        self.settings[raw::CONJUNCTIONS] += 1;
+        // A conjunction too many, or one too long, has no room, and its count
+        // or size says that the card is to be refused.
+        if count < CONJUNCTION_ROOM {
+            let slot = raw::CONJUNCTIONS + 1 + 2 * count;
+            let mut letters = [0; 8];
+            copy_what_fits(word, &mut letters);
+            self.settings[slot] = word.len() as u64;
+            self.settings[slot + 1] = u64::from_le_bytes(letters);
+        }
+        self
+    }
+
+    /// What a number without a unit counts.
+    pub fn default_kind(mut self, kind: Kind) -> Self {
+        self.settings[raw::DEFAULT_KIND] = kind as u64;
+        self
+    }
+
+    /// One more unit: so many of its kind, coefficient times ten to the power.
+    pub fn unit(
+        mut self,
+        name: impl AsRef<[u8]>,
+        kind: Kind,
+        coefficient: i64,
+        power: i16,
+    ) -> Self {
+        let name = name.as_ref();
+        let mut row = [0; ROW_SIZE];
+        // A name that has no room is refused by its size, whatever is left out.
+        row[0] = u8::try_from(name.len()).unwrap_or(u8::MAX);
+        copy_what_fits(name, &mut row[NAME_AT..NAME_AT + NAME_ROOM]);
+        row[KIND_AT] = kind as u8;
+        row[COEFFICIENT_AT..POWER_AT].copy_from_slice(&coefficient.to_le_bytes());
+        row[POWER_AT..ZEROS_AT].copy_from_slice(&power.to_le_bytes());
+        self.table.extend_from_slice(&row);
+        self
+    }
+
+    /// Rows of a unit table as they are stored, 32 bytes each.
+    pub fn rows(mut self, rows: &[u8]) -> Self {
+        self.table.extend_from_slice(rows);
+        self
+    }
+
+    /// The card, or what is wrong with it (7).
+    pub fn build(self) -> Result<Card, Refusal> {
+        Card::from_words(self.settings, self.table)
+    }
+}
+
+fn copy_what_fits(bytes: &[u8], room: &mut [u8]) {
+    for (place, byte) in room.iter_mut().zip(bytes) {
+        *place = *byte;
+    }
+}

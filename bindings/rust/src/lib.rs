@@ -1,0 +1,60 @@
+//! Timings that are read exactly.
+//!
+//! A [`Card`] says how timings are typed: switches, delimiters, conjunctions
+//! and units. Under it a text is read to a [`Length`], in whole or part by
+//! part, and refused with a number and a place ([`Refusal`]) where it cannot be.
+//! The reading is done by Herovinga's library, every function of which is
+//! proved to meet its contract; this crate lends it words and bytes.
+//!
+//! ```
+//! use herovinga::{Card, Kind, Length, Refusal};
+//!
+//! let card = Card::builder()
+//!     .negatives(true)
+//!     .fractions(true)
+//!     .ago(true)
+//!     .inner(" ")
+//!     .outer(" ,")
+//!     .conjunction("and")
+//!     .unit("s", Kind::Second, 1, 0)
+//!     .unit("ms", Kind::Millisecond, 1, 0)
+//!     .unit("turn", Kind::Millisecond, 123, -1)
+//!     .build()?;
+//!
+//! assert_eq!(card.read_total("61.7ms")?, Length::new(false, 0, 61_700_000)?);
+//! assert_eq!(card.read_total("1s and 200ms")?.to_string(), "+1.2");
+//! assert_eq!(card.read_total("5ms ago, 3turn")?.to_string(), "+0.0319");
+//!
+//! // What cannot be read is refused with a number and a place.
+//! let refused = card.read_total("1s android").unwrap_err();
+//! assert_eq!(refused, Refusal { number: 2, position: 6 });
+//! assert_eq!(refused.to_string(), "the text cannot be read on at place 6");
+//!
+//! // Part by part, and written back.
+//! let mut written = Vec::new();
+//! for part in card.parts("1s, 2ms, 3s ago") {
+//!     part?.length.append_to(&mut written);
+//! }
+//! assert_eq!(written, b"+1+0.002-3");
+//! assert_eq!(card.read_total(&written)?.to_string(), "-1.998");
+//!
+//! // The shift total; a text that is refused leaves it as it was.
+//! let mut total = Length::ZERO;
+//! card.add_total(&mut total, "90s")?;
+//! card.add_total(&mut total, "10s and then").unwrap_err();
+//! assert_eq!(std::time::Duration::try_from(total)?.as_secs(), 90);
+//! # Ok::<(), Box<dyn std::error::Error>>(())
+//! ```
+
+#![warn(missing_docs)]
+
+mod card;
+mod length;
+mod parts;
+pub mod raw;
+mod refusal;
+
+pub use card::{Card, CardBuilder, Kind};
+pub use length::{Length, MOST_WRITTEN, NegativeLength};
+pub use parts::{Part, Parts};
+pub use refusal::Refusal;

@@ -1,0 +1,69 @@
+//! What is handed back instead of a length.
+
+use std::error::Error;
+use std::fmt;
+
+use crate::raw::Answer;
+
+/// A refusal, by document 01's number, and where it was met. What the position
+/// means depends on the number; `Display` says it in a sentence.
+#[derive(Clone, Copy, PartialEq, Eq, Hash, Debug)]
+pub struct Refusal {
+    /// 1 to 11.
+    pub number: u8,
+    /// A place of the text or buffer, 0, or for 7 what is wrong: 65 the
+    /// delimiters, 66 the conjunctions, 67 the default kind, 64 the size of the
+    /// unit table, any lower number the first bad row.
+    pub position: usize,
+}
+
+impl Refusal {
+    pub(crate) fn of(answer: &Answer) -> Self {
+        Self {
+            number: answer.number,
+            position: answer.position as usize,
+        }
+    }
+
+    /// What is wrong with settings or table.
+    fn describe_card(self, out: &mut fmt::Formatter<'_>) -> fmt::Result {
+        match self.position {
+            65 => {
+                out.write_str("a delimiter is a letter, a digit, `+`, `-`, `.` or a byte above 127")
+            }
+            66 => out.write_str(
+                "there are more than four conjunctions, or one is not 1 to 8 ASCII letters",
+            ),
+            67 => out.write_str("the default kind is not one of 0 to 7"),
+            64 => out.write_str("the unit table is not 0 to 64 rows of 32 bytes"),
+            row => write!(
+                out,
+                "row {row} of the unit table has a name, kind or multiplier that is not accepted"
+            ),
+        }
+    }
+}
+
+impl fmt::Display for Refusal {
+    fn fmt(&self, out: &mut fmt::Formatter<'_>) -> fmt::Result {
+        let position = self.position;
+        match self.number {
+            1 => write!(out, "there is nothing to read at place {position}"),
+            2 => write!(out, "the text cannot be read on at place {position}"),
+            3 => out.write_str("an exponent is above 32767"),
+            4 => out.write_str("an exponent is below -32768"),
+            5 => out.write_str("a part is negative, which the card forbids"),
+            6 => write!(out, "the part begins with no number at place {position}"),
+            7 => self.describe_card(out),
+            8 => write!(out, "the text has more than {position} bytes"),
+            9 => write!(out, "the buffer has too few bytes left at place {position}"),
+            10 => write!(out, "place {position} is beyond the text or buffer"),
+            11 => out.write_str(
+                "the length record is malformed: a second or more of nanoseconds, or minus zero",
+            ),
+            number => write!(out, "refusal {number} at {position}"),
+        }
+    }
+}
+
+impl Error for Refusal {}

@@ -1,0 +1,196 @@
+//! Each number that is handed back, with its position, and the sentences.
+
+use herovinga::{Card, CardBuilder, Kind, Length, Refusal, raw};
+
+fn refusal(number: u8, position: usize) -> Refusal {
+    Refusal { number, position }
+}
+
+fn total(card: &Card, text: &str) -> Refusal {
+    card.read_total(text).expect_err("the text is refused")
+}
+
+fn build(builder: CardBuilder) -> Refusal {
+    builder.build().expect_err("the card is refused")
+}
+
+#[test]
+fn texts() {
+    let card = Card::a();
+    assert_eq!(total(&card, ""), refusal(1, 0));
+    assert_eq!(card.read_part("1s", 2), Err(refusal(1, 2)));
+    assert_eq!(total(&card, "1s 2e"), refusal(2, 5));
+    assert_eq!(total(&card, "1s 1e32768"), refusal(3, 0));
+    assert_eq!(total(&card, "1s 1e-32769"), refusal(4, 0));
+    assert_eq!(total(&card, "1s hour"), refusal(6, 3));
+    assert_eq!(card.read_part("1s", 3), Err(refusal(10, 3)));
+    assert_eq!(
+        card.read_part("1s", usize::MAX),
+        Err(refusal(10, usize::MAX))
+    );
+}
+
+#[test]
+fn a_forbidden_negative() {
+    let card = Card::builder().build().expect("the card is accepted");
+    assert_eq!(total(&card, "2-1"), refusal(5, 0));
+    assert_eq!(card.read_total("2+1").map(Length::seconds), Ok(3));
+}
+
+#[test]
+fn the_largest_text_and_one_byte_more() {
+    let card = Card::a();
+    assert_eq!(card.read_total("0".repeat(4_096)), Ok(Length::ZERO));
+    assert_eq!(total(&card, &"0".repeat(4_097)), refusal(8, 4_096));
+}
+
+#[test]
+fn delimiters() {
+    for byte in [b'a', b'Z', b'0', b'9', b'+', b'-', b'.', 128, 255] {
+        assert_eq!(build(Card::builder().inner([byte])), refusal(7, 65));
+        assert_eq!(build(Card::builder().outer([byte])), refusal(7, 65));
+    }
+    assert!(Card::builder().inner(" \t\0\x7f").build().is_ok());
+}
+
+#[test]
+fn conjunctions() {
+    let with = |words: &[&str]| words.iter().fold(Card::builder(), CardBuilder::conjunction);
+    for words in [
+        vec![""],
+        vec!["fiftyfive"],
+        vec!["a1"],
+        vec!["and", "&"],
+        vec!["a", "b", "c", "d", "e"],
+    ] {
+        assert_eq!(build(with(&words)), refusal(7, 66), "{words:?}");
+    }
+    assert!(with(&["a", "b", "c", "plusplus"]).build().is_ok());
+}
+
+#[test]
+fn the_default_kind() {
+    let mut settings = *Card::a().settings();
+    settings[raw::DEFAULT_KIND] = 8;
+    let refused = Card::from_words(settings, Vec::new());
+    assert_eq!(refused, Err(refusal(7, 67)));
+    settings[raw::DEFAULT_KIND] = 7;
+    let card = Card::from_words(settings, Vec::new()).expect("the card is accepted");
+    assert_eq!(card.read_total("1").map(Length::seconds), Ok(604_800));
+}
+
+#[test]
+fn the_tables_size() {
+    let units = |count| {
+        (0..count).fold(Card::builder(), |builder, number| {
+            let letters = [b'a' + number / 26, b'a' + number % 26];
+            builder.unit(letters, Kind::Second, 1, 0)
+        })
+    };
+    assert!(units(64).build().is_ok());
+    assert_eq!(build(units(65)), refusal(7, 64));
+    assert_eq!(build(Card::builder().rows(&[1; 31])), refusal(7, 64));
+}
+
+#[test]
+fn rows() {
+    let first = || Card::builder().outer(" ").unit("s", Kind::Second, 1, 0);
+    for name in ["", "s", "a b", "a1", "a.b", "a-b", "seventeen letters"] {
+        let second = first().unit(name, Kind::Second, 1, 0);
+        assert_eq!(build(second), refusal(7, 1), "`{name}`");
+    }
+    assert_eq!(
+        build(first().unit("n".repeat(272), Kind::Second, 1, 0)),
+        refusal(7, 1)
+    );
+    let largest = i64::MAX / 604_800;
+    assert!(first().unit("w", Kind::Week, largest, 0).build().is_ok());
+    let beyond = first().unit("w", Kind::Week, largest + 1, 0);
+    assert_eq!(build(beyond), refusal(7, 1));
+    let lowest = first().unit("n", Kind::Nanosecond, 1, i16::MIN);
+    assert_eq!(build(lowest), refusal(7, 1));
+}
+
+#[test]
+fn places_and_room_of_a_buffer() {
+    let mut buffer = *b"........";
+    let length = Length::new(true, 12, 500_000_000).expect("a well-formed length");
+    assert_eq!(length.write_at(&mut buffer, 4), Err(refusal(9, 4)));
+    assert_eq!(length.write_at(&mut buffer, 8), Err(refusal(9, 8)));
+    assert_eq!(length.write_at(&mut buffer, 9), Err(refusal(10, 9)));
+    assert_eq!(&buffer, b"........");
+    assert_eq!(length.write_at(&mut buffer, 3), Ok(8));
+    assert_eq!(&buffer, b"...-12.5");
+}
+
+#[test]
+fn malformed_records() {
+    let card = Card::a();
+    for record in [[1, 0, 0], [0, 1, 1_000_000_000], [0, 0, u64::MAX]] {
+        let mut buffer = [b'.'; 40];
+        let written = raw::write(&record, &mut buffer, 0);
+        assert_eq!((written.number, written.position), (11, 0));
+        assert_eq!(written.length, [0; 3]);
+        assert_eq!(buffer, [b'.'; 40]);
+
+        let mut total = record;
+        let added = raw::add_total(&mut total, card.settings(), card.table(), b"1");
+        assert_eq!((added.number, added.position), (11, 0));
+        assert_eq!(total, record);
+    }
+    assert_eq!(Length::new(true, 0, 0), Err(refusal(11, 0)));
+    assert_eq!(Length::new(false, 0, 1_000_000_000), Err(refusal(11, 0)));
+    assert!(Length::new(true, 0, 999_999_999).is_ok());
+}
+
+/// A well-formed length is what the port calls one.
+#[test]
+fn what_is_well_formed() {
+    for negative in [false, true] {
+        for seconds in [0, 1, u64::MAX] {
+            for nanoseconds in [0, 1, 999_999_999, 1_000_000_000, u32::MAX] {
+                let record = [negative.into(), seconds, nanoseconds.into()];
+                let written = raw::write(&record, &mut [0; 40], 0);
+                let made = Length::new(negative, seconds, nanoseconds);
+                assert_eq!(made.is_ok(), written.number == 0, "{record:?}");
+            }
+        }
+    }
+}
+
+#[test]
+fn sentences() {
+    let sentences = [
+        ((1, 0), "there is nothing to read at place 0"),
+        ((2, 6), "the text cannot be read on at place 6"),
+        ((3, 0), "an exponent is above 32767"),
+        ((4, 0), "an exponent is below -32768"),
+        ((5, 0), "a part is negative, which the card forbids"),
+        ((6, 2), "the part begins with no number at place 2"),
+        (
+            (7, 65),
+            "a delimiter is a letter, a digit, `+`, `-`, `.` or a byte above 127",
+        ),
+        (
+            (7, 66),
+            "there are more than four conjunctions, or one is not 1 to 8 ASCII letters",
+        ),
+        ((7, 67), "the default kind is not one of 0 to 7"),
+        ((7, 64), "the unit table is not 0 to 64 rows of 32 bytes"),
+        (
+            (7, 3),
+            "row 3 of the unit table has a name, kind or multiplier that is not accepted",
+        ),
+        ((8, 4096), "the text has more than 4096 bytes"),
+        ((9, 4), "the buffer has too few bytes left at place 4"),
+        ((10, 9), "place 9 is beyond the text or buffer"),
+        (
+            (11, 0),
+            "the length record is malformed: a second or more of nanoseconds, or minus zero",
+        ),
+    ];
+    for ((number, position), sentence) in sentences {
+        let error: Box<dyn std::error::Error> = Box::new(refusal(number, position));
+        assert_eq!(error.to_string(), sentence);
+    }
+}

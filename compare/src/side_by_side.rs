@@ -1,0 +1,157 @@
+//! The port beside the crate under one card: both are asked about texts, and
+//! then the port about itself.
+
+use crate::crate_side::{self, CrateAnswer, SetUp};
+use crate::found::Found;
+use crate::port_side::Port;
+use crate::request::{Answer, Card, Length, Request};
+use crate::sums::Sum;
+use crate::there_and_back::{Line, Wrong};
+
+/// Both set up for one card.
+pub struct SideBySide<'a> {
+    card: &'a Card,
+    set_up: &'a SetUp<'a>,
+    port: Port,
+    line: Line,
+    shift_total: Length,
+    found: &'a mut Found,
+}
+
+/// Sets both up for a card and lets texts be asked about.
+pub fn under_card(
+    found: &mut Found,
+    card: &Card,
+    ask_texts: impl FnOnce(&mut SideBySide),
+) -> Result<(), String> {
+    found.cards += 1;
+    crate_side::under(card, |set_up| {
+        let mut both = SideBySide {
+            card,
+            set_up,
+            port: Port::of(card),
+            line: Line::under(card),
+            shift_total: Length::ZERO,
+            found,
+        };
+        ask_texts(&mut both);
+        both.end();
+    })
+    .map_err(|why| format!("the crate cannot be asked under the card {card}: {why}"))
+}
+
+impl SideBySide<'_> {
+    /// A text's total, of both; and by the port alone the text part by part and
+    /// added to a shift total.
+    pub fn total(&mut self, text: &[u8]) {
+        let said = match std::str::from_utf8(text) {
+            Ok(text) => self.set_up.total(text),
+            Err(_) => not_utf8(),
+        };
+        let total = self.port.total(text);
+        self.compare(None, text, said, &total);
+        self.found.texts += 1;
+        self.by_parts(text, &total);
+        self.shift(text, &total);
+    }
+
+    /// A part of a text from a place, of both.
+    pub fn part(&mut self, text: &[u8], place: u64) {
+        let said = match std::str::from_utf8(text) {
+            Ok(text) => self.set_up.part(text, place),
+            Err(_) => not_utf8(),
+        };
+        let part = self.port.part(text, place);
+        self.compare(Some(place), text, said, &part);
+    }
+
+    pub fn tell_progress(&mut self) {
+        self.found.tell_progress();
+    }
+
+    fn compare(&mut self, place: Option<u64>, text: &[u8], mut said: CrateAnswer, port: &Answer) {
+        if !self.found.compare(place.is_some(), &mut said, port) {
+            let request = Request::reading(place, self.card.clone(), text.to_vec());
+            let answers = [("port", port.to_string()), ("crate", said.to_string())];
+            self.found.show(&request, answers);
+        }
+    }
+
+    /// Reads a text part by part: the first refusal is the total's, or the
+    /// clamped sum of the parts is its length. What is read is written, to be
+    /// read back.
+    fn by_parts(&mut self, text: &[u8], total: &Answer) {
+        let (mut place, mut sum) = (0, Sum::ZERO);
+        while place < text.len() as u64 || place == 0 {
+            let part = self.port.part(text, place);
+            if part.number != 0 {
+                if part != *total {
+                    self.differs(text, total, "part by part", part.to_string());
+                }
+                return;
+            }
+            self.found.parts_of_texts += 1;
+            let next = part.position.unwrap_or_default();
+            if next <= place {
+                let stands = format!("stands still at {place}");
+                return self.differs(text, total, "part by part", stands);
+            }
+            place = next;
+            sum.add(part.length);
+            let written = self.line.add(part.length);
+            self.judge_line(written);
+        }
+        let ends = total.number == 0 && total.position == Some(place);
+        if !ends || !sum.is(total.length) {
+            let end = format!("ends at {place} with another sum");
+            self.differs(text, total, "part by part", end);
+        }
+    }
+
+    /// Adds a text to the shift total, to which its total is added clamped, or
+    /// which a refusal leaves as it is.
+    fn shift(&mut self, text: &[u8], total: &Answer) {
+        let before = self.shift_total;
+        let added = self.port.add_total(&mut self.shift_total, text);
+        let after = self.shift_total;
+        let right = if total.number == 0 {
+            let mut sum = Sum::ZERO;
+            sum.add(before);
+            sum.add(total.length);
+            sum.is(after) && added == Answer::success(text.len() as u64, after)
+        } else {
+            after == before && added == *total
+        };
+        if !right {
+            let changed = format!("{added}, the total from {before} to {after}");
+            self.differs(text, total, "added to a total", changed);
+        }
+    }
+
+    fn differs(&mut self, text: &[u8], total: &Answer, how: &str, answer: String) {
+        self.found.differs_from_itself();
+        let request = Request::reading(None, self.card.clone(), text.to_vec());
+        let answers = [("port", total.to_string()), (how, answer)];
+        self.found.show(&request, answers);
+    }
+
+    fn judge_line(&mut self, outcome: Result<(), Wrong>) {
+        if let Err(wrong) = outcome {
+            self.line.begin_anew();
+            self.found.differs_from_itself();
+            let answers = [("port", wrong.port.to_string()), ("wanted", wrong.wanted)];
+            self.found.show(&wrong.request, answers);
+        }
+    }
+
+    fn end(mut self) {
+        let read = self.line.read_back();
+        self.judge_line(read);
+        self.found.written += self.line.done;
+        self.found.tell_progress();
+    }
+}
+
+fn not_utf8() -> CrateAnswer {
+    CrateAnswer::Unasked("the text is not UTF-8".to_string())
+}
