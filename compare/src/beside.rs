@@ -8,7 +8,6 @@ mod port_side;
 mod progress;
 mod side_by_side;
 mod spoil;
-mod sums;
 mod there_and_back;
 
 // Of these the program `compare` uses what is not used here.
@@ -22,6 +21,8 @@ mod make;
 mod make_card;
 #[allow(dead_code)]
 mod make_text;
+#[allow(dead_code)]
+mod nanoseconds;
 #[allow(dead_code)]
 mod natural;
 #[allow(dead_code)]

@@ -3,9 +3,9 @@
 
 use crate::crate_side::{self, CrateAnswer, SetUp};
 use crate::found::Found;
+use crate::nanoseconds::{clamped_sum, nanoseconds};
 use crate::port_side::Port;
 use crate::request::{Answer, Card, Length, Request};
-use crate::sums::Sum;
 use crate::there_and_back::{Line, Wrong};
 
 /// Both set up for one card.
@@ -81,7 +81,7 @@ impl SideBySide<'_> {
     /// clamped sum of the parts is its length. What is read is written, to be
     /// read back.
     fn by_parts(&mut self, text: &[u8], total: &Answer) {
-        let (mut place, mut sum) = (0, Sum::ZERO);
+        let (mut place, mut sum) = (0, 0);
         while place < text.len() as u64 || place == 0 {
             let part = self.port.part(text, place);
             if part.number != 0 {
@@ -97,12 +97,12 @@ impl SideBySide<'_> {
                 return self.differs(text, total, "part by part", stands);
             }
             place = next;
-            sum.add(part.length);
+            sum = clamped_sum(sum, nanoseconds(part.length));
             let written = self.line.add(part.length);
             self.judge_line(written);
         }
         let ends = total.number == 0 && total.position == Some(place);
-        if !ends || !sum.is(total.length) {
+        if !ends || sum != nanoseconds(total.length) {
             let end = format!("ends at {place} with another sum");
             self.differs(text, total, "part by part", end);
         }
@@ -115,10 +115,8 @@ impl SideBySide<'_> {
         let added = self.port.add_total(&mut self.shift_total, text);
         let after = self.shift_total;
         let right = if total.number == 0 {
-            let mut sum = Sum::ZERO;
-            sum.add(before);
-            sum.add(total.length);
-            sum.is(after) && added == Answer::success(text.len() as u64, after)
+            let sum = clamped_sum(nanoseconds(before), nanoseconds(total.length));
+            sum == nanoseconds(after) && added == Answer::success(text.len() as u64, after)
         } else {
             after == before && added == *total
         };

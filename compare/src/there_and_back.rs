@@ -1,9 +1,9 @@
 //! Lengths written one after the other by the port, and read back by it.
 
+use crate::nanoseconds::{clamped_sum, nanoseconds};
 use crate::plain::MOST_TEXT_BYTES;
 use crate::port_side::{Port, write};
 use crate::request::{Answer, Card, Length, Request};
-use crate::sums::Sum;
 
 /// What the buffer holds where nothing is written; the writer writes no such
 /// byte.
@@ -84,10 +84,10 @@ impl Line {
                 wanted: "every byte written, and no other".to_string(),
             });
         }
-        let (mut place, mut sum) = (0, Sum::ZERO);
+        let (mut place, mut sum) = (0, 0);
         for length in &self.lengths {
             let part = self.port.part(text, place);
-            sum.add(part.length);
+            sum = clamped_sum(sum, nanoseconds(part.length));
             if part.number != 0 || part.length != *length {
                 return Err(self.wrong_reading(Some(place), part, length.to_string()));
             }
@@ -99,7 +99,10 @@ impl Line {
         }
         if !self.lengths.is_empty() {
             let total = self.port.total(text);
-            if total.number != 0 || total.position != Some(place) || !sum.is(total.length) {
+            if total.number != 0
+                || total.position != Some(place)
+                || sum != nanoseconds(total.length)
+            {
                 return Err(self.wrong_reading(None, total, "the sum of the lengths".to_string()));
             }
         }
