@@ -8,6 +8,7 @@ mod card_a;
 mod cards;
 mod chosen;
 mod crate_side;
+mod day;
 mod evaluations;
 mod limits;
 mod lines;
@@ -16,6 +17,7 @@ mod make;
 mod make_card;
 mod make_odd;
 mod make_text;
+mod nanoseconds;
 mod natural;
 mod plain;
 mod points;
@@ -23,6 +25,7 @@ mod readings;
 mod replay;
 mod request;
 mod rng;
+mod round;
 mod stored;
 mod table;
 mod tally;
@@ -46,9 +49,11 @@ usage: compare make SEED COUNT          make requests
        compare limits                   the hand-written cases at the limits, against plain
        compare limits REQUESTS ANSWERS  the same cases, written into two files
        compare cards CARDS FOUND        cards, and what the plain reading finds of each
+       compare day TEXTS FOUND          a day's texts under card A, and the shift total after each
        compare readings TEXTS FOUND     texts under card A, and what is read of each
        compare lines SHEET FOUND        a sheet for the line program, and what it prints
        compare lines SEED COUNT SHEET FOUND  the same with so many made lines
+       compare round FOUND              what round prints of its lists of lengths
        compare replay LIST FOUND        requests with answers, and what replay prints of them
        compare scale SEED COUNT FOUND   the same made on the fly, the list on standard output
        compare antt REQUESTS ANSWERS DIR  both as antt modules in the folder DIR
@@ -72,10 +77,12 @@ fn main() -> ExitCode {
             Ok(true)
         }
         ["cards", cards, found] => cards::write_files(cards, found),
+        ["day", texts, found] => day::write_files(texts, found),
         ["readings", texts, found] => readings::write_files(texts, found),
         ["lines", sheet, found] => lines::write_files(sheet, found),
         ["lines", seed, count, sheet, found] => made_sheet(seed, count, sheet, found),
         ["replay", list, found] => replay::write_files(list, found),
+        ["round", found] => round::write_file(found),
         ["scale", seed, count, found] => print_requests(seed, count, found),
         ["antt", requests, answers, folder] => write_antt(requests, answers, folder),
         _ => Err(USAGE.to_string()),

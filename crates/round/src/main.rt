@@ -1,6 +1,6 @@
-// Writes lists of lengths one after another, reads each line part by part and in total under every card of its list of cards, and prints
-// how many lengths were written and read, and how many differ. The lengths are made by a fixed rule, so that they need not be stored.
-// A buffer with exactly the room, with a byte less, and places at its end and beyond it are tried with each length.
+// Writes lists of lengths one after another and reads each line part by part and in total, under every card of its list of cards. Of each
+// list it prints how many lengths and bytes it has and its total; at the end how many lengths were written and read, how many differ, and
+// which numbers the writer gave at the edges of a buffer. The lengths are made by a fixed rule, so that they need not be stored.
 use lengths::duration::zero;
 use libc::STDOUT_FILENO;
 use lists::cards::MOST_BYTES;
@@ -14,15 +14,16 @@ use reading::entries::read_total;
 use rules::Answer;
 use rules::Length;
 use rules::Settings;
-use shift::shifted_total;
 use tables::pow10;
 use writing::writer::write_length;
 
 // Room for one length, the longest of which has 31 bytes.
 const ONE: usize = 32;
 
-// A buffer of which the end is tried.
+// A buffer of which the edges are tried, and what each of its bytes holds before: no byte that is ever written.
 const EDGE: usize = 64;
+
+const BEFORE: u8 = 7;
 
 // Lists under each card. The longest is as long as a line may be.
 const LISTS: u64 = 200;
@@ -36,9 +37,19 @@ struct Line {
     size: usize,
 }
 
+// Lengths that were written and read, and how often something was not what it should be.
 struct Tally {
     cards: u64,
     lengths: u64,
+    differ: u64,
+}
+
+// Which numbers the writer gave at the edges of a buffer, and how often another than was wanted, or a byte was changed.
+struct Edges {
+    written: u64,
+    no_room: u64,
+    beyond: u64,
+    malformed: u64,
     differ: u64,
 }
 
@@ -73,22 +84,36 @@ fn signed(negative: bool, seconds: u64, nanoseconds: u32) -> Length {
     }
 }
 
-// The lengths of all lists, by number: zero, one nanosecond, all nanoseconds of a second, each power of ten, MAX, MIN, and others.
+// The largest length of its sign once in eight turns, else a short one.
+fn extreme(negative: bool, turn: u64) -> Length {
+    if turn % 16 < 2 {
+        return Length {
+            negative,
+            seconds: 18_446_744_073_709_551_615,
+            nanoseconds: 999_999_999,
+        };
+    }
+    signed(negative, turn, 5)
+}
+
+// The lengths of all lists, by number: zero, one nanosecond, all nanoseconds of a second, each power of ten, and others, each with both
+// signs. MAX and MIN are rare, so that many lists have sums that pass no limit.
 fn nth(number: u64) -> Length {
     let n = number % MOST;
     let turn = n / 8;
     let negative = turn % 2 == 1;
+    let power = turn / 2;
     match n % 8 {
         0 => zero(),
         1 => signed(negative, 0, 1),
         2 => signed(negative, turn, 999_999_999),
-        3 => signed(negative, pow10((turn % 20) as usize), 0),
+        3 => signed(negative, pow10((power % 20) as usize), 0),
         4 => signed(
             negative,
             0,
-            (pow10((turn % 9) as usize) % 1_000_000_000) as u32,
+            (pow10((power % 9) as usize) % 1_000_000_000) as u32,
         ),
-        5 => signed(negative, 18_446_744_073_709_551_615, 999_999_999),
+        5 => extreme(negative, turn),
         6 => signed(
             negative,
             n * 16_180_339_887,
@@ -134,63 +159,84 @@ fn read_list(settings: Settings, table: &[u8], text: &[u8], first: u64, lengths:
     unless(place == text.len(), differ)
 }
 
-// The shift total after one length more, which is read from a line of its own.
-fn shifted(total: Length, settings: Settings, table: &[u8], length: Length) -> Length {
+// Whether a buffer's bytes up to a place are as before.
+fn untouched(buffer: &[u8], end: usize) -> bool {
+    let mut i = 0;
+    while i < end {
+        if buffer.len() <= i {
+            return true;
+        }
+        if buffer[i] != BEFORE {
+            return false;
+        }
+        i += 1;
+    }
+    true
+}
+
+// One answer more, which should have a number.
+fn counted(edges: Edges, answer: Answer, wanted: u8) -> Edges {
+    let number = answer.number;
+    let mut now = edges;
+    match number {
+        0 => now.written = one_more(edges.written),
+        9 => now.no_room = one_more(edges.no_room),
+        10 => now.beyond = one_more(edges.beyond),
+        11 => now.malformed = one_more(edges.malformed),
+        _ => now.differ = one_more(edges.differ),
+    }
+    now.differ = unless(number == wanted, now.differ);
+    now
+}
+
+// One length in a buffer: with a byte less than it needs, at the end, beyond it, and with nanoseconds that no length has, all of which
+// change nothing; and with exactly the room.
+fn try_edges(length: Length, before: Edges) -> Edges {
     let mut one = [0u8; ONE];
-    let answer = write_length(length, &mut one, 0);
-    shifted_total(total, settings, table, first_bytes(&one, answer.position)).total
-}
-
-// The lengths added up one by one.
-fn sum_list(settings: Settings, table: &[u8], first: u64, lengths: u64) -> Length {
-    let mut total = zero();
-    let mut summed = 0;
-    while summed < lengths {
-        total = shifted(total, settings, table, nth(added(first, summed)));
-        summed += 1;
-    }
-    total
-}
-
-fn has_number(answer: Answer, number: u8, differ: u64) -> u64 {
-    unless(answer.number == number, differ)
-}
-
-// One length at the end of a buffer: with exactly the room, with a byte less, at the end, beyond it; and a record that is no length.
-fn try_edges(length: Length) -> u64 {
-    let mut buffer = [0u8; EDGE];
-    let size = write_length(length, &mut buffer, 0).position;
-    if EDGE < size {
-        return 1;
-    }
+    let size = write_length(length, &mut one, 0).position % EDGE;
     let at = EDGE - size;
-    let exact = write_length(length, &mut buffer, at);
-    let room = has_number(exact, 0, unless(exact.position == EDGE, 0));
-    let less = has_number(write_length(length, &mut buffer, at + 1), 9, room);
-    let end = has_number(write_length(length, &mut buffer, EDGE), 9, less);
-    let beyond = has_number(write_length(length, &mut buffer, EDGE + 1), 10, end);
+    let mut buffer = [BEFORE; EDGE];
+    let less = counted(before, write_length(length, &mut buffer, at + 1), 9);
+    let end = counted(less, write_length(length, &mut buffer, EDGE), 9);
+    let beyond = counted(end, write_length(length, &mut buffer, EDGE + 1), 10);
     let malformed = Length {
         negative: length.negative,
         seconds: length.seconds,
         nanoseconds: 1_000_000_000,
     };
-    has_number(write_length(malformed, &mut buffer, 0), 11, beyond)
+    let mut edges = counted(beyond, write_length(malformed, &mut buffer, 0), 11);
+    edges.differ = unless(untouched(&buffer, EDGE), edges.differ);
+    let exact = write_length(length, &mut buffer, at);
+    edges = counted(edges, exact, 0);
+    edges.differ = unless(exact.position == EDGE, edges.differ);
+    edges.differ = unless(untouched(&buffer, at), edges.differ);
+    edges
 }
 
-// A list written, read part by part and in total, and its first length tried at the edges of the buffer.
+// How many lengths and bytes a list has, and its total as it is written.
+fn print_list(line: Line, total: Length) {
+    io::print_decimal(STDOUT_FILENO, line.lengths);
+    io::write_all(STDOUT_FILENO, b" ");
+    io::print_decimal(STDOUT_FILENO, line.size as u64);
+    io::write_all(STDOUT_FILENO, b" ");
+    let mut one = [0u8; ONE];
+    let answer = write_length(total, &mut one, 0);
+    io::write_all(STDOUT_FILENO, first_bytes(&one, answer.position));
+    io::write_all(STDOUT_FILENO, b"\n");
+}
+
+// A list written, read part by part and in total, and printed.
 fn round(settings: Settings, table: &[u8], first: u64, most: u64, before: Tally) -> Tally {
     let mut buffer = [0u8; LONGEST_TEXT];
     let line = write_list(&mut buffer, first, most);
     let text = first_bytes(&buffer, line.size);
     let parts = read_list(settings, table, text, first, line.lengths);
     let total = read_total(settings, table, text);
-    let sum = sum_list(settings, table, first, line.lengths);
-    let totals = unless(agrees(total, sum), parts);
-    let edges = try_edges(nth(first));
+    print_list(line, total.length);
     Tally {
         cards: before.cards,
         lengths: added(before.lengths, line.lengths),
-        differ: added(before.differ, added(totals, edges)),
+        differ: added(before.differ, unless(total.number == 0, parts)),
     }
 }
 
@@ -225,12 +271,38 @@ fn round_all() -> Tally {
     tally
 }
 
+// The edges of a buffer, tried with so many lengths.
+fn edges_of(lengths: u64) -> Edges {
+    let mut edges = Edges {
+        written: 0,
+        no_room: 0,
+        beyond: 0,
+        malformed: 0,
+        differ: 0,
+    };
+    let mut tried = 0;
+    while tried < lengths {
+        edges = try_edges(nth(tried), edges);
+        tried += 1;
+    }
+    edges
+}
+
+fn print_count(name: &[u8], count: u64) {
+    io::write_all(STDOUT_FILENO, name);
+    io::print_decimal(STDOUT_FILENO, count);
+    io::write_all(STDOUT_FILENO, b"\n");
+}
+
 fn main() {
     let tally = round_all();
-    io::print_decimal(STDOUT_FILENO, tally.lengths);
-    io::write_all(STDOUT_FILENO, b" lengths written and read under ");
-    io::print_decimal(STDOUT_FILENO, tally.cards);
-    io::write_all(STDOUT_FILENO, b" cards, ");
-    io::print_decimal(STDOUT_FILENO, tally.differ);
-    io::write_all(STDOUT_FILENO, b" differ\n");
+    print_count(b"cards: ", tally.cards);
+    print_count(b"lengths written and read: ", tally.lengths);
+    print_count(b"that differ: ", tally.differ);
+    let edges = edges_of(tally.lengths);
+    print_count(b"0 at the edges: ", edges.written);
+    print_count(b"9 at the edges: ", edges.no_room);
+    print_count(b"10 at the edges: ", edges.beyond);
+    print_count(b"11 at the edges: ", edges.malformed);
+    print_count(b"that differ: ", edges.differ);
 }

@@ -2,13 +2,13 @@
 use mathlib.Core.Path.{_≡_, refl, sym, ap, ap₂, _∙_}
 use mathlib.Core.Bool.{Bool, true, false}
 use mathlib.Core.List.{List, [], _∷_, _++_, append-assoc}
-use mathlib.Core.Logic.{_⊎_, inr, ⊎-elim}
-use Prim.Native.Nat.{ℕ, zero, suc, _+_, _-_, _/_, _%_, _^_, _≤_, _<_}
+use mathlib.Core.Logic.{_⊎_, inl, inr, ⊎-elim}
+use Prim.Native.Nat.{ℕ, zero, suc, _+_, _*_, _-_, _/_, _%_, _^_, _≤_, _<_}
 use native.Mathlib.Nat.{add-zero, zero-add, sub-zero, mul-comm, div-eq-of-lt, div-one, div-div-eq-div-mul, div-lt-iff-lt-mul, le-div-iff-mul-le, mod-eq-of-lt, one-le-pow, pow-le-pow-right, pow-succ', lt-of-lt-of-le, le-of-suc-le-suc, not-suc-le-zero}
-use native.Mathlib.Numerals.{add-one}
 use native.Mathlib.Omega.{arith}
 use borrow.Author.Tests.{ne-eqb, leb-true, leb-false}
 use lib.Dec.{leb, lit<}
+use lib.Pow.{pow-add}
 use lib.ListN.{length, take, drop, set, length-append, length-take, length-drop, take-append-drop}
 use Rattle.rules.specs.Common.{if_then_else_}
 use Rattle.rules.specs.WriterAndShiftTotal.{decimals, no-leading-zeros, before-zeros, no-trailing-zeros, whole-digits}
@@ -53,7 +53,11 @@ stripped (suc k) n x h =
 
 -- a number has so many digits: one, or the first is none of zero
 abbrev pub Leads : ℕ → ℕ → Type 0
-Leads x n = (n ≡ 1) ⊎ (0 < x / 10 ^ (n - 1))
+Leads x n = (n ≡ 1) ⊎ (10 ^ (n - 1) ≤ x)
+
+-- and it has no more
+abbrev pub Digits : ℕ → ℕ → Type 0
+Digits x n = (1 ≤ n) × (x < 10 ^ n) × Leads x n
 
 kept : (n x : ℕ) → x < 10 ^ suc n → Leads x (suc n) → no-leading-zeros (decimals (suc n) x) ≡ decimals (suc n) x
 unfolding no-leading-zeros decimals if_then_else_
@@ -64,7 +68,7 @@ kept (suc n) x h l = rw (ne-eqb (48 + x / 10 ^ suc n % 10) 48 (first l))
     place = omega arith
 
     some : Leads x (suc (suc n)) → 0 < x / 10 ^ suc n
-    some l = ⊎-elim (λ e. absurd (omega arith)) (λ k. rw place at k) l
+    some l = ⊎-elim (λ e. absurd (omega arith)) (λ k. le-div-iff-mul-le (ten-pos (suc n)) .1 (omega (arith, rw place at k))) l
 
     below : x / 10 ^ suc n < 10
     below = div-lt-iff-lt-mul (ten-pos (suc n)) .1 (rw (pow-succ' 10 (suc n)) at h)
@@ -72,40 +76,61 @@ kept (suc n) x h l = rw (ne-eqb (48 + x / 10 ^ suc n % 10) 48 (first l))
     first : Leads x (suc (suc n)) → 48 + x / 10 ^ suc n % 10 ≡ 48 → ⊥
     first l e = omega (arith, some l, mod-eq-of-lt below)
 
-pub leads-most : (n x : ℕ) → x < 2 ^ 64 → 1 ≤ n → Leads x n → n ≤ 20
-leads-most n x h one l = ⊎-elim (λ e. omega arith) (λ k. few k) l
+pub leads-most : (n x : ℕ) → x < 2 ^ 64 → Leads x n → n ≤ 20
+leads-most n x h l = ⊎-elim (λ e. omega arith) (λ k. few k) l
   where
-    few : 0 < x / 10 ^ (n - 1) → n ≤ 20
+    few : 10 ^ (n - 1) ≤ x → n ≤ 20
     few k = go (leb n 20) refl
       where
         go : (b : Bool) → leb n 20 ≡ b → n ≤ 20
         go true e = leb-true n 20 e
         go false e =
             absurd
-            (omega (
-              arith,
-              le-div-iff-mul-le (ten-pos (n - 1)) .0 k,
-              pow-le-pow-right {n = 10} (lit< tt) {i = 20} {j = n - 1} (omega (arith, leb-false n 20 e)),
-              h,
-            ))
+            (omega (arith, k, pow-le-pow-right {n = 10} (lit< tt) {i = 20} {j = n - 1} (omega (arith, leb-false n 20 e)), h))
 
--- one digit more, where something is left
-pub leads-more : (n x : ℕ) {rest : ℕ} → rest ≡ x / 10 ^ n → 0 < rest → (rest / 10 ≡ x / 10 ^ (n + 1)) × (1 ≤ n + 1) × Leads x (n + 1)
-leads-more n x e h =
-    let back : n + 1 - 1 ≡ n = omega arith in (
-      rw e (next-ten n x ∙ ap (λ k. x / 10 ^ k) (sym (add-one n))),
-      omega arith,
-      inr (rw (back, ← e) h),
-    )
+-- a number is counted in pieces: of all but so many digits something is left, unless none were counted
+abbrev pub Counted : ℕ → ℕ → ℕ → Type 0
+Counted x count rest = (rest ≡ x / 10 ^ count) × ((count ≡ 0) ⊎ (0 < rest))
 
-pub whole-is : (x n : ℕ) → x < 2 ^ 64 → 1 ≤ n → x / 10 ^ n ≡ 0 → Leads x n → whole-digits x ≡ decimals n x
+pub counted-on : (x count rest n : ℕ) → Counted x count rest → Digits rest n → Digits x (count + n)
+counted-on x count rest n c d = (omega (arith, d .0), below, ⊎-elim one many (d .2))
+  where
+    powers : (k : ℕ) → 10 ^ (count + k) ≡ 10 ^ k * 10 ^ count
+    powers k = pow-add 10 count k ∙ mul-comm (10 ^ count) (10 ^ k)
+
+    below : x < 10 ^ (count + n)
+    below = rw (powers n) (div-lt-iff-lt-mul (ten-pos count) .0 (rw (c .0) at (d .1)))
+
+    leads : (k : ℕ) → 10 ^ k ≤ rest → count + n - 1 ≡ count + k → Leads x (count + n)
+    leads k h e = inr (rw (e, powers k) (le-div-iff-mul-le (ten-pos count) .0 (rw (c .0) at h)))
+
+    one : n ≡ 1 → Leads x (count + n)
+    one e = ⊎-elim (λ none. inl (omega arith)) (λ some. leads 0 some (omega arith)) (c .1)
+
+    many : 10 ^ (n - 1) ≤ rest → Leads x (count + n)
+    many h = leads (n - 1) h (omega (arith, d .0))
+
+pub counted-none : (x : ℕ) → Counted x 0 x
+counted-none x = (sym (div-one x), inl refl)
+
+-- four digits more, where more than four are left
+pub counted-four : (x count rest : ℕ) → Counted x count rest → 10000 ≤ rest → Counted x (count + 4) (rest / 10000)
+counted-four x count rest c h =
+    (rw (c .0) (div-div-eq-div-mul x (10 ^ count) 10000 ∙ ap (λ p. x / p) (sym (pow-add 10 count 4))), inr (omega arith))
+
+pub counted-most : (x count rest : ℕ) → x < 2 ^ 64 → Counted x count rest → 0 < rest → count < 20
+counted-most x count rest h c some =
+    let back : count + 1 - 1 ≡ count = omega arith in
+    let some-left : 10 ^ count ≤ x = omega (arith, le-div-iff-mul-le (ten-pos count) .0 (rw (c .0) at some)) in
+    omega (arith, leads-most (count + 1) x h (inr (rw back some-left)))
+
+pub whole-is : (x n : ℕ) → x < 2 ^ 64 → Digits x n → whole-digits x ≡ decimals n x
 unfolding whole-digits
-whole-is x zero h one e l = absurd (omega arith)
-whole-is x (suc n) h one e l =
-    let few : suc n ≤ 20 = leads-most (suc n) x h one l in
+whole-is x zero h d = absurd (omega (arith, d .0))
+whole-is x (suc n) h d =
+    let few : suc n ≤ 20 = leads-most (suc n) x h (d .2) in
     let count : 20 ≡ 20 - suc n + suc n = omega arith in
-    let below : x < 10 ^ suc n = omega (arith, div-lt-iff-lt-mul {k = 10 ^ suc n} {x = x} {y = 1} (ten-pos (suc n)) .0 (omega arith)) in
-    ap (λ m. no-leading-zeros (decimals m x)) count ∙ stripped (20 - suc n) n x below ∙ kept n x below l
+    ap (λ m. no-leading-zeros (decimals m x)) count ∙ stripped (20 - suc n) n x (d .1) ∙ kept n x (d .1) (d .2)
 
 -- ---- without trailing zeros
 
@@ -133,6 +158,18 @@ module _ (n x : ℕ) (some : 0 < n) where
 
   pub trailing-dropped : x % 10 ≡ 0 → no-trailing-zeros (decimals n x) ≡ no-trailing-zeros (decimals (n - 1) (x / 10))
   trailing-dropped h = ap (λ m. no-trailing-zeros (decimals m x)) one-more ∙ rw (decimals-last (n - 1) x, h) (trailing-zero (decimals (n - 1) (x / 10)))
+
+-- three zeros at once
+pub three-dropped : (n x : ℕ) → x % 1000 ≡ 0 → no-trailing-zeros (decimals (n + 3) x) ≡ no-trailing-zeros (decimals n (x / 1000))
+three-dropped n x h =
+    one 2 x (omega arith)
+    ∙ one 1 (x / 10) (omega arith)
+    ∙ one 0 (x / 10 / 10) (omega arith)
+    ∙ ap₂ (λ k y. no-trailing-zeros (decimals k y)) (add-zero n) (omega arith)
+  where
+    one : (k y : ℕ) → y % 10 ≡ 0 → no-trailing-zeros (decimals (n + (k + 1)) y) ≡ no-trailing-zeros (decimals (n + k) (y / 10))
+    one k y last =
+        trailing-dropped (n + (k + 1)) y (omega arith) last ∙ ap (λ j. no-trailing-zeros (decimals j (y / 10))) (omega arith)
 
 pub trailing-none : (n x : ℕ) → n ≤ 0 → no-trailing-zeros (decimals n x) ≡ decimals n x
 unfolding no-trailing-zeros decimals

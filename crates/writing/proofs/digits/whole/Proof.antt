@@ -1,39 +1,58 @@
--- `writing::digits::whole` meets its contract: the digits counted are those of the number, since what is left of it after so many is counted
--- on. Assumes nothing.
-use mathlib.Core.Path.{_≡_, refl}
-use mathlib.Core.Logic.{inl}
-use Prim.Native.Nat.{_/_, _^_, _≤_}
+-- `writing::digits::whole` meets its contract: digits counted in fours, and those of what is left, are the digits of the number. Assumes
+-- nothing.
+use Prim.Native.Nat.{_+_, _≤_}
 use native.Mathlib.Omega.{arith}
 use borrow.Author.Needs.{needs}
-use Rattle.writing.specs.Digits.{Leads, leads-most, leads-more, whole-is}
+use Rattle.writing.specs.Digits.{Digits, Counted, counted-none, counted-four, counted-most, counted-on, leads-most, whole-is}
 use Rattle.writing.proofs.digits.whole.Statement.{statement}
 use Rattle.writing.proofs.digits.whole.Tie as tie
 
 abbrev Inv-loop : tie.InvT-loop
-Inv-loop seconds count₀ rest₀ count rest = (rest ≡ seconds / 10 ^ count) × (1 ≤ count) × Leads seconds count
+Inv-loop seconds count₀ rest₀ count rest = Counted seconds count rest
 
 abbrev μ-loop : tie.MeasureT-loop
 μ-loop seconds count₀ rest₀ count rest = rest
 
+-- the digits counted, and those of what was left
+found : (c : tie.After-few-digits Inv-loop μ-loop) → Digits (c .before .before .before .args .seconds) (c .before .before .loop .count + c .few-digits .result)
+found c = counted-on _ _ _ _ (c .before .before .loop .inv) (c .few-digits .ensures)
+
+most : (c : tie.After-few-digits Inv-loop μ-loop) → c .before .before .loop .count + c .few-digits .result ≤ 20
+most c = leads-most _ (c .before .before .before .args .seconds) (search needs) (found c .2)
+
 loop-holds : tie.Need-loop-holds Inv-loop μ-loop
-loop-holds c = (refl, search needs, inl refl)
+loop-holds c = counted-none _
 
 add-count : tie.Need-add-count Inv-loop μ-loop
-add-count c = omega (arith, leads-most _ (c .before .before .args .seconds) (search needs) (search needs) (c .before .loop .inv .2))
+add-count c =
+    let turn = c .before .loop in
+    omega (arith, counted-most (c .before .before .args .seconds) (turn .count) (turn .rest) (search needs) (turn .inv) (search needs))
 
 loop-less : tie.Need-loop-less Inv-loop μ-loop
 loop-less c = search needs
 
 loop-again : tie.Need-loop-again Inv-loop μ-loop
-loop-again c = leads-more _ _ (c .before .loop .inv .0) (c .loop-test .taken)
+loop-again c = counted-four _ _ _ (c .before .loop .inv) (c .loop-test .taken)
+
+few-digits-requires : tie.Need-few-digits-requires Inv-loop μ-loop
+few-digits-requires c κs = search needs
+
+add-t6 : tie.Need-add-t6 Inv-loop μ-loop
+add-t6 c = omega (arith, most c)
 
 returns : tie.Need-returns Inv-loop μ-loop
-returns c =
-    let turn = c .before .loop in
-    let seconds = c .before .before .args .seconds in (
-      whole-is seconds (turn .count) (search needs) (search needs) (search needs) (turn .inv .2),
-      leads-most (turn .count) seconds (search needs) (search needs) (turn .inv .2),
-    )
+returns c = (whole-is (c .before .before .before .args .seconds) _ (search needs) (found c), most c)
 
 pub whole-spec : {M : Type 1} → statement M
-whole-spec = tie.close (tie.spec Inv-loop μ-loop loop-holds add-count loop-less loop-again returns)
+whole-spec =
+    tie.close
+    (tie.spec
+    Inv-loop
+    μ-loop
+    loop-holds
+    add-count
+    loop-less
+    loop-again
+    few-digits-requires
+    add-t6
+    returns)
