@@ -9,10 +9,11 @@ use lib.ListN.{length, getD, take, drop, set, length-take, length-drop}
 use lib.Seq.{take-suc, take-length, length-take-le, getD-take, getD-drop, getD-append-add}
 use Rattle.rules.specs.ThePartOfTheCrateWeTake.{longest-text}
 use Rattle.writing.specs.Laid.{laid, laid-length, laid-nothing, laid-byte}
+use Rattle.sheets.specs.Printed.{kept-of}
 
--- of the bytes from one place to another as many as the longest text has, and one more
+-- what is kept of the bytes from one place of a buffer to another
 unfoldable pub kept : List ℕ → ℕ → ℕ → List ℕ
-kept buffer from end = take (longest-text + 1) (take (end - from) (drop from buffer))
+kept buffer from end = kept-of (take (end - from) (drop from buffer))
 
 -- what stands behind the bytes laid at a buffer's start
 behind-laid : (buffer bytes : List ℕ) (n : ℕ) → length bytes ≤ n → getD (laid buffer 0 bytes) n 0 ≡ getD buffer n 0

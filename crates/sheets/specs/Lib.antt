@@ -4,3 +4,5 @@ pub mod Printed
 pub mod Fields
 pub mod Answering
 pub mod Keeping
+pub mod Pieces
+pub mod Examples

@@ -47,6 +47,10 @@ printed-all s table (line ∷ more) = printed (total-answer s table line) ++ pri
 unfoldable pub sheet-printed : Settings → List ℕ → List ℕ → List ℕ
 sheet-printed s table sheet = printed-all s table (lines sheet)
 
+-- of a line that has not ended as many bytes as the longest text has, and one more: what it has beyond them changes no answer
+abbrev pub kept-of : List ℕ → List ℕ
+kept-of line = take (longest-text + 1) line
+
 -- ---- an answer printed at a place of a buffer, if the buffer has room for it there
 
 unfoldable pub fits : Answer → List ℕ → ℕ → Bool
@@ -114,12 +118,12 @@ module _ (s : Settings) (table : List ℕ) where
       go (got a) = refl
       go (refused cause) = refl
 
-  -- of a line that is too long, one byte more than a text may have is enough, whatever stands behind it
+  -- of a line that is too long so much is enough, whatever stands behind it
   pub sheet-long :
       (line rest : List ℕ)
       → all in-line line ≡ true
       → longest-text < length line
-      → sheet-printed s table (line ++ rest) ≡ sheet-printed s table (take (longest-text + 1) line ++ rest)
+      → sheet-printed s table (line ++ rest) ≡ sheet-printed s table (kept-of line ++ rest)
   unfolding sheet-printed printed-all
   sheet-long line rest clean long =
       let most : ℕ = longest-text + 1 in
@@ -131,10 +135,10 @@ module _ (s : Settings) (table : List ℕ) where
       ∙ sym (long-answer (take most line ++ take first rest) (omega (arith, length-append (take most line) (take first rest), size))))
       ∙ sym (ap (printed-all s table) (line-goes-on (take most line) (all-take most line clean) rest (omega (arith, size))))
 
-  -- so much of a line is kept that has not ended yet
-  pub sheet-kept : (line rest : List ℕ) → all in-line line ≡ true → sheet-printed s table (line ++ rest) ≡ sheet-printed s table (take (longest-text + 1) line ++ rest)
+  -- and of any other line it is all
+  pub sheet-kept : (line rest : List ℕ) → all in-line line ≡ true → sheet-printed s table (line ++ rest) ≡ sheet-printed s table (kept-of line ++ rest)
   sheet-kept line rest clean = go (leb (length line) longest-text) refl
     where
-      go : (b : Bool) → leb (length line) longest-text ≡ b → sheet-printed s table (line ++ rest) ≡ sheet-printed s table (take (longest-text + 1) line ++ rest)
+      go : (b : Bool) → leb (length line) longest-text ≡ b → sheet-printed s table (line ++ rest) ≡ sheet-printed s table (kept-of line ++ rest)
       go true e = rw (take-all (longest-text + 1) line (omega (arith, leb-true (length line) longest-text e)))
       go false e = sheet-long line rest clean (leb-false (length line) longest-text e)
