@@ -1,28 +1,23 @@
--- How far a sheet is answered into a buffer, and what is kept of a line whose end has not been read. Assumes nothing.
-use mathlib.Core.Path.{_≡_, refl, sym, ap, ap₂, _∙_}
-use mathlib.Core.Bool.{Bool, true, false, not, _&&_}
+-- How far a sheet is answered into a buffer, and what the buffer then holds. Assumes nothing.
+use mathlib.Core.Path.{_≡_, refl, sym, ap, _∙_}
+use mathlib.Core.Bool.{Bool, true, false, _&&_}
 use mathlib.Core.List.{List, [], _∷_, _++_, append-assoc, append-nil}
-use Prim.Native.Nat.{ℕ, zero, suc, _+_, _-_, _≤_, _<_}
-use native.Mathlib.Nat.{zero-add}
+use Prim.Native.Nat.{ℕ, _+_, _-_, _≤_, _<_}
 use native.Mathlib.Numerals.{add-one}
 use native.Mathlib.Omega.{arith}
 use borrow.Author.Tests.{le-leb, lt-leb, leb-true, leb-false}
 use lib.Dec.{leb}
-use lib.ListN.{length, getD, take, drop, length-append, length-drop, drop-of-length-le}
+use lib.ListN.{length, take, drop, length-append, length-drop, drop-of-length-le}
 use lib.Seq.{take-add, take-suc, length-take-le}
 use Rattle.rules.specs.declared.Answer.{Answer}
 use Rattle.rules.specs.declared.Settings.{Settings}
-use Rattle.rules.specs.Common.{if_then_else_, all}
+use Rattle.rules.specs.Common.{if_then_else_}
 use Rattle.rules.specs.WhatEveryEntryOwes.{total-answer}
 use Rattle.rules.specs.Laws.Tests.{and-false}
 use Rattle.writing.specs.Laid.{laid, laid-length, laid-then, laid-nothing}
 use Rattle.sheets.specs.declared.answering.Progress.{Progress}
-use Rattle.sheets.specs.Lines.{newline, in-line, lines, line-end, line-at, lines-at, line-then, end-from, end-within, end-line, end-newline, Whole, whole-nothing, whole-closed}
-use Rattle.sheets.specs.Printed.{printed, printed as printed-form, printed-all, sheet-printed, printed-both, printed-next, printed-buffer, stays, moves, no-room, put-there}
-
--- what is printed for a line
-abbrev pub line-printed : Settings → List ℕ → List ℕ → List ℕ
-line-printed s table line = printed (total-answer s table line)
+use Rattle.sheets.specs.Lines.{newline, lines, line-end, line-at, lines-at, line-then, end-from, end-within, end-line, end-newline, Whole, whole-nothing, whole-closed}
+use Rattle.sheets.specs.Printed.{printed as printed-form, line-printed, printed-all, sheet-printed, printed-both, printed-next, printed-buffer, stays, moves, no-room, put-there}
 
 -- line by line from what has been read and printed, as long as a line has its newline and what is printed for it fits the room
 unfoldable pub come : (List ℕ → List ℕ) → ℕ → ℕ → List (List ℕ) → Progress → Progress
@@ -32,12 +27,9 @@ come print size room (line ∷ more) p =
     let on = come print size room more next in
     if leb (next .read) size && leb (next .printed) room then on else p
 
-abbrev pub from-the-start : Progress
-from-the-start = record { read = 0; printed = 0 }
-
 -- how far a sheet is answered into a buffer with so much room
 unfoldable pub answered-to : Settings → List ℕ → List ℕ → ℕ → Progress
-answered-to s table sheet room = come (line-printed s table) (length sheet) room (lines sheet) from-the-start
+answered-to s table sheet room = come (line-printed s table) (length sheet) room (lines sheet) (record { read = 0; printed = 0 })
 
 -- the lines of a sheet from a place on
 unfoldable pub going-on : Settings → List ℕ → List ℕ → ℕ → ℕ → ℕ → Progress

@@ -1,8 +1,6 @@
 -- The sheet that document 01 gives for the line program, and others whose lines a wrong definition would miss, computed. Assumes nothing.
-use mathlib.Core.Path.{_≡_, refl}
-use mathlib.Core.Bool.{Bool, true}
-use mathlib.Core.List.{List, [], _∷_, _++_}
-use Prim.Native.Nat.{ℕ}
+use mathlib.Core.Bool.{Bool}
+use mathlib.Core.List.{List, [], _∷_}
 use Prim.Native.String.{String}
 use lib.Dec.{T}
 use Rattle.rules.specs.Common.{ascii, same, all}

@@ -4,23 +4,21 @@ use mathlib.Core.Path.{_≡_, refl, sym, ap, _∙_}
 use mathlib.Core.Bool.{Bool, true, false}
 use mathlib.Core.List.{List, [], _∷_, _++_, append-assoc, append-nil}
 use Prim.Native.Nat.{ℕ, zero, suc, _+_, _*_, _-_, _≤_, _<_, zero-le, suc-le-suc}
-use native.Mathlib.Nat.{zero-add}
 use native.Mathlib.Omega.{arith}
 use borrow.Author.Tests.{leb-true, leb-false}
 use lib.Dec.{leb, eqb}
-use lib.ListN.{length, take, drop, length-append}
+use lib.ListN.{length, take, length-append}
 use lib.Seq.{take-all}
 use Rattle.rules.specs.declared.Answer.{Answer}
 use Rattle.rules.specs.declared.Settings.{Settings}
 use Rattle.rules.specs.Common.{if_then_else_, all}
 use Rattle.rules.specs.WhatEveryEntryOwes.{total-answer}
 use Rattle.rules.specs.WriterAndShiftTotal.{no-leading-zeros, decimals, second-digits, whole-digits}
-use Rattle.rules.specs.Laws.Choices.{if-either}
 use Rattle.writing.specs.Digits.{decimals-length}
 use Rattle.sheets.specs.declared.answering.Progress.{Progress}
 use Rattle.sheets.specs.Lines.{newline, in-line, lines, line-end, line-at, line-then, line-last, end-from, end-line, Whole, whole-nothing}
-use Rattle.sheets.specs.Printed.{space, field, printed, printed-all, sheet-printed, kept-of, printed-both, sheet-kept}
-use Rattle.sheets.specs.Answering.{line-printed, answered-to, going-on, on-end, on-full, on-more, whole-line}
+use Rattle.sheets.specs.Printed.{space, field, printed, line-printed, printed-all, sheet-printed, kept-of, printed-both, sheet-kept}
+use Rattle.sheets.specs.Answering.{answered-to, going-on, on-end, on-full, on-more, whole-line}
 
 unfoldable pub joined : List (List ℕ) → List ℕ
 joined [] = []

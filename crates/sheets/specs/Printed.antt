@@ -1,5 +1,5 @@
 -- What is printed for an answer, and for a sheet. A byte is written as its number: 10 is the newline, 32 the space. Assumes nothing.
-use mathlib.Core.Path.{_≡_, refl, sym, ap, ap₂, _∙_}
+use mathlib.Core.Path.{_≡_, refl, sym, ap, _∙_}
 use mathlib.Core.Bool.{Bool, true, false}
 use mathlib.Core.List.{List, [], _∷_, _++_, append-assoc}
 use Prim.Native.Nat.{ℕ, suc, _+_, _≤_, _<_}
@@ -39,11 +39,15 @@ printed a =
     ∷ field (a .length .seconds) space
     ++ field (a .length .nanoseconds) newline
 
+-- for a line what is printed for its total
+abbrev pub line-printed : Settings → List ℕ → List ℕ → List ℕ
+line-printed s table line = printed (total-answer s table line)
+
 unfoldable pub printed-all : Settings → List ℕ → List (List ℕ) → List ℕ
 printed-all s table [] = []
-printed-all s table (line ∷ more) = printed (total-answer s table line) ++ printed-all s table more
+printed-all s table (line ∷ more) = line-printed s table line ++ printed-all s table more
 
--- for each line of the sheet what is printed for its total
+-- for a sheet what is printed for its lines, one after another
 unfoldable pub sheet-printed : Settings → List ℕ → List ℕ → List ℕ
 sheet-printed s table sheet = printed-all s table (lines sheet)
 

@@ -1,7 +1,6 @@
 -- `sheets::keeping::keep` meets its contract: at each turn so many bytes have been moved, none of them from before the place where it is put.
 -- Assumes nothing.
 use Prim.Native.Nat.{_-_}
-use native.Mathlib.Omega.{arith}
 use borrow.Author.Needs.{needs}
 use Rattle.sheets.specs.Keeping.{Moved, none-moved, moved-length, one-moved, all-moved, at-end, at-buffer-end, at-most}
 use Rattle.sheets.proofs.keeping.keep.Statement.{statement}

@@ -3,7 +3,6 @@ use mathlib.Core.Path.{_≡_, refl, sym, ap, _∙_}
 use native.Mathlib.Omega.{arith}
 use lib.ListN.{length}
 use Rattle.rules.specs.WriterAndShiftTotal.{sign-byte}
-use Rattle.writing.specs.Laid.{laid}
 use Rattle.sheets.specs.Printed.{printed, no-room, put-there}
 use Rattle.sheets.specs.Fields.{line-figures, line-size, line-length, line-is}
 use borrow.Author.Needs.{needs}
