@@ -11,6 +11,7 @@ mod crate_side;
 mod day;
 mod evaluations;
 mod limits;
+mod lines;
 mod long_texts;
 mod make;
 mod make_card;
@@ -50,6 +51,8 @@ usage: compare make SEED COUNT          make requests
        compare cards CARDS FOUND        cards, and what the plain reading finds of each
        compare day TEXTS FOUND          a day's texts under card A, and the shift total after each
        compare readings TEXTS FOUND     texts under card A, and what is read of each
+       compare lines SHEET FOUND        a sheet for the line program, and what it prints
+       compare lines SEED COUNT SHEET FOUND  the same with so many made lines
        compare round FOUND              what round prints of its lists of lengths
        compare replay LIST FOUND        requests with answers, and what replay prints of them
        compare scale SEED COUNT FOUND   the same made on the fly, the list on standard output
@@ -76,6 +79,8 @@ fn main() -> ExitCode {
         ["cards", cards, found] => cards::write_files(cards, found),
         ["day", texts, found] => day::write_files(texts, found),
         ["readings", texts, found] => readings::write_files(texts, found),
+        ["lines", sheet, found] => lines::write_files(sheet, found),
+        ["lines", seed, count, sheet, found] => made_sheet(seed, count, sheet, found),
         ["replay", list, found] => replay::write_files(list, found),
         ["round", found] => round::write_file(found),
         ["scale", seed, count, found] => print_requests(seed, count, found),
@@ -118,6 +123,10 @@ fn write_antt(requests: &str, answers: &str, folder: &str) -> Result<bool, Strin
 
 fn print_requests(seed: &str, count: &str, found: &str) -> Result<bool, String> {
     replay::print(number(seed)?, number(count)?, found)
+}
+
+fn made_sheet(seed: &str, count: &str, sheet: &str, found: &str) -> Result<bool, String> {
+    lines::write_made(number(seed)?, number(count)?, sheet, found)
 }
 
 fn agree_on(seed: &str, count: &str) -> Result<bool, String> {

@@ -68,3 +68,9 @@ laid-on buffer place d ds h = ap (λ b. laid b (place + 1) ds) (laid-set buffer 
 pub laid-nothing : (buffer : List ℕ) (place : ℕ) → buffer ≡ laid buffer place []
 unfolding laid
 laid-nothing buffer place = rw (append-nil (take place buffer), add-zero place) (sym (take-append-drop place buffer))
+
+-- a byte behind what was laid
+pub laid-byte : (buffer : List ℕ) (place n : ℕ) (xs : List ℕ) (d : ℕ) → n ≡ place + length xs → n < length buffer → set (laid buffer place xs) n d ≡ laid buffer place (xs ++ d ∷ [])
+laid-byte buffer place n xs d behind h =
+    let kept : length (laid buffer place xs) ≡ length buffer = laid-length buffer place xs (omega arith) in
+    laid-set (laid buffer place xs) n d (omega arith) ∙ laid-then buffer place n xs (d ∷ []) behind (omega arith)

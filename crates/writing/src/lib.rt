@@ -1,3 +1,3 @@
 // The writer: one length at a place of a lent buffer.
-mod digits;
+pub mod digits;
 pub mod writer;

@@ -23,7 +23,7 @@ const MINUS: u8 = 45;
 
 const POINT: u8 = 46;
 
-fn sign_byte(negative: bool) -> u8
+pub fn sign_byte(negative: bool) -> u8
     ensures { λ r. ⌜ r ≡ sign-byte negative ⌝ }
 {
     if negative { MINUS } else { PLUS }
