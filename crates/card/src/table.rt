@@ -12,11 +12,9 @@ use rows::fields::KIND_AT;
 use rows::fields::NAME_AT;
 use rows::fields::ROW_SIZE;
 use rows::fields::ZEROS_AT;
-use rows::fields::half_at;
 use rows::fields::name_of;
 use rows::fields::product_in_range;
 use rows::fields::row_at;
-use rows::fields::word_at;
 use rules::ByteSet;
 use rules::Refusal;
 use rules::Settings;
@@ -24,6 +22,8 @@ use settings::Checked;
 use settings::check::settings_check;
 use settings::sets::either;
 use settings::sets::holds;
+use words::half_at;
+use words::word_at;
 
 const MOST_ROWS: usize = 64;
 

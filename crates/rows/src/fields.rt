@@ -3,11 +3,13 @@ ghost use mathlib.Core.Path.{_≡_};
 ghost use mathlib.Core.Bool.{true, _&&_};
 ghost use Prim.Native.Nat.{_+_, _*_, _^_, _<_, _≤_};
 ghost use lib.Dec.{ltb};
-ghost use lib.ListN.{length, take, drop};
-ghost use Rattle.rules.specs.SettingsAndUnitTable.{coefficient-size, row-size, rows, row, name, low-first, magnitude, row-multiplier, product, in-range};
+ghost use lib.ListN.{length};
+ghost use Rattle.rules.specs.SettingsAndUnitTable.{coefficient-size, row-size, rows, row, name, magnitude, row-multiplier, product, in-range};
 ghost use Rattle.rows.specs.Powers.{risen, fallen};
 use rules::Multiplier;
 use tables::kind_multiplier;
+use words::short_at;
+use words::word_at;
 
 // How many bytes a row has, and where its fields stand: size, name, kind, coefficient, power, zeros.
 pub const ROW_SIZE: usize = 32;
@@ -50,29 +52,6 @@ pub fn name_of(row: &[u8]) -> &[u8]
     &row[NAME_AT..]
 }
 
-// The number that two bytes of a row spell, low byte first, from this place of it on; then four, then eight, from halves: a
-// whole word is read at once.
-fn low_first_2(row: &[u8], at: usize) -> u16
-    requires { ⌜ at + 2 ≤ length (now row) ⌝ }
-    ensures { λ r. ⌜ r ≡ low-first (take 2 (drop at (now (row .entry)))) ⌝ }
-{
-    row[at] as u16 + row[at + 1] as u16 * 256
-}
-
-pub fn half_at(row: &[u8], at: usize) -> u32
-    requires { ⌜ at + 4 ≤ length (now row) ⌝ }
-    ensures { λ r. ⌜ r ≡ low-first (take 4 (drop at (now (row .entry)))) ⌝ }
-{
-    low_first_2(row, at) as u32 + low_first_2(row, at + 2) as u32 * 65_536
-}
-
-pub fn word_at(row: &[u8], at: usize) -> u64
-    requires { ⌜ at + 8 ≤ length (now row) ⌝ }
-    ensures { λ r. ⌜ r ≡ low-first (take 8 (drop at (now (row .entry)))) ⌝ }
-{
-    half_at(row, at) as u64 + half_at(row, at + 4) as u64 * 4_294_967_296
-}
-
 // The magnitude of a coefficient in two's complement: 9223372036854775808 and above stand below zero.
 fn coefficient_magnitude(x: u64) -> u64
     ensures { λ r. ⌜ r ≡ magnitude coefficient-size x ⌝ }
@@ -107,7 +86,7 @@ fn row_multiplier(row: &[u8]) -> Multiplier
     ensures { λ r. ⌜ r ≡ row-multiplier (now (row .entry)) ⌝ }
 {
     let coefficient = word_at(row, COEFFICIENT_AT);
-    let power = low_first_2(row, POWER_AT);
+    let power = short_at(row, POWER_AT);
     Multiplier {
         negative: coefficient >= 9_223_372_036_854_775_808,
         coefficient: coefficient_magnitude(coefficient),

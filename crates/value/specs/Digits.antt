@@ -9,7 +9,7 @@ use native.Mathlib.Numerals.{add-one}
 use native.Mathlib.Omega.{arith}
 use borrow.Author.Tests.{le-leb, leb-true, leb-false, eqb-true, eqb-false}
 use lib.Dec.{leb, eqb, lit<}
-use lib.ListN.{length, getD, take, drop, length-take, drop-of-length-le}
+use lib.ListN.{length, getD, take, drop, length-take, length-drop, drop-of-length-le}
 use lib.Pow.{pow-add}
 use lib.Seq.{slice, slice-cons, take-nil, drop-nil, drop-drop}
 use Rattle.rules.specs.Common.{if_then_else_, between, all, front, run}
@@ -40,6 +40,25 @@ run-off test text place h e = run-stop test text place (sees-here test text plac
 
 pub run-end : (test : ℕ → Bool) (text : List ℕ) (place : ℕ) → length text ≤ place → run test text place ≡ place
 run-end test text place h = run-stop test text place (sees-end test text place h)
+
+-- so many bytes that pass go on with it at once
+front-many : (test : ℕ → Bool) (n : ℕ) (rest : List ℕ) → n ≤ length rest → all test (take n rest) ≡ true → front test rest ≡ n + front test (drop n rest)
+unfolding front all if_then_else_
+front-many test zero rest h e = sym (zero-add (front test rest))
+front-many test (suc n) [] h e = absurd (omega arith)
+front-many test (suc n) (b ∷ rest) h e =
+    rw (all-first test b (take n rest) e)
+    (ap suc (front-many test n rest (omega arith) (all-others test b (take n rest) e)) ∙ sym (suc-add n (front test (drop n rest))))
+
+pub run-many : (test : ℕ → Bool) (text : List ℕ) (place n : ℕ) → place + n ≤ length text → all test (take n (drop place text)) ≡ true → run test text (place + n) ≡ run test text place
+unfolding run
+run-many test text place n h e =
+    let long : n ≤ length (drop place text) = rw (length-drop place text) (omega arith) in
+    rw (front-many test n (drop place text) long e, drop-drop n place text) (omega arith)
+
+-- the last byte that goes on with a run of zeros, and of digits
+unfoldable pub last : Bool → ℕ
+last zeros = if zeros then 48 else 57
 
 -- what passes a test that is as strict stands in as long a run
 front-same : (test other : ℕ → Bool) → ((b : ℕ) → test b ≡ other b) → (rest : List ℕ) → front test rest ≡ front other rest

@@ -3,14 +3,17 @@ ghost use mathlib.Core.Path.{_≡_};
 ghost use mathlib.Core.Bool.{true};
 ghost use Prim.Native.Nat.{_+_, _-_, _≤_, _<_, _^_, min};
 ghost use lib.Dec.{eqb};
-ghost use lib.ListN.{length};
+ghost use lib.ListN.{length, take, drop};
 ghost use lib.Seq.{slice};
 ghost use Rattle.rules.specs.Common.{all, between, run};
 ghost use Rattle.rules.specs.SettingsAndUnitTable.{DIGIT, is};
 ghost use Rattle.rules.specs.Evaluation.{spelled};
 ghost use Rattle.value.specs.Numbers.{as-word, taken};
+ghost use Rattle.value.specs.Digits.{last};
 use rules::Fract;
 use rules::Whole;
+use words::eight_digits;
+use words::eight_zeros;
 
 // A number, if a u64 holds it.
 pub enum Word {
@@ -56,14 +59,42 @@ fn past(text: &[u8], place: usize, low: u8, high: u8) -> usize
     next
 }
 
+// Whether the next eight bytes are digits, or all of them `0`.
+fn eight(zeros: bool, text: &[u8], at: usize) -> bool
+    requires { ⌜ at + 8 ≤ length (now text) ⌝ }
+    ensures { λ r. ⌜ (r ≡ true → all (between 48 (last zeros)) (take 8 (drop at (now (text .entry)))) ≡ true) ⌝ }
+{
+    if zeros {
+        return eight_zeros(text, at);
+    }
+    eight_digits(text, at)
+}
+
+// Digits, or zeros, passed eight at a time while there are so many: the run goes on from there.
+fn past_eights(zeros: bool, text: &[u8], place: usize) -> usize
+    ensures { λ r. ⌜ run (between 48 (last zeros)) (now (text .entry)) r ≡ run (between 48 (last zeros)) (now (text .entry)) place ⌝ }
+{
+    if text.len() < place {
+        return place;
+    }
+    let mut next = place;
+    while text.len() - next >= 8 {
+        if !eight(zeros, text, next) {
+            return next;
+        }
+        next += 8;
+    }
+    next
+}
+
 // Leading zeros spell nothing: the number starts after them, and the digits go on from there.
 pub fn parse_digits_strip_zeros(text: &[u8], place: usize) -> Whole
     ensures { λ r. ⌜ r ≡ record { start = run (eqb 48) (now (text .entry)) place; end = run (is DIGIT) (now (text .entry)) place } ⌝ }
 {
-    let start = past(text, place, b'0', b'0');
+    let start = past(text, past_eights(true, text, place), b'0', b'0');
     Whole {
         start,
-        end: past(text, start, b'0', b'9'),
+        end: past(text, past_eights(false, text, start), b'0', b'9'),
     }
 }
 
@@ -73,7 +104,7 @@ pub fn parse_digits(text: &[u8], place: usize) -> Fract
 {
     Fract {
         start: place,
-        end: past(text, place, b'0', b'9'),
+        end: past(text, past_eights(false, text, place), b'0', b'9'),
     }
 }
 

@@ -1,16 +1,16 @@
 -- Laws of names: of two rows with zeros after their names, size and room decide whether the names are the same, a word at a time.
 -- Assumes nothing.
 use mathlib.Core.Path.{_≡_, refl, sym, ap, _∙_}
-use mathlib.Core.Bool.{Bool, true, false, _&&_}
+use mathlib.Core.Bool.{Bool, true, _&&_}
 use mathlib.Core.List.{List, [], _∷_, _++_}
 use Prim.Native.Nat.{ℕ, zero, suc, _+_, _*_, _-_, _/_, _^_, _≤_, _<_}
 use native.Mathlib.Nat.{add-zero, div-one, zero-div}
 use native.Mathlib.Omega.{arith}
 use lib.Dec.{eqb, leb}
-use lib.ListN.{length, getD, take, drop, replicate, length-take, length-drop, List·getD-eq-default}
-use lib.Seq.{take-add, take-take, drop-drop, getD-take, getD-drop, take-at, drop-at, drop-append-le, drop-append-add}
+use lib.ListN.{length, getD, take, drop, replicate, length-take, length-drop}
+use lib.Seq.{take-add, take-take, drop-drop, take-at, drop-at, drop-append-le, drop-append-add}
 use lib.Pow.{shr-shr}
-use borrow.Author.Tests.{eq-eqb, eqb-true, leb-true, leb-false}
+use borrow.Author.Tests.{eq-eqb, eqb-true, leb-true}
 use Rattle.rules.specs.declared.Settings.{Settings}
 use Rattle.rules.specs.Common.{all, between, same}
 use Rattle.rules.specs.SettingsAndUnitTable.{row-size, name-room, name-size, name, after-name, may-name, low-first}
@@ -21,15 +21,9 @@ use Rattle.rules.specs.Laws.Tests.{same-test, between-from}
 use Rattle.rules.specs.Laws.Lists.{Bytes, all-both, all-alike}
 use Rattle.card.specs.Laws.Unnameable.{outside-names}
 use Rattle.rows.specs.Laws.Lookup.{same-refl, same-equal}
+use Rattle.words.specs.LowFirst.{bytes-part}
 
 -- ---- numbers of as many bytes are the same only if the bytes are
-
-pub bytes-part : (l : List ℕ) (n k : ℕ) → Bytes l → Bytes (take n (drop k l))
-bytes-part l n k b i = go (leb n i) refl
-  where
-    go : (t : Bool) → leb n i ≡ t → getD (take n (drop k l)) i 0 < 256
-    go true e = rw (List·getD-eq-default (take n (drop k l)) 0 {n = i} (simp length-take (omega (arith, leb-true n i e)))) (omega arith)
-    go false e = rw (getD-take n (drop k l) i 0 (leb-false n i e), getD-drop k l i 0) (b (k + i))
 
 pub low-first-only : (a b : List ℕ) → length a ≡ length b → Bytes a → Bytes b → low-first a ≡ low-first b → a ≡ b
 unfolding low-first

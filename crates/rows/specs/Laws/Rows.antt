@@ -1,17 +1,16 @@
 -- Laws of rows and their fields. Assumes nothing.
 use mathlib.Core.Path.{_≡_, refl}
 use mathlib.Core.Bool.{Bool, true, false, xor, _&&_}
-use mathlib.Core.List.{List, [], _∷_, _++_}
+use mathlib.Core.List.{List}
 use Prim.Native.Nat.{ℕ, zero-le, _+_, _*_, _-_, _/_, _^_, _≤_, _<_}
-use native.Mathlib.Nat.{mul-add, mul-assoc, add-assoc, pow-succ', zero-add, mul-comm, mul-le-mul, le-div-iff-mul-le}
+use native.Mathlib.Nat.{zero-add, mul-comm, mul-le-mul, le-div-iff-mul-le}
 use native.Mathlib.Omega.{arith}
-use lib.ListN.{length, getD, take, drop, length-take, length-drop}
-use lib.Seq.{drop-cons, drop-drop, take-add}
+use lib.ListN.{length, getD, length-take, length-drop}
 use lib.Dec.{leb, ltb, lit<}
 use borrow.Author.Tests.{le-leb, lt-leb, leb-true, leb-false, ltb-true, lt-ltb}
 use Rattle.rules.specs.declared.Multiplier.{Multiplier}
 use Rattle.rules.specs.Common.{if_then_else_, all}
-use Rattle.rules.specs.SettingsAndUnitTable.{power-size, row-size, rows, row, kind, low-first, power-field, below-zero, magnitude, kind-coefficients, kind-downs, kind-multiplier, row-multiplier, times, product, in-range}
+use Rattle.rules.specs.SettingsAndUnitTable.{power-size, row-size, rows, row, kind, power-field, below-zero, magnitude, kind-coefficients, kind-downs, kind-multiplier, row-multiplier, times, product, in-range}
 use Rattle.rules.specs.Laws.Choices.{if-either, and-left, and-right}
 use Rattle.rules.specs.Laws.Tests.{and-true, same-test}
 use Rattle.rules.specs.Laws.Lists.{all-at}
@@ -25,22 +24,6 @@ row-within table i h = omega arith
 pub length-row : (table : List ℕ) (i : ℕ) → i < rows table → length (row table i) ≡ row-size
 unfolding row
 length-row table i h = simp (length-take, length-drop) (omega (arith, row-within table i h))
-
--- a number from the bytes of two parts
-low-first-append : (xs ys : List ℕ) → low-first (xs ++ ys) ≡ low-first xs + 256 ^ length xs * low-first ys
-unfolding low-first
-low-first-append [] ys = omega arith
-low-first-append (b ∷ xs) ys = rw (low-first-append xs ys, mul-add, pow-succ', mul-assoc, add-assoc)
-
--- from a place on, the number of twice as many bytes is that of one half and that of the other
-pub low-first-twice : (l : List ℕ) (at k : ℕ) → at + k ≤ length l → low-first (take (k + k) (drop at l)) ≡ low-first (take k (drop at l)) + 256 ^ k * low-first (take k (drop (at + k) l))
-low-first-twice l at k h =
-    let full : length (take k (drop at l)) ≡ k = simp (length-take, length-drop) (omega arith) in
-    rw (take-add k k (drop at l), low-first-append (take k (drop at l)) (take k (drop k (drop at l))), full, drop-drop k at l)
-
-pub low-first-byte : (l : List ℕ) (at : ℕ) → at < length l → low-first (take 1 (drop at l)) ≡ getD l at 0
-unfolding low-first
-low-first-byte l at h = rw (drop-cons l at 0 h) (omega arith)
 
 -- ---- powers and products
 

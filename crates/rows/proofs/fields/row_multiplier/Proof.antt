@@ -8,8 +8,8 @@ use Rattle.rows.proofs.fields.row_multiplier.Tie as tie
 word-at-requires : tie.Need-word-at-requires
 word-at-requires c κs = search needs
 
-low-first-2-requires : tie.Need-low-first-2-requires
-low-first-2-requires c κs = search needs
+short-at-requires : tie.Need-short-at-requires
+short-at-requires c κs = search needs
 
 coefficient-magnitude-requires : tie.Need-coefficient-magnitude-requires
 coefficient-magnitude-requires c κs = search needs
@@ -29,7 +29,7 @@ row-multiplier-spec =
     tie.close
     (tie.spec
     word-at-requires
-    low-first-2-requires
+    short-at-requires
     coefficient-magnitude-requires
     risen-requires
     fallen-requires

@@ -1,10 +1,10 @@
--- `rows::fields::low_first_2` meets its contract: one byte and the next. Assumes nothing.
+-- `words::short_at` meets its contract: one byte and the next. Assumes nothing.
 use Prim.Native.Nat.{_+_}
 use native.Mathlib.Omega.{arith}
 use borrow.Author.Needs.{needs}
-use Rattle.rows.specs.Laws.Rows.{low-first-twice, low-first-byte}
-use Rattle.rows.proofs.fields.low_first_2.Statement.{statement}
-use Rattle.rows.proofs.fields.low_first_2.Tie as tie
+use Rattle.words.specs.LowFirst.{low-first-twice, low-first-byte}
+use Rattle.words.proofs.short_at.Statement.{statement}
+use Rattle.words.proofs.short_at.Tie as tie
 
 shared-slice-read-result : tie.Need-shared-slice-read-result
 shared-slice-read-result c = search needs
@@ -30,10 +30,10 @@ add-result-2 c = omega (arith, c .shared-slice-known2 .given (c .before .before 
 returns : tie.Need-returns
 returns c =
     let a = c .before .before .args in
-    omega (arith, low-first-twice (a .row .now) (a .at) 1 (omega arith), low-first-byte (a .row .now) (a .at) (omega arith), low-first-byte (a .row .now) (a .at + 1) (omega arith))
+    omega (arith, low-first-twice (a .bytes .now) (a .at) 1 (omega arith), low-first-byte (a .bytes .now) (a .at) (omega arith), low-first-byte (a .bytes .now) (a .at + 1) (omega arith))
 
-pub low-first-2-spec : {M : Type 1} → statement M
-low-first-2-spec =
+pub short-at-spec : {M : Type 1} → statement M
+short-at-spec =
     tie.close
     (tie.spec
     shared-slice-read-result
