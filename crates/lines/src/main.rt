@@ -6,18 +6,14 @@ ghost use Rattle.rules.specs.SettingsAndUnitTable.{card-check};
 use card::table::card_check;
 use libc::STDIN_FILENO;
 use libc::STDOUT_FILENO;
+use lists::answers::print_answer;
 use lists::lines::first_bytes;
 use reading::answers::refusal;
-use rules::Refusal;
 use rules::Settings;
 use settings::Checked;
 use sheets::answering::answer_lines;
 use sheets::keeping::keep;
 use sheets::lines::NEWLINE;
-use sheets::printing::put_answer;
-
-// Bytes that a printed answer has at most.
-const LONGEST_LINE: usize = 86;
 
 // More turns than any input takes, since a proved loop has to end.
 const MOST_TURNS: u64 = 18_446_744_073_709_551_615;
@@ -114,18 +110,11 @@ fn answer_sheet(settings: Settings, table: &[u8])
     }
 }
 
-// A line for a refused card.
-fn print_refusal(cause: Refusal) {
-    let mut out = [0u8; LONGEST_LINE];
-    let printed = put_answer(refusal(cause), &mut out, 0);
-    io::write_all(STDOUT_FILENO, first_bytes(&out, printed));
-}
-
 fn main() {
     let settings = card_a::settings();
     let table = card_a::table();
     match card_check(settings, &table) {
-        Checked::Refused(cause) => print_refusal(cause),
+        Checked::Refused(cause) => print_answer(refusal(cause)),
         Checked::Accepted => answer_sheet(settings, &table),
     }
 }

@@ -1,24 +1,15 @@
-// Answers, printed: number, position, sign, seconds, nanoseconds.
+// Answers, printed as the line program prints them.
+use crate::lines::first_bytes;
 use libc::STDOUT_FILENO;
 use rules::Answer;
-use rules::Length;
+use sheets::printing::put_answer;
 
-fn print_length(length: Length) {
-    if length.negative {
-        io::write_all(STDOUT_FILENO, b" - ");
-    } else {
-        io::write_all(STDOUT_FILENO, b" + ");
-    }
-    io::print_decimal(STDOUT_FILENO, length.seconds);
-    io::write_all(STDOUT_FILENO, b" ");
-    io::print_decimal(STDOUT_FILENO, length.nanoseconds as u64);
-}
+// Bytes that a printed answer has at most.
+const LONGEST_LINE: usize = 86;
 
-// A line for the answer.
+// A line for the answer: number, position, sign, seconds, nanoseconds.
 pub fn print_answer(answer: Answer) {
-    io::print_decimal(STDOUT_FILENO, answer.number as u64);
-    io::write_all(STDOUT_FILENO, b" ");
-    io::print_decimal(STDOUT_FILENO, answer.position as u64);
-    print_length(answer.length);
-    io::write_all(STDOUT_FILENO, b"\n");
+    let mut line = [0u8; LONGEST_LINE];
+    let printed = put_answer(answer, &mut line, 0);
+    io::write_all(STDOUT_FILENO, first_bytes(&line, printed));
 }

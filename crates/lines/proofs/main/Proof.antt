@@ -20,8 +20,11 @@ card-check-requires c κs = search needs
 enum-known-cause : tie.Need-enum-known-cause
 enum-known-cause c = search needs
 
-print-refusal-requires : tie.Need-print-refusal-requires
-print-refusal-requires c κs = search needs
+refusal-requires : tie.Need-refusal-requires
+refusal-requires c κs = search needs
+
+print-answer-requires : tie.Need-print-answer-requires
+print-answer-requires c κs = search needs
 
 enum-told : tie.Need-enum-told
 enum-told c = search needs
@@ -48,7 +51,8 @@ main-spec =
     slice-aggregate-card-check
     card-check-requires
     enum-known-cause
-    print-refusal-requires
+    refusal-requires
+    print-answer-requires
     enum-told
     slice-aggregate-answer-sheet
     answer-sheet-requires
