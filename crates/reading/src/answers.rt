@@ -16,7 +16,7 @@ pub fn done(position: usize, length: Length) -> Answer
     }
 }
 
-// A number of document 01's table, and its position.
+// A number that is handed back, and its position.
 struct Numbered(u8, usize);
 
 // An exponent out of range and a forbidden negative hold a place too, and are handed back with 0.
@@ -50,6 +50,9 @@ fn number_and_position(cause: Refusal) -> Numbered
         Refusal::NoRoom(place) => Numbered(9, place),
         Refusal::Beyond(place) => Numbered(10, place),
         Refusal::Malformed => Numbered(11, 0),
+        Refusal::NotIso(place) => Numbered(12, place),
+        Refusal::YearOrMonth(place) => Numbered(13, place),
+        Refusal::TooLarge => Numbered(14, 0),
     }
 }
 

@@ -4,7 +4,7 @@ use Prim.Native.Nat.{ℕ}
 use Rattle.rules.specs.declared.Length.{Length}
 use Rattle.rules.specs.declared.Answer.{Answer}
 use Rattle.rules.specs.declared.Refusal.{Refusal}
-use Rattle.rules.specs.declared.Refusal.the-variants.{Nothing, SignEnds, DelimiterEnds, FractionOff, FractionEmpty, ExponentOff, ExponentByte, ExponentEnds, ExponentAbove, ExponentBelow, InfinityByte, InfinityEnds, InfinityGoesOn, ConjunctionEnds, ConjunctionGoesOn, NegativeForbidden, NoNumber, Delimiters, Conjunctions, DefaultKind, TableSize, BadRow, TextTooLong, NoRoom, Beyond, Malformed}
+use Rattle.rules.specs.declared.Refusal.the-variants.{Nothing, SignEnds, DelimiterEnds, FractionOff, FractionEmpty, ExponentOff, ExponentByte, ExponentEnds, ExponentAbove, ExponentBelow, InfinityByte, InfinityEnds, InfinityGoesOn, ConjunctionEnds, ConjunctionGoesOn, NegativeForbidden, NoNumber, Delimiters, Conjunctions, DefaultKind, TableSize, BadRow, TextTooLong, NoRoom, Beyond, Malformed, NotIso, YearOrMonth, TooLarge}
 use Rattle.rules.specs.ThePartOfTheCrateWeTake.{longest-text, zero-length}
 
 -- what a step, a check or an entry comes to: something, or a refusal
@@ -54,6 +54,9 @@ number TextTooLong = 8
 number (NoRoom p) = 9
 number (Beyond p) = 10
 number Malformed = 11
+number (NotIso p) = 12
+number (YearOrMonth p) = 13
+number TooLarge = 14
 
 unfoldable pub position : Refusal → ℕ
 position (Nothing p) = p
@@ -82,6 +85,9 @@ position TextTooLong = longest-text
 position (NoRoom p) = p
 position (Beyond p) = p
 position Malformed = 0
+position (NotIso p) = p
+position (YearOrMonth p) = p
+position TooLarge = 0
 
 -- read or written: 0, the position and the length
 unfoldable pub done : ℕ → Length → Answer

@@ -153,7 +153,7 @@ pub enum Refusal {
     // the text ends with a conjunction, held by its first letter; what follows it is no delimiter, digit or sign
     ConjunctionEnds(usize),
     ConjunctionGoesOn(usize),
-    // the part that starts here is negative while negatives are off
+    // the part that starts here is negative while negatives are off; a length to be written is, where none can be
     NegativeForbidden(usize),
     // a part has no number here
     NoNumber(usize),
@@ -171,4 +171,10 @@ pub enum Refusal {
     Beyond(usize),
     // the length record is malformed
     Malformed,
+    // an ISO timing: a byte that no right text has here, or the end of a text that stops short
+    NotIso(usize),
+    // a year's letter or a month's, which have no length
+    YearOrMonth(usize),
+    // its value is beyond the largest length
+    TooLarge,
 }

@@ -11,12 +11,11 @@ use lib.ListN.{length}
 use Rattle.rules.specs.declared.Length.{Length}
 use Rattle.rules.specs.declared.Answer.{Answer}
 use Rattle.rules.specs.declared.Settings.{Settings}
-use Rattle.rules.specs.declared.Refusal.{Refusal}
-use Rattle.rules.specs.declared.Refusal.the-variants.{Nothing, SignEnds, DelimiterEnds, FractionOff, FractionEmpty, ExponentOff, ExponentByte, ExponentEnds, ExponentAbove, ExponentBelow, InfinityByte, InfinityEnds, InfinityGoesOn, ConjunctionEnds, ConjunctionGoesOn, NegativeForbidden, NoNumber, Delimiters, Conjunctions, DefaultKind, TableSize, BadRow, TextTooLong, NoRoom, Beyond, Malformed}
 use Rattle.rules.specs.Common.{if_then_else_, between}
 use Rattle.rules.specs.ThePartOfTheCrateWeTake.{nanoseconds-per-second, well-formed}
 use Rattle.rules.specs.SettingsAndUnitTable.{most-conjunctions, most-letters, last-kind, conjunction-accepted, conjunctions-accepted}
-use Rattle.rules.specs.NumbersHandedBack.{Outcome, got, refused, number, done, refusal, answered}
+use Rattle.rules.specs.NumbersHandedBack.{Outcome, got, refused, done, refusal, answered}
+use Rattle.rules.specs.Laws.Answers.{refusal-number}
 use Rattle.rules.specs.Laws.Choices.{if-either}
 use Rattle.rules.specs.Laws.Tests.{and-false}
 use Rattle.rules.specs.WriterAndShiftTotal.{record-after}
@@ -134,36 +133,6 @@ pub handed : {a b : Answer} {n : ℕ} {words : List ℕ} → (n ≡ a .number) �
 handed h e = rw e at h
 
 -- ---- the shift total's words afterwards
-
--- the number of a refusal is not 0
-refusal-number : (cause : Refusal) → number cause ≢ 0
-unfolding number
-refusal-number (Nothing p) e = omega arith
-refusal-number (SignEnds p) e = omega arith
-refusal-number (DelimiterEnds p) e = omega arith
-refusal-number (FractionOff p) e = omega arith
-refusal-number (FractionEmpty p) e = omega arith
-refusal-number (ExponentOff p) e = omega arith
-refusal-number (ExponentByte p) e = omega arith
-refusal-number (ExponentEnds p) e = omega arith
-refusal-number (ExponentAbove p) e = omega arith
-refusal-number (ExponentBelow p) e = omega arith
-refusal-number (InfinityByte p) e = omega arith
-refusal-number (InfinityEnds p) e = omega arith
-refusal-number (InfinityGoesOn p) e = omega arith
-refusal-number (ConjunctionEnds p) e = omega arith
-refusal-number (ConjunctionGoesOn p) e = omega arith
-refusal-number (NegativeForbidden p) e = omega arith
-refusal-number (NoNumber p) e = omega arith
-refusal-number Delimiters e = omega arith
-refusal-number Conjunctions e = omega arith
-refusal-number DefaultKind e = omega arith
-refusal-number TableSize e = omega arith
-refusal-number (BadRow i) e = omega arith
-refusal-number TextTooLong e = omega arith
-refusal-number (NoRoom p) e = omega arith
-refusal-number (Beyond p) e = omega arith
-refusal-number Malformed e = omega arith
 
 module _ (so-far : List ℕ) (size : ℕ) where
   after-done : (m : Outcome Length) → (answered (done size) m) .number ≡ 0 → length-words (record-after (length-of so-far) m) ≡ words-after so-far m

@@ -1,19 +1,55 @@
--- A refusal's length is a plus-signed zero: of every entry, whatever its arguments. Assumes nothing.
+-- A refusal's number is not 0, and its length is a plus-signed zero: of every entry, whatever its arguments. Assumes nothing.
 use mathlib.Core.Path.{_≡_, refl}
 use mathlib.Core.Logic.{_≢_}
 use mathlib.Core.List.{List}
 use Prim.Native.Nat.{ℕ}
+use native.Mathlib.Omega.{arith}
 use lib.ListN.{length}
 use Rattle.rules.specs.declared.Length.{Length}
 use Rattle.rules.specs.declared.Answer.{Answer}
 use Rattle.rules.specs.declared.Settings.{Settings}
+use Rattle.rules.specs.declared.Refusal.{Refusal}
+use Rattle.rules.specs.declared.Refusal.the-variants.{Nothing, SignEnds, DelimiterEnds, FractionOff, FractionEmpty, ExponentOff, ExponentByte, ExponentEnds, ExponentAbove, ExponentBelow, InfinityByte, InfinityEnds, InfinityGoesOn, ConjunctionEnds, ConjunctionGoesOn, NegativeForbidden, NoNumber, Delimiters, Conjunctions, DefaultKind, TableSize, BadRow, TextTooLong, NoRoom, Beyond, Malformed, NotIso, YearOrMonth, TooLarge}
 use Rattle.rules.specs.ThePartOfTheCrateWeTake.{zero-length}
-use Rattle.rules.specs.NumbersHandedBack.{Outcome, got, refused, done, refusal, answered}
+use Rattle.rules.specs.NumbersHandedBack.{Outcome, got, refused, number, done, refusal, answered}
 use Rattle.rules.specs.WriterAndShiftTotal.{writing}
 use Rattle.rules.specs.WhatEveryEntryOwes.{read-part, part-answer, read-total, total-answer, write-answer, add-total, shift-answer}
 
+-- the number of a refusal is not 0
+pub refusal-number : (cause : Refusal) → number cause ≢ 0
+unfolding number
+refusal-number (Nothing p) e = omega arith
+refusal-number (SignEnds p) e = omega arith
+refusal-number (DelimiterEnds p) e = omega arith
+refusal-number (FractionOff p) e = omega arith
+refusal-number (FractionEmpty p) e = omega arith
+refusal-number (ExponentOff p) e = omega arith
+refusal-number (ExponentByte p) e = omega arith
+refusal-number (ExponentEnds p) e = omega arith
+refusal-number (ExponentAbove p) e = omega arith
+refusal-number (ExponentBelow p) e = omega arith
+refusal-number (InfinityByte p) e = omega arith
+refusal-number (InfinityEnds p) e = omega arith
+refusal-number (InfinityGoesOn p) e = omega arith
+refusal-number (ConjunctionEnds p) e = omega arith
+refusal-number (ConjunctionGoesOn p) e = omega arith
+refusal-number (NegativeForbidden p) e = omega arith
+refusal-number (NoNumber p) e = omega arith
+refusal-number Delimiters e = omega arith
+refusal-number Conjunctions e = omega arith
+refusal-number DefaultKind e = omega arith
+refusal-number TableSize e = omega arith
+refusal-number (BadRow i) e = omega arith
+refusal-number TextTooLong e = omega arith
+refusal-number (NoRoom p) e = omega arith
+refusal-number (Beyond p) e = omega arith
+refusal-number Malformed e = omega arith
+refusal-number (NotIso p) e = omega arith
+refusal-number (YearOrMonth p) e = omega arith
+refusal-number TooLarge e = omega arith
+
 -- whatever is handed back with a number that is not 0 has a plus-signed zero length
-refused-zero : {A : Type 0} (show : A → Answer) (m : Outcome A) → ((a : A) → (show a) .number ≡ 0) → (answered show m) .number ≢ 0 → (answered show m) .length ≡ zero-length
+pub refused-zero : {A : Type 0} (show : A → Answer) (m : Outcome A) → ((a : A) → (show a) .number ≡ 0) → (answered show m) .number ≢ 0 → (answered show m) .length ≡ zero-length
 unfolding answered refusal
 refused-zero show (got a) ok h = absurd (h (ok a))
 refused-zero show (refused cause) ok h = refl

@@ -1,0 +1,4 @@
+-- ISO timings: the definitions of request one, and their laws.
+pub mod IsoTimings
+pub mod Computing
+pub mod Examples

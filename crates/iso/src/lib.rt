@@ -1,0 +1,1 @@
+// ISO timings: only definitions and laws, which stand in specs/.
