@@ -30,6 +30,19 @@ module _ (after : List ℕ → Stand) (joins : (ds : List ℕ) (place b : ℕ) �
       goes-on (after ds) (after (ds ++ (x ∷ []))) place x (xs ++ rest) (joins ds place x (all-first (is DIGIT) x xs h))
       ∙ (run (ds ++ (x ∷ [])) xs rest (suc place) (all-others (is DIGIT) x xs h) ∙ rw (append-assoc, suc-add, add-suc))
 
+  -- and one or more digits where a digit is the first
+  pub begun-run : (s : Stand) → ((place b : ℕ) → is DIGIT b ≡ true → step s place b ≡ on (after (b ∷ []))) → (xs rest : List ℕ) (place : ℕ) → none xs ≡ false → all (is DIGIT) xs ≡ true → read-from s place (xs ++ rest) ≡ read-from (after xs) (place + length xs) rest
+  unfolding none
+  begun-run s begins [] rest place p h = absurd (false≢true (cc))
+  begun-run s begins (x ∷ xs) rest place p h =
+      goes-on s (after (x ∷ [])) place x (xs ++ rest) (begins place x (all-first (is DIGIT) x xs h))
+      ∙ (run (x ∷ []) xs rest (suc place) (all-others (is DIGIT) x xs h) ∙ rw (suc-add, add-suc))
+
+-- where a number must come, its first digit begins it
+pub digit-begins : (k place b : ℕ) → is DIGIT b ≡ true → digit-step k place b ≡ on (whole k (b ∷ []))
+unfolding digit-step if_then_else_
+digit-begins k place b h = rw h
+
 module _ (k : ℕ) where
   whole-joins : (ds : List ℕ) (place b : ℕ) → is DIGIT b ≡ true → step (whole k ds) place b ≡ on (whole k (ds ++ (b ∷ [])))
   unfolding step if_then_else_
@@ -47,19 +60,18 @@ module _ (k : ℕ) where
   pub fraction-run : (ds fs xs rest : List ℕ) (place : ℕ) → all (is DIGIT) xs ≡ true → read-from (fraction k ds fs) place (xs ++ rest) ≡ read-from (fraction k ds (fs ++ xs)) (place + length xs) rest
   fraction-run ds = run (fraction k ds) (fraction-joins ds)
 
-  -- a number's first digit
-  digit-begins : (s : Stand) (place b : ℕ) (rest : List ℕ) → ((place b : ℕ) → step s place b ≡ digit-step k place b) → is DIGIT b ≡ true → read-from s place (b ∷ rest) ≡ read-from (whole k (b ∷ [])) (suc place) rest
-  unfolding digit-step if_then_else_
-  digit-begins s place b rest begins h = goes-on s (whole k (b ∷ [])) place b rest (begins place b ∙ rw h)
-
-  -- where a number must come: its digits
-  pub begins-run : (s : Stand) → ((place b : ℕ) → step s place b ≡ digit-step k place b) → (xs rest : List ℕ) (place : ℕ) → none xs ≡ false → all (is DIGIT) xs ≡ true → read-from s place (xs ++ rest) ≡ read-from (whole k xs) (place + length xs) rest
-  unfolding none
-  begins-run s begins [] rest place p h = absurd (false≢true (cc))
-  begins-run s begins (x ∷ xs) rest place p h =
-      digit-begins s place x (xs ++ rest) begins (all-first (is DIGIT) x xs h)
-      ∙ (whole-run (x ∷ []) xs rest (suc place) (all-others (is DIGIT) x xs h) ∙ rw (suc-add, add-suc))
+  -- digits where they begin a number
+  pub number-run : (s : Stand) → ((place b : ℕ) → is DIGIT b ≡ true → step s place b ≡ on (whole k (b ∷ []))) → (xs rest : List ℕ) (place : ℕ) → none xs ≡ false → all (is DIGIT) xs ≡ true → read-from s place (xs ++ rest) ≡ read-from (whole k xs) (place + length xs) rest
+  number-run = begun-run (whole k) whole-joins
 
   pub wanted-run : (xs rest : List ℕ) (place : ℕ) → none xs ≡ false → all (is DIGIT) xs ≡ true → read-from (wanted k) place (xs ++ rest) ≡ read-from (whole k xs) (place + length xs) rest
   unfolding step
-  wanted-run = begins-run (wanted k) (λ place b. refl)
+  wanted-run = number-run (wanted k) (digit-begins k)
+
+  mark-begins : (ds : List ℕ) (m place b : ℕ) → is DIGIT b ≡ true → step (mark k ds m) place b ≡ on (fraction k ds (m ∷ b ∷ []))
+  unfolding step if_then_else_
+  mark-begins ds m place b h = rw h
+
+  -- digits after a mark
+  pub mark-run : (ds : List ℕ) (m : ℕ) (xs rest : List ℕ) (place : ℕ) → none xs ≡ false → all (is DIGIT) xs ≡ true → read-from (mark k ds m) place (xs ++ rest) ≡ read-from (fraction k ds (m ∷ xs)) (place + length xs) rest
+  mark-run ds m = begun-run (λ xs. fraction k ds (m ∷ xs)) (λ xs. fraction-joins ds (m ∷ xs)) (mark k ds m) (mark-begins ds m)
