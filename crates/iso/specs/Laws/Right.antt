@@ -4,16 +4,20 @@ use mathlib.Core.Bool.{Bool, true, false, not, _&&_, _||_, false≢true}
 use mathlib.Core.List.{List, [], _∷_, _++_, append-nil, append-assoc}
 use Prim.Native.Nat.{ℕ, zero, suc, _+_, _*_, _-_, _≤_, _<_}
 use native.Mathlib.Omega.{arith}
+use mathlib.Core.Logic.{_↔_}
 use lib.Dec.{leb, ltb, eqb}
 use lib.ListN.{length}
 use borrow.Author.Tests.{eqb-true, eqb-false, eq-eqb, ne-eqb, leb-true, leb-false, lt-leb, le-leb, ltb-true, ltb-false, lt-ltb, le-ltb, not-true}
 use Rattle.rules.specs.declared.Refusal.{Refusal}
 use Rattle.rules.specs.declared.Refusal.the-variants.{TextTooLong, NotIso, YearOrMonth, TooLarge}
+use Rattle.rules.specs.declared.Length.{Length}
 use Rattle.rules.specs.Common.{if_then_else_, between, all}
+use Rattle.rules.specs.ThePartOfTheCrateWeTake.{longest-text, nanoseconds-per-second, seconds-limit}
 use Rattle.rules.specs.SettingsAndUnitTable.{DIGIT, is, class}
 use Rattle.rules.specs.NumbersHandedBack.{Outcome, got, refused, _>>=_, _>>_, unless}
 use Rattle.rules.specs.Laws.Choices.{and-left, and-right, and-both, if-either, all-append}
-use Rattle.iso.specs.IsoTimings.{SECONDS, MINUTES, HOURS, DAYS, WEEKS, ANY, Component, none, digits, is-mark, right-fraction, right-number, closes, right-after, right, letter, clock-mark, spelling-after, spelling, Stand, start, date, wanted, whole, mark, fraction, unit, closed, Move, on, kind-of, may-come, year-or-month, digit-step, after-letter, letter-step, step, may-end, read-from, components}
+use Rattle.rules.specs.Evaluation.{length-of}
+use Rattle.iso.specs.IsoTimings.{SECONDS, MINUTES, HOURS, DAYS, WEEKS, ANY, Component, none, digits, is-mark, right-fraction, right-number, closes, right-after, right, letter, clock-mark, spelling-after, spelling, Stand, start, date, wanted, whole, mark, fraction, unit, closed, Move, on, kind-of, may-come, year-or-month, digit-step, after-letter, letter-step, step, may-end, read-from, components, nanoseconds-of, held, read-iso}
 use Rattle.iso.specs.Laws.Runs.{nothing-made, goes-on, digit-begins, number-run, mark-run}
 use Rattle.iso.specs.Laws.Letters.{Kind, Letter, letter-of, letter-back, digit-not-clock, mark-not-digit, may-come-date, may-come-below, came-date, came-below, came-kind, clock-first, clock-later, clock-never}
 
@@ -329,3 +333,126 @@ sound-from (b ∷ rest) s place cs f h = sound-step rest (sound-from rest) place
 pub sound : (text : List ℕ) (cs : List Component) → components text ≡ got cs → (right cs ≡ true) × (spelling cs ≡ text)
 unfolding components fine
 sound text cs h = sound-from text start 0 cs refl h
+
+-- ---- what is read: exactly the right texts that are not too long, unless they are too large
+
+-- a text that is not too long, and the right components that it spells
+pub record Spelt (text : List ℕ) : Type 0 where
+  pub parts : List Component
+  pub rightly : right parts ≡ true
+  pub spells : spelling parts ≡ text
+  pub short : length text ≤ longest-text
+
+pub spelt-read : (text : List ℕ) (t : Spelt text) → read-iso text ≡ held (nanoseconds-of (t .parts))
+unfolding read-iso unless _>>_ _>>=_
+spelt-read text t =
+    let c : components text ≡ got (t .parts) = ap components (sym (t .spells)) ∙ complete (t .parts) (t .rightly) in
+    rw (le-leb (length text) longest-text (t .short), c)
+
+-- no text is too large for what it spells
+abbrev NotLarge : {A : Type 0} → Outcome A → Type 0
+NotLarge o = o ≡ refused TooLarge → ⊥
+
+got-not : {A : Type 0} (a : A) → NotLarge (got a)
+got-not a h = let z : _≡_ {A = ℕ} 0 1 = cc in omega arith
+
+bind-not : {A B : Type 0} (m : Outcome A) (next : A → Outcome B) → NotLarge m → ((a : A) → NotLarge (next a)) → NotLarge (m >>= next)
+unfolding _>>=_
+bind-not (got a) next p q h = q a h
+bind-not (refused cause) next p q h = let e : cause ≡ TooLarge = cc in p (ap refused e)
+
+module _ {A : Type 0} (place : ℕ) where
+  off-not : NotLarge {A = A} (refused (NotIso place))
+  off-not h = let z : _≡_ {A = ℕ} 0 1 = cc in omega arith
+
+  year-not : NotLarge {A = A} (refused (YearOrMonth place))
+  year-not h = let z : _≡_ {A = ℕ} 0 1 = cc in omega arith
+
+  either-not : (t : Bool) (o : Outcome A) → NotLarge o → NotLarge (if t then o else refused (NotIso place))
+  either-not t o h = if-either NotLarge t (λ _. h) (λ _. off-not)
+
+on-not : (s : Stand) → NotLarge (on s)
+unfolding on
+on-not s = got-not (record { made = []; stand = s })
+
+module _ (place b : ℕ) where
+  digit-not : (k : ℕ) → NotLarge (digit-step k place b)
+  unfolding digit-step
+  digit-not k = either-not place (is DIGIT b) (on (whole k (b ∷ []))) (on-not (whole k (b ∷ [])))
+
+  letter-not : (k : ℕ) (ds fs : List ℕ) → NotLarge (letter-step k ds fs place b)
+  unfolding letter-step
+  letter-not k ds fs =
+      if-either NotLarge (may-come k (kind-of b)) (λ _. got-not _) λ _. either-not place (year-or-month k b) (refused (YearOrMonth place)) (year-not place)
+
+  step-not : (s : Stand) → NotLarge (step s place b)
+  unfolding step
+  step-not start = either-not place (eqb b 80) (on date) (on-not date)
+  step-not date = if-either NotLarge (eqb b 84) (λ _. on-not (wanted DAYS)) (λ _. digit-not ANY)
+  step-not (wanted k) = digit-not k
+  step-not (whole k ds) =
+      if-either NotLarge (is DIGIT b) (λ _. on-not (whole k (ds ++ (b ∷ [])))) λ _.
+      if-either NotLarge (is-mark b) (λ _. on-not (mark k ds b)) (λ _. letter-not k ds [])
+  step-not (mark k ds m) = either-not place (is DIGIT b) (on (fraction k ds (m ∷ b ∷ []))) (on-not (fraction k ds (m ∷ b ∷ [])))
+  step-not (fraction k ds fs) = if-either NotLarge (is DIGIT b) (λ _. on-not (fraction k ds (fs ++ (b ∷ [])))) (λ _. letter-not k ds fs)
+  step-not (unit k) =
+      if-either NotLarge (leb DAYS k) (λ _. either-not place (eqb b 84) (on (wanted DAYS)) (on-not (wanted DAYS))) (λ _. digit-not k)
+  step-not closed = off-not place
+
+read-not : (text : List ℕ) (s : Stand) (place : ℕ) → NotLarge (read-from s place text)
+unfolding read-from
+read-not [] s place = either-not place (may-end s) (got []) (got-not [])
+read-not (b ∷ rest) s place =
+    bind-not (step s place b) (λ m. read-from (m .stand) (suc place) rest >>= λ cs. got (m .made ++ cs)) (step-not place b s) λ m.
+    bind-not (read-from (m .stand) (suc place) rest) (λ cs. got (m .made ++ cs)) (read-not rest (m .stand) (suc place)) λ cs. got-not (m .made ++ cs)
+
+-- a text is spelt, and then its components say what is read; or it is refused, and not as too large
+data Reads (text : List ℕ) : Outcome Length → Type 0 where
+  of-spelt : (t : Spelt text) → Reads text (held (nanoseconds-of (t .parts)))
+  of-no : (cause : Refusal) → NotLarge {A = Length} (refused cause) → Reads text (refused cause)
+
+reads : (text : List ℕ) → Reads text (read-iso text)
+unfolding read-iso unless _>>_ _>>=_ components
+reads text = go (leb (length text) longest-text) (components text) refl refl
+  where
+    go : (t : Bool) (o : Outcome (List Component)) → leb (length text) longest-text ≡ t → components text ≡ o → Reads text (unless TextTooLong t >> o >>= λ cs. held (nanoseconds-of cs))
+    go true (got cs) l e =
+        let s = sound text cs e in
+        of-spelt (record { parts = cs; rightly = s .0; spells = s .1; short = leb-true (length text) longest-text l })
+    go true (refused cause) l e = of-no cause (λ h. let c : cause ≡ TooLarge = cc in read-not text start 0 (e ∙ ap refused c))
+    go false o l e = of-no TextTooLong (λ h. let z : _≡_ {A = ℕ} 0 1 = cc in omega arith)
+
+-- a text spells this length
+abbrev pub Spells : List ℕ → Length → Type 0
+Spells text l =
+    (t : Spelt text) × (nanoseconds-of (t .parts) < seconds-limit * nanoseconds-per-second) × (l ≡ length-of false (nanoseconds-of (t .parts)))
+
+-- a text spells more than the largest length
+abbrev pub SpellsMore : List ℕ → Type 0
+SpellsMore text = (t : Spelt text) × (seconds-limit * nanoseconds-per-second ≤ nanoseconds-of (t .parts))
+
+-- a length is read of exactly the texts that spell it
+pub reads-exactly : (text : List ℕ) (l : Length) → (read-iso text ≡ got l) ↔ Spells text l
+unfolding held if_then_else_
+reads-exactly text l =
+    (read (reads text), λ s. spelt-read text (s .0) ∙ rw (lt-ltb (nanoseconds-of (s .0 .parts)) (seconds-limit * nanoseconds-per-second) (s .1), s .2))
+  where
+    read : {o : Outcome Length} → Reads text o → o ≡ got l → Spells text l
+    read (of-spelt t) h =
+        let n = nanoseconds-of (t .parts) in
+        if-either (λ o. o ≡ got l → Spells text l) (ltb n (seconds-limit * nanoseconds-per-second))
+        (λ b h. (t, ltb-true n (seconds-limit * nanoseconds-per-second) b, cc)) (λ _ h. never h) h
+    read (of-no cause n) h = never h
+
+-- those that spell more are too large, and no others
+pub too-large-exactly : (text : List ℕ) → (read-iso text ≡ refused TooLarge) ↔ SpellsMore text
+unfolding held if_then_else_
+too-large-exactly text =
+    (read (reads text), λ s. spelt-read text (s .0) ∙ rw (le-ltb (nanoseconds-of (s .0 .parts)) (seconds-limit * nanoseconds-per-second) (s .1)))
+  where
+    read : {o : Outcome Length} → Reads text o → o ≡ refused TooLarge → SpellsMore text
+    read (of-spelt t) h =
+        let n = nanoseconds-of (t .parts) in
+        if-either (λ o. o ≡ refused TooLarge → SpellsMore text) (ltb n (seconds-limit * nanoseconds-per-second))
+        (λ _ h. absurd (got-not (length-of false n) h)) (λ b _. (t, ltb-false n (seconds-limit * nanoseconds-per-second) b)) h
+    read (of-no cause n) h = absurd (n h)
