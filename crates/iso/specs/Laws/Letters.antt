@@ -1,12 +1,10 @@
 -- Laws of the bytes that stand between digits: letters and their kinds, marks, and which kinds may come. Assumes nothing.
-use mathlib.Core.Path.{_≡_, refl, sym, _∙_}
-use mathlib.Core.Bool.{Bool, true, false, not, _&&_, _||_, false≢true}
-use mathlib.Core.List.{List, [], _∷_}
-use mathlib.Core.Logic.{⊎-elim}
-use Prim.Native.Nat.{ℕ, zero, suc, _+_, _-_, _≤_, _<_}
+use mathlib.Core.Path.{_≡_, refl, sym}
+use mathlib.Core.Bool.{Bool, true, false, _&&_, false≢true}
+use mathlib.Core.List.{[], _∷_}
+use Prim.Native.Nat.{ℕ, zero, suc, _≤_, _<_}
 use native.Mathlib.Omega.{arith}
 use lib.Dec.{leb, ltb, eqb}
-use lib.ListN.{getD}
 use borrow.Author.Tests.{eqb-true, ne-eqb, leb-true, lt-leb, le-leb, ltb-true, lt-ltb, le-ltb}
 use Rattle.rules.specs.Common.{if_then_else_, between}
 use Rattle.rules.specs.SettingsAndUnitTable.{DIGIT, is, class}
