@@ -8,7 +8,7 @@ use Rattle.rules.specs.Common.{if_then_else_}
 use Rattle.rules.specs.SettingsAndUnitTable.{DIGIT, is}
 use Rattle.rules.specs.NumbersHandedBack.{Outcome, got, refused, _>>=_}
 use Rattle.rules.specs.Laws.Choices.{if-either}
-use Rattle.iso.specs.IsoTimings.{DAYS, ANY, Component, is-mark, Stand, start, date, wanted, whole, mark, fraction, unit, closed, on, kind-of, may-come, year-or-month, digit-step, letter-step, step, may-end, read-from, components}
+use Rattle.iso.specs.IsoTimings.{DAYS, ANY, is-mark, Stand, start, date, wanted, whole, mark, fraction, unit, closed, on, kind-of, may-come, year-or-month, digit-step, letter-step, step, may-end, read-from, components}
 
 -- what comes of reading
 pub data Caused {A : Type 0} : Outcome A → Type 0 where

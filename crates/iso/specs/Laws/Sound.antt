@@ -34,7 +34,8 @@ number-follows : (j k : ℕ) (front bytes : List ℕ) (cs : List Component) → 
 unfolding spelling-after none
 number-follows j k front bytes (c ∷ cs) enters (number-first n m b e) =
     let i = enters (c .kind) m in
-    (record { rightly = first-right k c cs (record { number = n; from = came-kind j (c .kind) m; below = i .0; behind = b }); spelt = rw (i .1, e) }, refl)
+    let r = first-right k c cs (record { number = n; from = came-kind j (c .kind) m; below = i .0; behind = b }) in
+    (record { rightly = r; spelt = rw (i .1, e) }, refl)
 
 -- what the rest of a text and its components are to what has been read
 abbrev Sound : Stand → List ℕ → List Component → Type 0
@@ -95,78 +96,93 @@ enters-date kind h = let c = came-date kind h in (omega arith, clock-never ANY k
 enters-same : (k : ℕ) → k < DAYS → Enters k k []
 enters-same k l kind h = (came-below k kind (omega arith) h .1, clock-later k kind l)
 
+-- the components got of a text are sound
+abbrev Soundly : List ℕ → Type 0
+Soundly text = (s : Stand) (place : ℕ) (cs : List Component) → fine s ≡ true → read-from s place text ≡ got cs → Sound s text cs
+
 -- one byte, where the rest is sound
-module _ (rest : List ℕ) (ih : (t : Stand) (place : ℕ) (cs : List Component) → fine t ≡ true → read-from t place rest ≡ got cs → Sound t rest cs) (place b : ℕ) (cs : List Component) where
-  -- what the byte and the rest got bears out the goal
-  abbrev Onward : Type 0 → Outcome Move → Type 0
-  Onward goal o = (o >>= λ m. read-from (m .stand) (suc place) rest >>= λ others. got (m .made ++ others)) ≡ got cs → goal
+module _ (rest : List ℕ) (soundly : Soundly rest) (place b : ℕ) (cs : List Component) where
+  -- if the components come of what the byte does, the goal is reached
+  record Reached (goal : Type 0) (o : Outcome Move) : Type 0 where
+    reach : (o >>= λ m. read-from (m .stand) (suc place) rest >>= λ others. got (m .made ++ others)) ≡ got cs → goal
 
-  stops : {goal : Type 0} (cause : Refusal) → Onward goal (refused cause)
+  either : {goal : Type 0} (t : Bool) {x y : Outcome Move} → (t ≡ true → Reached goal x) → (t ≡ false → Reached goal y) → Reached goal (if t then x else y)
+  either {goal} t f g = if-either (Reached goal) t f g
+
+  stops : {goal : Type 0} (cause : Refusal) → Reached goal (refused cause)
   unfolding _>>=_
-  stops cause h = never h
+  stops cause = record { reach = never }
 
-  steps-on : {goal : Type 0} (t : Stand) → fine t ≡ true → (Sound t rest cs → goal) → Onward goal (on t)
+  steps-on : {goal : Type 0} (s : Stand) → fine s ≡ true → (Sound s rest cs → goal) → Reached goal (on s)
   unfolding on _>>=_
-  steps-on t f g h = g (ih t (suc place) cs f (sym (nothing-made (read-from t (suc place) rest)) ∙ h))
+  steps-on s f g = record { reach = λ h. g (soundly s (suc place) cs f (sym (nothing-made (read-from s (suc place) rest)) ∙ h)) }
 
-  digit-steps : {goal : Type 0} (k : ℕ) → (Number k (b ∷ rest) cs → goal) → Onward goal (digit-step k place b)
+  digit-steps : {goal : Type 0} (k : ℕ) → (Number k (b ∷ rest) cs → goal) → Reached goal (digit-step k place b)
   unfolding digit-step fine
-  digit-steps {goal} k g = if-either (Onward goal) (is DIGIT b) (λ d. steps-on (whole k (b ∷ [])) (digits-one b d) g) (λ _. stops (NotIso place))
+  digit-steps k g = either (is DIGIT b) (λ d. steps-on (whole k (b ∷ [])) (digits-one b d) g) (λ _. stops (NotIso place))
 
-  component-made : (k : ℕ) (c : Component) → right-number c ≡ true → may-come k (c .kind) ≡ true → letter (c .kind) ≡ b → Onward (Number k (c .whole ++ (c .fraction ++ (b ∷ rest))) cs) (got (record { made = c ∷ []; stand = after-letter c }))
+  made : (k : ℕ) (c : Component) → right-number c ≡ true → may-come k (c .kind) ≡ true → letter (c .kind) ≡ b → Reached (Number k (c .whole ++ (c .fraction ++ (b ∷ rest))) cs) (got (record { made = c ∷ []; stand = after-letter c }))
   unfolding _>>=_
-  component-made k c n m e h = go (read-from (after-letter c) (suc place) rest) refl
+  made k c n m e = record { reach = go (read-from (after-letter c) (suc place) rest) refl }
     where
-      go : (o : Outcome (List Component)) → read-from (after-letter c) (suc place) rest ≡ o → Number k (c .whole ++ (c .fraction ++ (b ∷ rest))) cs
-      go (got others) r =
-          let s = sound-behind c others rest (ih (after-letter c) (suc place) others (fine-letter c) r) in
-          let g : got (c ∷ others) ≡ got cs = rw r at h in
+      go : (o : Outcome (List Component)) → read-from (after-letter c) (suc place) rest ≡ o → (o >>= λ others. got (c ∷ others)) ≡ got cs → Number k (c .whole ++ (c .fraction ++ (b ∷ rest))) cs
+      go (got others) r h =
+          let s = sound-behind c others rest (soundly (after-letter c) (suc place) others (fine-letter c) r) in
           let q : cs ≡ (c ∷ others) = cc in
           rw q (number-first n m (s .0) (rw (e, s .1)))
-      go (refused cause) r = never (rw r at h)
+      go (refused cause) r h = never h
 
-  letter-steps : (k : ℕ) (ds fs : List ℕ) → digits ds ≡ true → right-fraction fs ≡ true → Onward (Number k (ds ++ (fs ++ (b ∷ rest))) cs) (letter-step k ds fs place b)
+  letter-steps : (k : ℕ) (ds fs : List ℕ) → digits ds ≡ true → right-fraction fs ≡ true → Reached (Number k (ds ++ (fs ++ (b ∷ rest))) cs) (letter-step k ds fs place b)
   unfolding letter-step right-number
   letter-steps k ds fs p q =
-      let goal : Type 0 = Number k (ds ++ (fs ++ (b ∷ rest))) cs in
-      if-either (Onward goal) (may-come k (kind-of b))
-      (λ m. component-made k (record { whole = ds; fraction = fs; kind = kind-of b }) (and-both p q) m (letter-back b (came-kind k (kind-of b) m))) λ _.
-      if-either (Onward goal) (year-or-month k b) (λ _. stops (YearOrMonth place)) (λ _. stops (NotIso place))
+      let c : Component = record { whole = ds; fraction = fs; kind = kind-of b } in
+      either (may-come k (kind-of b))
+      (λ m. made k c (and-both p q) m (letter-back b (came-kind k (kind-of b) m)))
+      (λ _. either (year-or-month k b) (λ _. stops (YearOrMonth place)) (λ _. stops (NotIso place)))
 
-  sound-step : (s : Stand) → fine s ≡ true → Onward (Sound s (b ∷ rest) cs) (step s place b)
+  -- after `T`
+  clock-steps : {goal : Type 0} (k : ℕ) → DAYS ≤ k → (Following k (b ∷ rest) cs × (none cs ≡ false) → goal) → b ≡ 84 → Reached goal (on (wanted DAYS))
+  unfolding fine
+  clock-steps k l g e =
+      steps-on (wanted DAYS) refl (λ n. g (rw e (number-follows DAYS k (84 ∷ []) rest cs (enters-clock k l) n)))
+
+  sound-step : (s : Stand) → fine s ≡ true → Reached (Sound s (b ∷ rest) cs) (step s place b)
   unfolding step fine right spelling some-fraction right-fraction none
   sound-step start f =
-      if-either (Onward (Sound start (b ∷ rest) cs)) (eqb b 80) (λ e. steps-on date refl (λ s. rw (s .1, eqb-true b 80 e, s .0 .rightly, s .0 .spelt) (refl, refl))) (λ _. stops (NotIso place))
+      either (eqb b 80)
+      (λ e. steps-on date refl (λ s. rw (s .1, eqb-true b 80 e, s .0 .rightly, s .0 .spelt) (refl, refl)))
+      (λ _. stops (NotIso place))
   sound-step date f =
-      if-either (Onward (Sound date (b ∷ rest) cs)) (eqb b 84)
-      (λ e. steps-on (wanted DAYS) refl (λ n. rw (eqb-true b 84 e) (number-follows DAYS ANY (84 ∷ []) rest cs (enters-clock ANY (omega arith)) n)))
+      either (eqb b 84)
+      (λ e. clock-steps ANY (omega arith) (λ s. s) (eqb-true b 84 e))
       (λ _. digit-steps ANY (number-follows ANY ANY [] (b ∷ rest) cs enters-date))
   sound-step (wanted k) f = digit-steps k (λ n. n)
   sound-step (whole k ds) f =
-      if-either (Onward (Number k (ds ++ (b ∷ rest)) cs)) (is DIGIT b) (λ d. steps-on (whole k (ds ++ (b ∷ []))) (digits-more ds b f d) (λ n. rw append-assoc at n)) λ _.
-      if-either (Onward (Number k (ds ++ (b ∷ rest)) cs)) (is-mark b) (λ m. steps-on (mark k ds b) (and-both f m) (λ n. n)) (λ _. letter-steps k ds [] f refl)
+      either (is DIGIT b)
+      (λ d. steps-on (whole k (ds ++ (b ∷ []))) (digits-more ds b f d) (λ n. rw append-assoc at n))
+      (λ _. either (is-mark b) (λ m. steps-on (mark k ds b) (and-both f m) (λ n. n)) (λ _. letter-steps k ds [] f refl))
   sound-step (mark k ds m) f =
-      if-either (Onward (Number k (ds ++ (m ∷ b ∷ rest)) cs)) (is DIGIT b)
-      (λ d. steps-on (fraction k ds (m ∷ b ∷ [])) (and-both (and-left (digits ds) (is-mark m) f) (and-both (and-right (digits ds) (is-mark m) f) (digits-one b d))) (λ n. n))
+      let p = and-left (digits ds) (is-mark m) f in
+      let q = and-right (digits ds) (is-mark m) f in
+      either (is DIGIT b)
+      (λ d. steps-on (fraction k ds (m ∷ b ∷ [])) (and-both p (and-both q (digits-one b d))) (λ n. n))
       (λ _. stops (NotIso place))
   sound-step (fraction k ds fs) f =
       let p = and-left (digits ds) (some-fraction fs) f in
       let q = and-right (digits ds) (some-fraction fs) f in
-      if-either (Onward (Number k (ds ++ (fs ++ (b ∷ rest))) cs)) (is DIGIT b)
+      either (is DIGIT b)
       (λ d. steps-on (fraction k ds (fs ++ (b ∷ []))) (and-both p (fraction-more fs b q d)) (λ n. rw (append-assoc fs (b ∷ []) rest) at n))
       (λ _. letter-steps k ds fs p (fraction-right fs q))
   sound-step (unit k) f =
-      if-either (Onward (Following k (b ∷ rest) cs)) (leb DAYS k)
-      (λ l. if-either (Onward (Following k (b ∷ rest) cs)) (eqb b 84)
-      (λ e. steps-on (wanted DAYS) refl (λ n. rw (eqb-true b 84 e) (number-follows DAYS k (84 ∷ []) rest cs (enters-clock k (leb-true DAYS k l)) n .0)))
-      (λ _. stops (NotIso place)))
+      either (leb DAYS k)
+      (λ l. either (eqb b 84) (λ e. clock-steps k (leb-true DAYS k l) (λ s. s .0) (eqb-true b 84 e)) (λ _. stops (NotIso place)))
       (λ l. digit-steps k (λ n. number-follows k k [] (b ∷ rest) cs (enters-same k (leb-false DAYS k l)) n .0))
   sound-step closed f = stops (NotIso place)
 
-sound-from : (text : List ℕ) (s : Stand) (place : ℕ) (cs : List Component) → fine s ≡ true → read-from s place text ≡ got cs → Sound s text cs
+sound-from : (text : List ℕ) → Soundly text
 unfolding read-from
 sound-from [] s place cs f h = sound-end s place cs h
-sound-from (b ∷ rest) s place cs f h = sound-step rest (sound-from rest) place b cs s f h
+sound-from (b ∷ rest) s place cs f h = sound-step rest (sound-from rest) place b cs s f .reach h
 
 pub sound : (text : List ℕ) (cs : List Component) → components text ≡ got cs → (right cs ≡ true) × (spelling cs ≡ text)
 unfolding components fine
