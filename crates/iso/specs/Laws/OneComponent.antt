@@ -52,6 +52,7 @@ one-spelling c rest = c .whole ++ (c .fraction ++ (letter (c .kind) ∷ rest))
 unfoldable pub right-behind : Component → List Component → Bool
 right-behind c cs = if closes c then none cs else right-after (c .kind) cs
 
+-- a right component after one of kind k, and those that follow it
 pub record Right (k : ℕ) (c : Component) (cs : List Component) : Type 0 where
   pub number : right-number c ≡ true
   pub from : SECONDS ≤ c .kind
@@ -76,8 +77,7 @@ right-first k c cs h =
 
 pub first-right : (k : ℕ) (c : Component) (cs : List Component) → Right k c cs → right-after k (c ∷ cs) ≡ true
 unfolding right-after right-behind
-first-right k c cs r =
-    rw (r .number, le-leb SECONDS (c .kind) (r .from), lt-ltb (c .kind) k (r .below)) (r .behind)
+first-right k c cs r = rw (r .number, le-leb SECONDS (c .kind) (r .from), lt-ltb (c .kind) k (r .below)) (r .behind)
 
 -- after weeks nothing follows
 pub open-kind : (c : Component) → closes c ≡ false → c .kind ≡ WEEKS → ⊥

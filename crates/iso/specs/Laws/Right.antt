@@ -29,6 +29,7 @@ pub record Spelt (text : List ℕ) : Type 0 where
   pub spells : spelling parts ≡ text
   pub short : length text ≤ longest-text
 
+-- what is read of it
 pub spelt-read : (text : List ℕ) (t : Spelt text) → read-iso text ≡ held (nanoseconds-of (t .parts))
 unfolding read-iso unless _>>_ _>>=_
 spelt-read text t =
@@ -69,8 +70,11 @@ SpellsMore text = (t : Spelt text) × (seconds-limit * nanoseconds-per-second �
 -- a length is read of exactly the texts that spell it
 pub reads-exactly : (text : List ℕ) (l : Length) → (read-iso text ≡ got l) ↔ Spells text l
 unfolding held if_then_else_
-reads-exactly text l =
-    (read (reads text), λ s. spelt-read text (s .0) ∙ rw (lt-ltb (nanoseconds-of (s .0 .parts)) (seconds-limit * nanoseconds-per-second) (s .1), s .2))
+reads-exactly text l = (
+  read (reads text),
+  λ s.
+      spelt-read text (s .0) ∙ rw (lt-ltb (nanoseconds-of (s .0 .parts)) (seconds-limit * nanoseconds-per-second) (s .1), s .2),
+)
   where
     read : {o : Outcome Length} → Reads text o → o ≡ got l → Spells text l
     read (of-spelt t) h =
@@ -82,8 +86,11 @@ reads-exactly text l =
 -- those that spell more are too large, and no others
 pub too-large-exactly : (text : List ℕ) → (read-iso text ≡ refused TooLarge) ↔ SpellsMore text
 unfolding held if_then_else_
-too-large-exactly text =
-    (read (reads text), λ s. spelt-read text (s .0) ∙ rw (le-ltb (nanoseconds-of (s .0 .parts)) (seconds-limit * nanoseconds-per-second) (s .1)))
+too-large-exactly text = (
+  read (reads text),
+  λ s.
+      spelt-read text (s .0) ∙ rw (le-ltb (nanoseconds-of (s .0 .parts)) (seconds-limit * nanoseconds-per-second) (s .1)),
+)
   where
     read : {o : Outcome Length} → Reads text o → o ≡ refused TooLarge → SpellsMore text
     read (of-spelt t) h =
