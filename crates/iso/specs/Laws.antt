@@ -1,0 +1,2 @@
+-- Laws of the definitions of request one.
+pub mod Stands
