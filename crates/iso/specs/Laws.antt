@@ -1,2 +1,4 @@
 -- Laws of the definitions of request one.
 pub mod Stands
+pub mod Walks
+pub mod Refused
