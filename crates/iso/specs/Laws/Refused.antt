@@ -1,18 +1,21 @@
 -- Where a text is refused, and as what: before that place it begins a text that is read, and with the byte there no more. Assumes nothing.
 use mathlib.Core.Path.{_≡_, refl, sym, ap, _∙_}
-use mathlib.Core.Logic.{_⊎_, inl, inr, ⊎-elim, _≢_}
+use mathlib.Core.Logic.{_⊎_, inl, inr, ⊎-elim, _↔_}
 use mathlib.Core.Bool.{Bool, true, false, not, _&&_, false≢true}
 use mathlib.Core.List.{List, [], _∷_, _++_, append-assoc, append-nil}
-use Prim.Native.Nat.{ℕ, zero, suc, _+_, _-_, _≤_, _<_}
+use Prim.Native.Nat.{ℕ, zero, suc, _+_, _*_, _-_, _≤_, _<_}
 use native.Mathlib.Omega.{arith}
-use lib.Dec.{eqb, leb}
+use lib.Dec.{eqb, leb, ltb}
 use lib.ListN.{length, getD, take, drop, length-append, take-append-drop}
 use lib.Seq.{take-all, take-length, take-take, take-suc, take-append-seam, getD-append-seam, append-snoc, split-at, getD-take, length-take-le}
+use borrow.Author.Tests.{leb-true, leb-false, le-leb, lt-leb}
 use Rattle.rules.specs.declared.Refusal.{Refusal}
 use Rattle.rules.specs.declared.Refusal.the-variants.{NotIso, YearOrMonth, TextTooLong, TooLarge}
 use Rattle.rules.specs.Common.{if_then_else_, between, all}
+use Rattle.rules.specs.ThePartOfTheCrateWeTake.{longest-text, seconds-limit, nanoseconds-per-second}
 use Rattle.rules.specs.SettingsAndUnitTable.{DIGIT, is, class}
-use Rattle.rules.specs.NumbersHandedBack.{Outcome, got, refused, _>>=_, _>>_, unless}
+use Rattle.rules.specs.NumbersHandedBack.{Outcome, got, refused, _>>=_, _>>_, unless, number}
+use Rattle.rules.specs.Laws.Choices.{if-either}
 use Rattle.iso.specs.IsoTimings.{Component, Stand, start, Move, step, may-end, read-from, components, read-iso, held, nanoseconds-of}
 use Rattle.iso.specs.Laws.Stands.{Sane, Stepped, moves, stops, stops-at-year-or-month, stepped, numbered, untimed, completion, completed, ReadsFrom, year-or-month-step}
 use Rattle.iso.specs.Laws.Walks.{Walk, walk-reads, walk-refused, walk-stopped, walk-place, walk-sane, walk-numbered, Way, through, stopped, way}
@@ -31,10 +34,12 @@ Begins bytes = (rest : List ℕ) × Reads (bytes ++ rest)
 abbrev pub At : Refusal → ℕ → Type 0
 At cause place = (cause ≡ NotIso place) ⊎ (cause ≡ YearOrMonth place)
 
--- at the place `Y` or `M` stands straight after a number, and no `T` before it
-pub record AtYearOrMonth (text : List ℕ) (place : ℕ) : Type 0 where
+-- the bytes before the place begin what is meant, and with the byte there no more; it is `Y` or `M`, straight after a number, and no `T` is
+-- before it. (Where such bytes end in a digit, a number ends there.)
+pub record AtYearOrMonth (Begun : List ℕ → Type 0) (text : List ℕ) (place : ℕ) : Type 0 where
   pub within : place < length text
-  pub begun : Begins (take place text)
+  pub begun : Begun (take place text)
+  pub barred : Begun (take (suc place) text) → ⊥
   pub year-or-month : (getD text place 0 ≡ 89) ⊎ (getD text place 0 ≡ 77)
   pub later : 0 < place
   pub after-number : is DIGIT (getD text (place - 1) 0) ≡ true
@@ -117,7 +122,7 @@ pub record Found (text : List ℕ) (cause : Refusal) : Type 0 where
   pub within : place ≤ length text
   pub begun : Begins (take place text)
   pub barred : place < length text → Begins (take (suc place) text) → ⊥
-  pub year-or-month : cause ≡ YearOrMonth place → AtYearOrMonth text place
+  pub year-or-month : cause ≡ YearOrMonth place → AtYearOrMonth Begins text place
 
 module _ {last : Stand} {end : ℕ} {bytes : List ℕ} {cause : Refusal} (b : ℕ) (rest : List ℕ) (w : Walk start 0 bytes last end) (e : step last end b ≡ refused cause) where
   stop : Stepped last (all untimed bytes) end b (refused cause)
@@ -135,7 +140,7 @@ module _ {last : Stand} {end : ℕ} {bytes : List ℕ} {cause : Refusal} (b : �
   one-further : take (suc (length bytes)) (bytes ++ (b ∷ rest)) ≡ bytes ++ (b ∷ [])
   one-further = take-suc (bytes ++ (b ∷ rest)) (length bytes) 0 below ∙ rw (front, getD-append-seam bytes b rest 0)
 
-  found-year-or-month : cause ≡ YearOrMonth (length bytes) → AtYearOrMonth (bytes ++ (b ∷ rest)) (length bytes)
+  found-year-or-month : cause ≡ YearOrMonth (length bytes) → AtYearOrMonth Begins (bytes ++ (b ∷ rest)) (length bytes)
   unfolding untimed
   found-year-or-month h =
       let known = stepped-year-or-month stop h in
@@ -145,6 +150,7 @@ module _ {last : Stand} {end : ℕ} {bytes : List ℕ} {cause : Refusal} (b : �
       record {
         within = below;
         begun = rw front (walk-begins w);
+        barred = λ r. stopped-barred b w e (rw one-further at r);
         year-or-month = rw (getD-append-seam bytes b rest 0) (known .2);
         later = far;
         after-number = rw (← last-byte) (sym (walk-last w) ∙ known .0);
@@ -266,13 +272,13 @@ module _ (text : List ℕ) (begun : Begins text) where
 
 -- ---- a year or a month
 
-pub year-or-month-from : (text : List ℕ) (place : ℕ) → components text ≡ refused (YearOrMonth place) → AtYearOrMonth text place
+pub year-or-month-from : (text : List ℕ) (place : ℕ) → components text ≡ refused (YearOrMonth place) → AtYearOrMonth Begins text place
 year-or-month-from text place e =
     let f = found text (YearOrMonth place) e in
     let here : place ≡ f .place = one-place (inr refl) (f .at) in
     rw here (f .year-or-month (ap YearOrMonth here))
 
-pub year-or-month-to : (text : List ℕ) (place : ℕ) → AtYearOrMonth text place → components text ≡ refused (YearOrMonth place)
+pub year-or-month-to : (text : List ℕ) (place : ℕ) → AtYearOrMonth Begins text place → components text ≡ refused (YearOrMonth place)
 unfolding components untimed
 year-or-month-to text place m =
     let w = begins-walk (take place text) (m .begun) in
@@ -283,3 +289,57 @@ year-or-month-to text place m =
     let stop : step (w .0) (w .1) (getD text place 0) ≡ refused (YearOrMonth place) = rw here (year-or-month-step (w .0) sane ends place (getD text place 0) (m .year-or-month)) in
     let split : text ≡ take place text ++ (getD text place 0 ∷ drop (suc place) text) = split-at text place 0 (m .within) in
     ap (read-from start 0) split ∙ walk-stopped (getD text place 0) (drop (suc place) text) (w .2) stop
+
+pub year-or-month-exactly : (text : List ℕ) (place : ℕ) → (components text ≡ refused (YearOrMonth place)) ↔ AtYearOrMonth Begins text place
+year-or-month-exactly text place = (year-or-month-from text place, year-or-month-to text place)
+
+-- ---- the whole reading: 8 first, then these, 14 last
+
+held-refused : (n : ℕ) (cause : Refusal) → held n ≡ refused cause → cause ≡ TooLarge
+unfolding held
+held-refused n cause = if-either (λ o. o ≡ refused cause → cause ≡ TooLarge) (ltb n (seconds-limit * nanoseconds-per-second)) (λ t e. absurd (not-both refl e)) (λ t e. cc)
+
+-- a text that is too long is refused as that
+pub too-long : (text : List ℕ) → longest-text < length text → read-iso text ≡ refused TextTooLong
+unfolding read-iso unless _>>_ _>>=_
+too-long text h = rw (lt-leb (length text) longest-text h)
+
+module _ (text : List ℕ) (short : length text ≤ longest-text) where
+  short-refused : {cause : Refusal} → components text ≡ refused cause → read-iso text ≡ refused cause
+  unfolding read-iso unless _>>_ _>>=_
+  short-refused e = rw (le-leb (length text) longest-text short, e)
+
+  short-held : {cs : List Component} → components text ≡ got cs → read-iso text ≡ held (nanoseconds-of cs)
+  unfolding read-iso unless _>>_ _>>=_
+  short-held e = rw (le-leb (length text) longest-text short, e)
+
+-- a refusal of the reading is 8 for a text that is too long, that of its components for another, or 14
+pub iso-refused : (text : List ℕ) (cause : Refusal) → read-iso text ≡ refused cause → ((longest-text < length text) × (cause ≡ TextTooLong)) ⊎ ((length text ≤ longest-text) × ((components text ≡ refused cause) ⊎ (Reads text × (cause ≡ TooLarge))))
+iso-refused text cause e = go (leb (length text) longest-text) refl
+  where
+    go : (c : Bool) → leb (length text) longest-text ≡ c → ((longest-text < length text) × (cause ≡ TextTooLong)) ⊎ ((length text ≤ longest-text) × ((components text ≡ refused cause) ⊎ (Reads text × (cause ≡ TooLarge))))
+    go false t =
+        let long : longest-text < length text = leb-false (length text) longest-text t in
+        inl (long, other-cause e (too-long text long))
+    go true t =
+        let short : length text ≤ longest-text = leb-true (length text) longest-text t in
+        inr (
+          short,
+          ⊎-elim (λ g. inr (g, held-refused (nanoseconds-of (g .0)) cause (sym (short-held text short (g .1)) ∙ e)))
+              (λ g. inl (g .1 ∙ ap refused (other-cause (short-refused text short (g .1)) e))) (got-or-refused (components text)),
+        )
+
+number-at : {cause : Refusal} {place : ℕ} → At cause place → (12 ≤ number cause) × (number cause ≤ 13)
+unfolding number
+number-at (inl e) = rw e (omega arith, omega arith)
+number-at (inr e) = rw e (omega arith, omega arith)
+
+-- 12 and 13 are handed back exactly for texts that are not too long and whose components are so refused
+pub iso-refused-at : (text : List ℕ) {cause : Refusal} (place : ℕ) → At cause place → (read-iso text ≡ refused cause) ↔ ((length text ≤ longest-text) × (components text ≡ refused cause))
+unfolding number
+iso-refused-at text {cause} place at = (only, λ h. short-refused text (h .0) (h .1))
+  where
+    only : read-iso text ≡ refused cause → (length text ≤ longest-text) × (components text ≡ refused cause)
+    only e =
+        ⊎-elim (λ h. absurd (omega (arith, number-at at, ap number (h .1))))
+        (λ h. (h .0, ⊎-elim (λ c. c) (λ c. absurd (omega (arith, number-at at, ap number (c .1)))) (h .1))) (iso-refused text cause e)
