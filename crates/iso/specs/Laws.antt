@@ -2,3 +2,4 @@
 pub mod Stands
 pub mod Walks
 pub mod Refused
+pub mod Places
