@@ -1,15 +1,16 @@
 -- Where a text is refused, in the words of what is right. What is read is what is right, both ways, is taken as known. Assumes nothing else.
 use mathlib.Core.Path.{_≡_, sym, ap, _∙_}
-use mathlib.Core.Logic.{_⊎_, _↔_}
+use mathlib.Core.Logic.{_⊎_, ⊎-elim, _↔_}
 use mathlib.Core.Bool.{true}
 use mathlib.Core.List.{List, _++_}
 use Prim.Native.Nat.{ℕ, suc, _<_}
 use lib.ListN.{length, take}
 use Rattle.rules.specs.declared.Refusal.{Refusal}
 use Rattle.rules.specs.declared.Refusal.the-variants.{NotIso, YearOrMonth}
-use Rattle.rules.specs.NumbersHandedBack.{Outcome, got, refused}
+use Rattle.rules.specs.NumbersHandedBack.{got, refused}
 use Rattle.iso.specs.IsoTimings.{Component, right, spelling, components}
-use Rattle.iso.specs.Laws.Refused.{Reads, Begins, At, AtYearOrMonth, refused-begins, refused-barred, refused-unread, refused-there, refused-at-end, year-or-month-from, year-or-month-to}
+use Rattle.iso.specs.Laws.Begins.{Reads, Begins}
+use Rattle.iso.specs.Laws.Refused.{At, AtYearOrMonth, refused-begins, refused-barred, refused-unread, refused-there, refused-at-end, year-or-month-from, year-or-month-to}
 
 -- a right text
 abbrev pub Right : List ℕ → Type 0
@@ -82,3 +83,8 @@ module _ (complete : (cs : List Component) → right cs ≡ true → components 
     λ e. same-beginning begins-right right-begins text place (year-or-month-from text place e),
     λ m. year-or-month-to text place (same-beginning right-begins begins-right text place m),
   )
+
+  -- and no other text that stops there is refused as that
+  pub not-iso-place : (text : List ℕ) (place : ℕ) → place < length text → BeginsRight (take place text) → (BeginsRight (take (suc place) text) → ⊥) → (AtYearOrMonth BeginsRight text place → ⊥) → components text ≡ refused (NotIso place)
+  not-iso-place text place h begun barred other =
+      ⊎-elim (λ e. e) (λ e. absurd (other (year-or-month-place text place .0 e))) (only-place text place h begun barred)

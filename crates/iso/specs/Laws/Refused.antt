@@ -1,13 +1,13 @@
 -- Where a text is refused, and as what: before that place it begins a text that is read, and with the byte there no more. Assumes nothing.
 use mathlib.Core.Path.{_≡_, refl, sym, ap, _∙_}
 use mathlib.Core.Logic.{_⊎_, inl, inr, ⊎-elim, _↔_}
-use mathlib.Core.Bool.{Bool, true, false, not, _&&_, false≢true}
-use mathlib.Core.List.{List, [], _∷_, _++_, append-assoc, append-nil}
-use Prim.Native.Nat.{ℕ, zero, suc, _+_, _*_, _-_, _≤_, _<_}
+use mathlib.Core.Bool.{Bool, true, false, not, false≢true}
+use mathlib.Core.List.{List, [], _∷_, _++_}
+use Prim.Native.Nat.{ℕ, zero, suc, _*_, _-_, _≤_, _<_}
 use native.Mathlib.Omega.{arith}
 use lib.Dec.{eqb, leb, ltb}
-use lib.ListN.{length, getD, take, drop, length-append, take-append-drop}
-use lib.Seq.{take-all, take-length, take-take, take-suc, take-append-seam, getD-append-seam, append-snoc, split-at, getD-take, length-take-le}
+use lib.ListN.{length, getD, take, drop, length-append}
+use lib.Seq.{take-length, take-suc, take-append-seam, getD-append-seam, split-at, getD-take, length-take-le}
 use borrow.Author.Tests.{leb-true, leb-false, le-leb, lt-leb}
 use Rattle.rules.specs.declared.Refusal.{Refusal}
 use Rattle.rules.specs.declared.Refusal.the-variants.{NotIso, YearOrMonth, TextTooLong, TooLarge}
@@ -16,19 +16,12 @@ use Rattle.rules.specs.ThePartOfTheCrateWeTake.{longest-text, seconds-limit, na
 use Rattle.rules.specs.SettingsAndUnitTable.{DIGIT, is, class}
 use Rattle.rules.specs.NumbersHandedBack.{Outcome, got, refused, _>>=_, _>>_, unless, number}
 use Rattle.rules.specs.Laws.Choices.{if-either}
-use Rattle.iso.specs.IsoTimings.{Component, Stand, start, Move, step, may-end, read-from, components, read-iso, held, nanoseconds-of}
-use Rattle.iso.specs.Laws.Stands.{Sane, Stepped, moves, stops, stops-at-year-or-month, stepped, numbered, untimed, completion, completed, ReadsFrom, year-or-month-step}
-use Rattle.iso.specs.Laws.Walks.{Walk, walk-reads, walk-refused, walk-stopped, walk-place, walk-sane, walk-numbered, Way, through, stopped, way}
+use Rattle.iso.specs.IsoTimings.{Component, Stand, start, step, read-from, components, read-iso, held, nanoseconds-of}
+use Rattle.iso.specs.Laws.Stands.{Sane, Stepped, stops, stops-at-year-or-month, stepped, numbered, untimed, year-or-month-step}
+use Rattle.iso.specs.Laws.Begins.{Reads, Begins, not-both, begins-less, start-sane, walk-begins, stopped-barred, begins-walk, walk-ends, whole-begins, whole-taken}
+use Rattle.iso.specs.Laws.Walks.{Walk, walk-stopped, walk-place, walk-sane, walk-numbered, Way, through, stopped, way}
 
--- ---- what is said of a text
-
--- the text is read
-abbrev pub Reads : List ℕ → Type 0
-Reads text = (cs : List Component) × (components text ≡ got cs)
-
--- the bytes begin a text that is read
-abbrev pub Begins : List ℕ → Type 0
-Begins bytes = (rest : List ℕ) × Reads (bytes ++ rest)
+-- ---- what is said of a refusal
 
 -- refused at the place, as no right text or for a year or a month
 abbrev pub At : Refusal → ℕ → Type 0
@@ -45,47 +38,11 @@ pub record AtYearOrMonth (Begun : List ℕ → Type 0) (text : List ℕ) (place 
   pub after-number : is DIGIT (getD text (place - 1) 0) ≡ true
   pub before-clock : all (λ b. not (eqb b 84)) (take place text) ≡ true
 
--- ---- what begins
-
-not-both : {A : Type 0} {o : Outcome A} {a : A} {cause : Refusal} → o ≡ got a → o ≡ refused cause → ⊥
-not-both p q = let z : _≡_ {A = ℕ} 0 1 = cc in omega arith
-
 other-cause : {A : Type 0} {o : Outcome A} {c d : Refusal} → o ≡ refused c → o ≡ refused d → c ≡ d
 other-cause p q = cc
 
 causes-apart : {place other : ℕ} → NotIso place ≡ YearOrMonth other → ⊥
 causes-apart p = let z : _≡_ {A = ℕ} 0 1 = cc in omega arith
-
-begins-front : (front back : List ℕ) → Begins (front ++ back) → Begins front
-begins-front front back r = (back ++ r .0, (r .1 .0, rw (← append-assoc front back (r .0)) (r .1 .1)))
-
--- what begins with more bytes begins with fewer
-pub begins-less : (m n : ℕ) (text : List ℕ) → m ≤ n → Begins (take n text) → Begins (take m text)
-begins-less m n text h r =
-    let split : take n text ≡ take m text ++ drop m (take n text) = sym (take-append-drop m (take n text)) ∙ ap (λ l. l ++ drop m (take n text)) (take-take m n text h) in
-    begins-front (take m text) (drop m (take n text)) (rw split at r)
-
-start-sane : Sane start true
-unfolding Sane
-start-sane = refl
-
-walk-begins : {last : Stand} {end : ℕ} {bytes : List ℕ} → Walk start 0 bytes last end → Begins bytes
-unfolding components
-walk-begins {last} {end} {bytes} w = (completion last, walk-reads (completion last) w (completed last (true && all untimed bytes) (walk-sane true start-sane w) end))
-
-stopped-barred : {last : Stand} {end : ℕ} {bytes : List ℕ} {cause : Refusal} (b : ℕ) → Walk start 0 bytes last end → step last end b ≡ refused cause → Begins (bytes ++ (b ∷ [])) → ⊥
-unfolding components
-stopped-barred {bytes = bytes} b w e r = not-both (rw (append-snoc bytes b (r .0)) at (r .1 .1)) (walk-stopped b (r .0) w e)
-
-walked : (bytes : List ℕ) → Way start 0 bytes → Begins bytes → (last : Stand) × (end : ℕ) × Walk start 0 bytes last end
-walked bytes (through {last} {end} w) r = (last, end, w)
-walked bytes (stopped {bytes = front} b rest split w e) r =
-    let split′ : bytes ≡ (front ++ (b ∷ [])) ++ rest = split ∙ sym (append-snoc front b rest) in
-    absurd (stopped-barred b w e (begins-front (front ++ (b ∷ [])) rest (rw split′ at r)))
-
--- the bytes that begin a text that is read walk
-begins-walk : (bytes : List ℕ) → Begins bytes → (last : Stand) × (end : ℕ) × Walk start 0 bytes last end
-begins-walk bytes = walked bytes (way start 0 bytes)
 
 -- ---- what a refusal says
 
@@ -167,20 +124,6 @@ module _ {last : Stand} {end : ℕ} {bytes : List ℕ} {cause : Refusal} (b : �
     year-or-month = found-year-or-month;
   }
 
--- a text that walks to its end is read, or refused there
-walk-ends : {last : Stand} {end : ℕ} (text : List ℕ) → Walk start 0 text last end → Reads text ⊎ (components text ≡ refused (NotIso (length text)))
-unfolding components read-from if_then_else_
-walk-ends {last} {end} text w = go (may-end last) refl
-  where
-    go : (c : Bool) → may-end last ≡ c → Reads text ⊎ (components text ≡ refused (NotIso (length text)))
-    go true e =
-        let whole : ReadsFrom start 0 (text ++ []) = walk-reads [] w ([], rw e) in
-        inl (whole .0, rw append-nil at (whole .1))
-    go false e =
-        let here : end ≡ length text = omega (arith, walk-place w) in
-        let whole : read-from start 0 (text ++ []) ≡ refused (NotIso end) = walk-refused [] w (rw e) in
-        inr (rw (append-nil, here) at whole)
-
 found-ended : (text : List ℕ) (cause : Refusal) → Begins text → cause ≡ NotIso (length text) → Found text cause
 found-ended text cause r e = record {
   place = length text;
@@ -237,12 +180,6 @@ module _ (text : List ℕ) {cause : Refusal} (place : ℕ) (at : At cause place)
 got-or-refused : {A : Type 0} (o : Outcome A) → ((a : A) × (o ≡ got a)) ⊎ ((cause : Refusal) × (o ≡ refused cause))
 got-or-refused (got a) = inl (a, refl)
 got-or-refused (refused cause) = inr (cause, refl)
-
-whole-begins : (text : List ℕ) → Reads text → Begins text
-whole-begins text r = ([], (r .0, rw append-nil (r .1)))
-
-whole-taken : (n : ℕ) (text : List ℕ) → Begins text → n ≤ length text → Begins (take n text)
-whole-taken n text r h = begins-less n (length text) text h (rw take-length r)
 
 module _ (text : List ℕ) (place : ℕ) (within : place < length text) (begun : Begins (take place text)) (barred : Begins (take (suc place) text) → ⊥) where
   same-place : {cause : Refusal} (f : Found text cause) → f .place ≡ place

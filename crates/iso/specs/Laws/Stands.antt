@@ -4,18 +4,16 @@ use mathlib.Core.Path.{_≡_, refl, sym, ap, _∙_}
 use mathlib.Core.Logic.{_⊎_, inl, inr, ⊎-elim}
 use mathlib.Core.Bool.{Bool, true, false, not, _&&_, _||_, false≢true}
 use mathlib.Core.List.{List, [], _∷_, _++_}
-use Prim.Native.Nat.{ℕ, zero, suc, _+_, _-_, _≤_, _<_}
+use Prim.Native.Nat.{ℕ, suc, _≤_, _<_}
 use native.Mathlib.Omega.{arith}
 use lib.Dec.{leb, ltb, eqb}
-use lib.ListN.{length, getD}
-use borrow.Author.Tests.{eqb-true, eqb-false, leb-true, leb-false, le-leb, lt-leb, lt-ltb, ne-eqb}
-use Rattle.rules.specs.declared.Refusal.{Refusal}
+use borrow.Author.Tests.{eqb-true, eqb-false, leb-true, leb-false, lt-leb, lt-ltb, ne-eqb}
 use Rattle.rules.specs.declared.Refusal.the-variants.{NotIso, YearOrMonth}
-use Rattle.rules.specs.Common.{if_then_else_, between, all}
+use Rattle.rules.specs.Common.{if_then_else_, between}
 use Rattle.rules.specs.SettingsAndUnitTable.{DIGIT, is, class}
 use Rattle.rules.specs.NumbersHandedBack.{Outcome, got, refused, _>>=_}
 use Rattle.rules.specs.Laws.Choices.{if-either, and-left, and-right}
-use Rattle.rules.specs.Laws.Tests.{and-assoc, and-true, and-false, between-from}
+use Rattle.rules.specs.Laws.Tests.{and-true, and-false, between-from}
 use Rattle.iso.specs.IsoTimings.{SECONDS, DAYS, WEEKS, ANY, Component, Stand, start, date, wanted, whole, mark, fraction, unit, closed, Move, none, is-mark, closes, on, kind-of, may-come, year-or-month, digit-step, after-letter, letter-step, step, may-end, read-from}
 
 -- ---- what a step keeps

@@ -1,18 +1,16 @@
 -- A walk is the moves that bytes make from stand to stand. Every text walks to its end, or to a byte that is refused. Assumes nothing.
-use mathlib.Core.Path.{_≡_, refl, sym, ap, _∙_}
-use mathlib.Core.Logic.{_⊎_, inl, inr}
-use mathlib.Core.Bool.{Bool, true, false, _&&_}
+use mathlib.Core.Path.{_≡_, refl, ap}
+use mathlib.Core.Bool.{Bool, _&&_}
 use mathlib.Core.List.{List, [], _∷_, _++_}
-use Prim.Native.Nat.{ℕ, zero, suc, _+_, _≤_, _<_}
+use Prim.Native.Nat.{ℕ, suc, _+_}
 use native.Mathlib.Omega.{arith}
 use lib.ListN.{length, getD}
 use Rattle.rules.specs.declared.Refusal.{Refusal}
-use Rattle.rules.specs.declared.Refusal.the-variants.{NotIso, YearOrMonth}
-use Rattle.rules.specs.Common.{if_then_else_, all}
+use Rattle.rules.specs.Common.{all}
 use Rattle.rules.specs.SettingsAndUnitTable.{DIGIT, is}
 use Rattle.rules.specs.NumbersHandedBack.{Outcome, got, refused, _>>=_}
 use Rattle.rules.specs.Laws.Tests.{and-assoc, and-true}
-use Rattle.iso.specs.IsoTimings.{Component, Stand, Move, step, may-end, read-from}
+use Rattle.iso.specs.IsoTimings.{Stand, Move, step, read-from}
 use Rattle.iso.specs.Laws.Stands.{Sane, Stepped, moves, stepped, numbered, untimed, ReadsFrom, one-more}
 
 -- from a stand at a place the bytes lead to a stand at a place
