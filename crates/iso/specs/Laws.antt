@@ -6,4 +6,9 @@ pub mod Complete
 pub mod Sound
 pub mod Causes
 pub mod Right
+pub mod Stands
+pub mod Walks
+pub mod Begins
+pub mod Refused
+pub mod Places
 pub mod Worth
