@@ -19,7 +19,8 @@ use Rattle.rules.specs.Laws.Tests.{eqb-sym}
 use Rattle.rules.specs.Laws.Texts.{run-from, run-within, sees-here, sees-end, sees-in}
 use Rattle.value.specs.Digits.{run-end, run-passes}
 use Rattle.iso.specs.IsoTimings.{Component, Stand, Move, start, date, wanted, whole, mark, fraction, unit, closed, none, is-mark, on, kind-of, may-come, year-or-month, digit-step, after-letter, letter-step, step, may-end, read-from}
-use Rattle.iso.specs.Laws.Runs.{goes-on, wanted-run, fraction-run}
+use Rattle.iso.specs.Laws.Letters.{mark-not-digit}
+use Rattle.iso.specs.Laws.Runs.{goes-on, wanted-run, mark-run}
 use Rattle.iso_reader.specs.declared.components.Typed.{Typed}
 use Rattle.iso_reader.specs.declared.components.Counted.{Counted}
 use Rattle.iso_reader.specs.declared.components.NumberRead.{NumberRead}
@@ -101,14 +102,6 @@ run-ends test text place = ap (starts test) (sym (drop-drop (front test (drop pl
 
 -- ---- the pieces of a number
 
-digit-no-mark : (b : ℕ) → is-mark b ≡ true → is DIGIT b ≡ false
-unfolding is-mark is class between if_then_else_
-digit-no-mark b h = go (eqb b 46) refl
-  where
-    go : (c : Bool) → eqb b 46 ≡ c → is DIGIT b ≡ false
-    go true e = rw (eqb-true b 46 e)
-    go false e = rw (eqb-true b 44 (rw e at h))
-
 pub sees-byte : (text : List ℕ) (place b : ℕ) → place < length text → eqb (getD text place 0) b ≡ sees (eqb b) text place
 sees-byte text place b h = eqb-sym (getD text place 0) b ∙ sym (sees-here (eqb b) text place h)
 
@@ -135,19 +128,12 @@ module _ (k : ℕ) where
 
     pub whole-mark : (b : ℕ) (rest : List ℕ) → is-mark b ≡ true → read-from (mark k ds b) (suc place) rest ≡ read-from (whole k ds) place (b ∷ rest)
     unfolding step if_then_else_
-    whole-mark b rest m = sym (goes-on (whole k ds) (mark k ds b) place b rest (rw (digit-no-mark b m, m)))
+    whole-mark b rest m = sym (goes-on (whole k ds) (mark k ds b) place b rest (rw (mark-not-digit b m, m)))
 
     pub none-marked : (b : ℕ) (rest : List ℕ) → starts (is DIGIT) rest ≡ false → refused (NotIso place) ≡ read-from (mark k ds b) place rest
     unfolding read-from step starts may-end if_then_else_ _>>=_
     none-marked b [] e = refl
     none-marked b (x ∷ rest) e = rw e
-
-    pub mark-run : (b : ℕ) (xs rest : List ℕ) → none xs ≡ false → all (is DIGIT) xs ≡ true → read-from (mark k ds b) place (xs ++ rest) ≡ read-from (fraction k ds (b ∷ xs)) (place + length xs) rest
-    unfolding none step if_then_else_
-    mark-run b [] rest some h = absurd (false≢true (sym some))
-    mark-run b (x ∷ xs) rest some h =
-        goes-on (mark k ds b) (fraction k ds (b ∷ x ∷ [])) place x (xs ++ rest) (rw (all-first (is DIGIT) x xs h))
-        ∙ (fraction-run k ds (b ∷ x ∷ []) xs rest (suc place) (all-others (is DIGIT) x xs h) ∙ rw (suc-add, add-suc))
 
     pub fraction-letter : (fs rest : List ℕ) → starts (is DIGIT) rest ≡ false → letter-from k ds fs place rest ≡ read-from (fraction k ds fs) place rest
     unfolding letter-from read-from step starts may-end if_then_else_
@@ -249,7 +235,7 @@ module _ (text : List ℕ) (place : ℕ) where
             let behind : point + 1 + length (slice (point + 1) end text) ≡ end = omega (arith, fs-length) in
             rw fraction-is
             (fraction-letter k (slice place point text) end (b ∷ slice (point + 1) end text) (drop end text) (rw to (run-ends (is DIGIT) text (point + 1)))
-            ∙ sym (mark-run k (slice place point text) (point + 1) b (slice (point + 1) end text) (drop end text) (none-short (slice (point + 1) end text) (omega (arith, fs-length))) decimals-pass
+            ∙ sym (mark-run k (slice place point text) b (slice (point + 1) end text) (drop end text) (point + 1) (none-short (slice (point + 1) end text) (omega (arith, fs-length))) decimals-pass
             ∙ ap (λ p. read-from (fraction k (slice place point text) (b ∷ slice (point + 1) end text)) p (drop end text)) behind)
             ∙ ap (read-from (mark k (slice place point text) b) (point + 1)) (split text (point + 1) end (omega arith) end-within)
             ∙ mark-read k)
