@@ -1,2 +1,4 @@
 -- What the contracts of the ISO reader need besides the definitions of request one, and laws of those definitions.
 pub mod Steps
+pub mod Due
+pub mod Tenths

@@ -1,2 +1,3 @@
 // The reader of ISO timings.
 pub mod components;
+pub mod worth;

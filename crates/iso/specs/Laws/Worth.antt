@@ -17,7 +17,7 @@ ten-pos : (k : ℕ) → 0 < 10 ^ k
 ten-pos k = one-le-pow k 10 (lit< tt)
 
 -- what is whole comes out of a division
-whole-out : (a b n : ℕ) → (a * 10 ^ n + b) / 10 ^ n ≡ a + b / 10 ^ n
+pub whole-out : (a b n : ℕ) → (a * 10 ^ n + b) / 10 ^ n ≡ a + b / 10 ^ n
 whole-out a b n = ap (λ x. x / 10 ^ n) (add-comm (a * 10 ^ n) b) ∙ add-mul-div-right b a (ten-pos n) ∙ add-comm (b / 10 ^ n) a
 
 -- digits before the mark and digits after it, so many nanoseconds each, in the decimals of all
