@@ -2,3 +2,4 @@
 pub mod Steps
 pub mod Due
 pub mod Tenths
+pub mod Sums

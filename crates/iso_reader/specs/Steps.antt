@@ -65,6 +65,9 @@ component-outcome text (ComponentRead.Got c) =
     read-from (after-letter (component-of text c)) (c .typed .end + 1) (drop (c .typed .end + 1) text) >>= λ cs. got (component-of text c ∷ cs)
 component-outcome text (ComponentRead.Refused cause) = refused cause
 
+abbrev pub found : Counted → ComponentRead
+found c = ComponentRead.Got c
+
 -- a number, then a letter of a kind that may come
 pub record Lettered (below : ℕ) (text : List ℕ) (c : Counted) : Type 0 where
   pub number : Within text (c .typed)

@@ -1,3 +1,4 @@
 // The reader of ISO timings.
 pub mod components;
 pub mod worth;
+pub mod reader;
