@@ -3,3 +3,4 @@ pub mod Steps
 pub mod Due
 pub mod Tenths
 pub mod Sums
+pub mod Answers

@@ -15,7 +15,7 @@ use Rattle.rules.specs.declared.Length.{Length}
 use Rattle.rules.specs.declared.Refusal.the-variants.{NotIso}
 use Rattle.rules.specs.Common.{if_then_else_, between, sees, starts}
 use Rattle.rules.specs.NumbersHandedBack.{Outcome, got, refused, _>>=_}
-use Rattle.rules.specs.Laws.Outcomes.{bind-got}
+use Rattle.rules.specs.Laws.Outcomes.{bind-got, bind-refused}
 use Rattle.rules.specs.Laws.Tests.{between-in, eqb-sym}
 use Rattle.rules.specs.Laws.Texts.{sees-in, sees-here}
 use Rattle.rules.specs.Evaluation.{spelled}
@@ -24,6 +24,7 @@ use Rattle.value.specs.declared.digits.Word.the-variants as Word
 use Rattle.iso.specs.IsoTimings.{Component, Stand, DAYS, ANY, SECONDS, WEEKS, start, date, wanted, whole, mark, fraction, unit, closed, none, closes, decimals, seconds-of, nanoseconds-of, may-come, after-letter, digit-step, step, on, may-end, read-from, components, held}
 use Rattle.iso.specs.Laws.Runs.{goes-on}
 use Rattle.iso.specs.Laws.Letters.{came-date, came-below}
+use Rattle.iso.specs.Laws.OneComponent.{open-kind}
 use Rattle.iso.specs.Laws.Worth.{whole-worth, fraction-worth, worth-first, worth-none}
 use Rattle.iso_reader.specs.declared.components.Counted.{Counted}
 use Rattle.iso_reader.specs.Steps.{Within, Lettered, component-of, component-outcome, found}
@@ -233,3 +234,18 @@ module _ (text : List ℕ) (c : Counted) (known : Sized text c) (total sum : Wor
   -- another one
   pub sum-goes-on : c .kind < 6 → c .typed .end + 1 < length text → summed (read-from (wanted (c .kind)) (c .typed .end + 1) (drop (c .typed .end + 1) text)) sum ≡ summed (component-outcome text (found c)) total
   sum-goes-on k h = ap (λ read. summed read sum) (sym (unit-number text (c .typed .end + 1) (c .kind) k h)) ∙ sum-open text c known total sum added more
+
+  -- `T` after days, and something else
+  pub sum-clock : c .kind ≡ 6 → sees (eqb 84) text (c .typed .end + 1) ≡ true → summed (read-from (wanted 6) (c .typed .end + 1 + 1) (drop (c .typed .end + 1 + 1) text)) sum ≡ summed (component-outcome text (found c)) total
+  sum-clock k e =
+      ap (λ read. summed read sum) (sym (rw k (unit-clock text (c .typed .end + 1) e))) ∙ sum-open text c known total sum added more
+
+  pub sum-no-clock : c .kind ≡ 6 → c .typed .end + 1 < length text → sees (eqb 84) text (c .typed .end + 1) ≡ false → refused (NotIso (c .typed .end + 1)) ≡ summed (component-outcome text (found c)) total
+  sum-no-clock k h e = sym (bind-refused _ (rw k (unit-refused text (c .typed .end + 1) h e))) ∙ sum-open text c known total sum added more
+
+-- a first component that does not close is of days
+pub days : (text : List ℕ) (c : Counted) → Lettered 8 text c → closes (component-of text c) ≡ false → c .kind ≡ 6
+days text c l e =
+    let kind = came-date (c .kind) (l .comes) in
+    let other = open-kind (component-of text c) e in
+    omega (arith, kind .0, kind .1, other)

@@ -1,4 +1,4 @@
 // The reader of ISO timings.
 pub mod components;
-pub mod worth;
 pub mod reader;
+pub mod worth;

@@ -51,8 +51,12 @@ pub fn add(total: Word, number: Word, unit: u64) -> Word
     requires { ⌜ 0 < unit ⌝ }
     ensures { λ r. ⌜ ((w n : ℕ) → number ≡ as-word w → due r n ≡ due total (w * unit * 10 ^ 9 + n)) ⌝ }
 {
-    let Word::Fits(seconds) = total else { return Word::TooLarge; };
-    let Word::Fits(count) = number else { return Word::TooLarge; };
+    let Word::Fits(seconds) = total else {
+        return Word::TooLarge;
+    };
+    let Word::Fits(count) = number else {
+        return Word::TooLarge;
+    };
     if count > (MOST_SECONDS - seconds) / unit {
         return Word::TooLarge;
     }
@@ -86,7 +90,9 @@ pub fn fraction_nanoseconds(text: &[u8], start: usize, end: usize, unit: u64) ->
 pub fn length_of(total: Word, nanoseconds: u64) -> TotalRead
     ensures { λ r. ⌜ outcomes.total r ≡ due total nanoseconds ⌝ }
 {
-    let Word::Fits(seconds) = total else { return TotalRead::Refused(Refusal::TooLarge); };
+    let Word::Fits(seconds) = total else {
+        return TotalRead::Refused(Refusal::TooLarge);
+    };
     let more = nanoseconds / NANOSECONDS_PER_SECOND;
     if more > MOST_SECONDS - seconds {
         return TotalRead::Refused(Refusal::TooLarge);
