@@ -107,7 +107,7 @@ unfolding fraction-digits no-trailing-zeros decimals before-zeros if_then_else_
 no-decimals = refl
 
 -- the decimals of nanoseconds stand behind a point unless the nanoseconds are 0
-behind-is : (x : ℕ) (d : Decimal) → x < 10 ^ 9 → fraction-digits x ≡ decimals (d .count) (d .number) → behind-point d ≡ written-fraction x
+pub behind-is : (x : ℕ) (d : Decimal) → x < 10 ^ 9 → fraction-digits x ≡ decimals (d .count) (d .number) → behind-point d ≡ written-fraction x
 unfolding behind-point written-fraction if_then_else_ fraction-digits
 behind-is x d h e = go (eqb x 0) (eqb (d .count) 0) refl refl
   where

@@ -1,0 +1,269 @@
+-- What is written of a component and of a length, from their digits; and what the writer answers, in the order of its refusals. A byte
+-- is written as its number: 72 is `H`, 77 `M`, 80 `P`, 83 `S`, 84 `T`. Assumes nothing.
+use mathlib.Core.Path.{_≡_, refl, sym, ap, ap₂, _∙_}
+use mathlib.Core.Bool.{Bool, true, false, not, _&&_, _||_, false≢true}
+use mathlib.Core.List.{List, [], _∷_, _++_, append-assoc, append-nil}
+use Prim.Native.Nat.{ℕ, _+_, _*_, _-_, _/_, _%_, _^_, _≤_, _<_}
+use native.Mathlib.Omega.{arith}
+use borrow.Author.Tests.{le-leb, lt-leb, eqb-true, eqb-false, eq-eqb, ne-eqb}
+use lib.Dec.{eqb}
+use lib.ListN.{length, set, length-append, length-set}
+use Rattle.rules.specs.declared.Length.{Length}
+use Rattle.rules.specs.declared.Refusal.the-variants.{NegativeForbidden, NoRoom, Beyond, Malformed}
+use Rattle.rules.specs.Common.{if_then_else_}
+use Rattle.rules.specs.NumbersHandedBack.{_>>_, unless, done, refusal, answered}
+use Rattle.rules.specs.ThePartOfTheCrateWeTake.{size, well-formed}
+use Rattle.rules.specs.WriterAndShiftTotal.{decimals, whole-digits, fraction-digits, written-fraction}
+use Rattle.rules.specs.Laws.Choices.{and-left, and-right, if-either}
+use Rattle.rules.specs.Laws.Tests.{and-false}
+use Rattle.iso.specs.IsoTimings.{Component, SECONDS, MINUTES, HOURS, ANY, component, unless-zero, components-of, letters, letter, clock-mark, spelling-after, spelling, iso-written, writing-iso, iso-buffer-after, iso-write-answer, iso-written-buffer}
+use Rattle.writing.specs.Digits.{decimals-length}
+use Rattle.writing.specs.Forms.{fraction-size, fraction-size-most, behind-point, behind-length, behind-is}
+use Rattle.writing.specs.Laid.{laid, laid-then, laid-on, laid-byte, laid-nothing, laid-length}
+use Rattle.iso_writer.specs.declared.writer.Part.{Part}
+use Rattle.iso_writer.specs.declared.writer.Form.{Form}
+
+-- ---- a component
+
+-- one of zero is left out, unless it is needed
+unfoldable pub shown : Bool → ℕ → ℕ → Bool
+shown needed number nanoseconds = needed || not (eqb number 0 && eqb nanoseconds 0)
+
+-- what is written of one
+unfoldable pub written-part : ℕ → Bool → ℕ → ℕ → List ℕ
+written-part unit needed number nanoseconds =
+    if shown needed number nanoseconds then whole-digits number ++ written-fraction nanoseconds ++ unit ∷ [] else []
+
+-- its digits are counted: so many bytes, and these
+unfoldable pub part-size : Part → ℕ
+part-size p = if p .shown then p .whole .count + fraction-size (p .decimals .count) + 1 else 0
+
+unfoldable pub part-bytes : Part → List ℕ
+part-bytes p =
+    if p .shown then decimals (p .whole .count) (p .whole .number) ++ behind-point (p .decimals) ++ p .letter ∷ [] else []
+
+-- no more digits than a number of 64 bits and nanoseconds have
+abbrev pub Small : Part → Type 0
+Small p = (p .whole .count ≤ 20) × (p .decimals .count ≤ 9)
+
+module _ (p : Part) where
+  pub part-length : length (part-bytes p) ≡ part-size p
+  unfolding part-bytes part-size if_then_else_
+  part-length = go (p .shown)
+    where
+      go :
+          (b : Bool)
+          → length (if b then decimals (p .whole .count) (p .whole .number) ++ behind-point (p .decimals) ++ p .letter ∷ [] else [])
+          ≡ (if b then p .whole .count + fraction-size (p .decimals .count) + 1 else 0)
+      go true = simp (length-append, decimals-length, behind-length) (omega arith)
+      go false = refl
+
+  pub part-most : Small p → part-size p ≤ 31
+  unfolding part-size
+  part-most small =
+      if-either (λ n. n ≤ 31) (p .shown) (λ _. omega (arith, small .0, fraction-size-most (p .decimals .count) (small .1))) (λ _. omega arith)
+
+  -- laid over a buffer with room for it, it changes no length
+  pub part-kept : (buffer after : List ℕ) (place : ℕ) → after ≡ laid buffer place (part-bytes p) → place + part-size p ≤ length buffer → length after ≡ length buffer
+  part-kept buffer after place e room = ap length e ∙ laid-length buffer place (part-bytes p) (omega (arith, part-length))
+
+  module _ (out : p .shown ≡ false) where
+    pub left-size : 0 ≡ part-size p
+    unfolding part-size if_then_else_
+    left-size = rw out
+
+    pub left-bytes : [] ≡ part-bytes p
+    unfolding part-bytes if_then_else_
+    left-bytes = rw out
+
+  module _ (some : p .shown ≡ true) where
+    pub shown-size : p .whole .count + fraction-size (p .decimals .count) + 1 ≡ part-size p
+    unfolding part-size if_then_else_
+    shown-size = rw some
+
+    shown-bytes : decimals (p .whole .count) (p .whole .number) ++ behind-point (p .decimals) ++ p .letter ∷ [] ≡ part-bytes p
+    unfolding part-bytes if_then_else_
+    shown-bytes = rw some
+
+    -- the digits, behind them the decimals, and behind them the letter
+    pub part-laid :
+        (buffer : List ℕ) (place : ℕ)
+        → place + part-size p ≤ length buffer
+        → set (laid (laid buffer place (decimals (p .whole .count) (p .whole .number))) (place + p .whole .count) (behind-point (p .decimals)))
+        (place + p .whole .count + fraction-size (p .decimals .count)) (p .letter)
+        ≡ laid buffer place (part-bytes p)
+    part-laid buffer place room =
+        let digits : List ℕ = decimals (p .whole .count) (p .whole .number) in
+        let point : ℕ = place + p .whole .count in
+        let last : ℕ = point + fraction-size (p .decimals .count) in
+        let count = decimals-length (p .whole .count) (p .whole .number) in
+        ap (λ b. set b last (p .letter)) (laid-then buffer place point digits (behind-point (p .decimals)) (omega (arith, count)) (omega arith))
+        ∙ laid-byte buffer place last (digits ++ behind-point (p .decimals)) (p .letter)
+        (omega (arith, count, behind-length (p .decimals), length-append digits (behind-point (p .decimals))))
+        (omega (arith, shown-size))
+        ∙ ap (laid buffer place) shown-bytes
+
+-- the digits that were counted are those that are written
+module _ (p : Part) (needed : Bool) (number nanoseconds : ℕ) (short : nanoseconds < 10 ^ 9) where
+  pub part-is :
+      p .shown ≡ shown needed number nanoseconds
+      → (shown needed number nanoseconds ≡ true → (whole-digits number ≡ decimals (p .whole .count) (p .whole .number)) × (fraction-digits nanoseconds ≡ decimals (p .decimals .count) (p .decimals .number)))
+      → part-bytes p ≡ written-part (p .letter) needed number nanoseconds
+  unfolding part-bytes written-part if_then_else_
+  part-is same digits = rw same (go (shown needed number nanoseconds) digits)
+    where
+      go :
+          (b : Bool)
+          → (b ≡ true → (whole-digits number ≡ decimals (p .whole .count) (p .whole .number)) × (fraction-digits nanoseconds ≡ decimals (p .decimals .count) (p .decimals .number)))
+          → (if b then decimals (p .whole .count) (p .whole .number) ++ behind-point (p .decimals) ++ p .letter ∷ [] else [])
+          ≡ (if b then whole-digits number ++ written-fraction nanoseconds ++ p .letter ∷ [] else [])
+      go true e = rw (e refl .0, behind-is nanoseconds (p .decimals) short (e refl .1))
+      go false e = refl
+
+-- ---- a length
+
+abbrev pub FewDigits : Form → Type 0
+FewDigits f = Small (f .hours) × Small (f .minutes) × Small (f .seconds)
+
+abbrev pub form-size : Form → ℕ
+form-size f = 2 + part-size (f .hours) + part-size (f .minutes) + part-size (f .seconds)
+
+unfoldable pub form-bytes : Form → List ℕ
+form-bytes f = 80 ∷ 84 ∷ (part-bytes (f .hours) ++ part-bytes (f .minutes) ++ part-bytes (f .seconds))
+
+pub form-length : (f : Form) → length (form-bytes f) ≡ form-size f
+unfolding form-bytes
+form-length f = simp (length-append, part-length) (omega arith)
+
+-- `P` and `T`, and one component behind another
+pub form-laid :
+    (f : Form) (buffer : List ℕ) (place after-hours after-minutes : ℕ)
+    → after-hours ≡ place + 1 + 1 + part-size (f .hours)
+    → after-minutes ≡ after-hours + part-size (f .minutes)
+    → place + form-size f ≤ length buffer
+    → laid (laid (laid (set (set buffer place 80) (place + 1) 84) (place + 1 + 1) (part-bytes (f .hours))) after-hours (part-bytes (f .minutes))) after-minutes (part-bytes (f .seconds))
+    ≡ laid buffer place (form-bytes f)
+unfolding form-bytes
+form-laid f buffer place after-hours after-minutes h m room =
+    let hours : List ℕ = part-bytes (f .hours) in
+    let minutes : List ℕ = part-bytes (f .minutes) in
+    let seconds : List ℕ = part-bytes (f .seconds) in
+    let first : List ℕ = set buffer place 80 in
+    let second : List ℕ = set first (place + 1) 84 in
+    let kept : length first ≡ length buffer = length-set buffer place 80 in
+    let kept-too : length second ≡ length first = length-set first (place + 1) 84 in
+    ap (λ b. laid b after-minutes seconds) (laid-then second (place + 1 + 1) after-hours hours minutes (omega (arith, part-length (f .hours))) (omega arith))
+    ∙ laid-then second (place + 1 + 1) after-minutes (hours ++ minutes) seconds
+    (omega (arith, part-length (f .hours), part-length (f .minutes), length-append hours minutes)) (omega arith)
+    ∙ laid-on first (place + 1) 84 (hours ++ minutes ++ seconds) (omega arith)
+    ∙ laid-on buffer place 80 (84 ∷ (hours ++ minutes ++ seconds)) (omega arith)
+
+-- ---- what is written of a length, component by component
+
+module _ (hours minutes seconds nanoseconds : ℕ) where
+  -- those that are not left out, of which there is one at least: `T` stands before the first
+  in-order :
+      (no-hours no-minutes no-seconds : Bool)
+      → (no-hours ≡ true → no-minutes ≡ true → no-seconds ≡ true → ⊥)
+      → spelling
+      ((if no-hours then [] else component HOURS hours 0 ∷ [])
+      ++ (if no-minutes then [] else component MINUTES minutes 0 ∷ [])
+      ++ (if no-seconds then [] else component SECONDS seconds nanoseconds ∷ []))
+      ≡ 80 ∷ 84
+      ∷ ((if not no-hours then whole-digits hours ++ written-fraction 0 ++ 72 ∷ [] else [])
+      ++ (if not no-minutes then whole-digits minutes ++ written-fraction 0 ++ 77 ∷ [] else [])
+      ++ (if not no-seconds then whole-digits seconds ++ written-fraction nanoseconds ++ 83 ∷ [] else []))
+  unfolding spelling spelling-after clock-mark letter letters component if_then_else_
+  in-order true true true some = absurd (some refl refl refl)
+  in-order true true false some = simp append-assoc
+  in-order true false true some = simp (append-assoc, append-nil)
+  in-order true false false some = simp append-assoc
+  in-order false true true some = simp (append-assoc, append-nil)
+  in-order false true false some = simp append-assoc
+  in-order false false true some = simp (append-assoc, append-nil)
+  in-order false false false some = simp append-assoc
+
+pub in-parts :
+    (l : Length)
+    → iso-written l
+    ≡ 80 ∷ 84
+    ∷ (written-part 72 false (l .seconds / 3600) 0
+    ++ written-part 77 false (l .seconds / 60 % 60) 0
+    ++ written-part 83 (eqb (l .seconds) 0) (l .seconds % 60) (l .nanoseconds))
+unfolding iso-written components-of unless-zero written-part shown size if_then_else_
+in-parts l = go (eqb (size l) 0) refl
+  where
+    hours : ℕ
+    hours = l .seconds / 3600
+
+    minutes : ℕ
+    minutes = l .seconds / 60 % 60
+
+    seconds : ℕ
+    seconds = l .seconds % 60
+
+    none : Bool
+    none = eqb seconds 0 && eqb (l .nanoseconds) 0
+
+    written : Bool → List ℕ
+    written needed =
+        80 ∷ 84
+        ∷ (written-part 72 false hours 0
+        ++ written-part 77 false minutes 0
+        ++ (if needed || not none then whole-digits seconds ++ written-fraction (l .nanoseconds) ++ 83 ∷ [] else []))
+
+    nothing : eqb hours 0 && true ≡ true → eqb minutes 0 && true ≡ true → none ≡ true → size l ≡ 0
+    nothing h m s =
+        let no-hours = eqb-true hours 0 (and-left (eqb hours 0) true h) in
+        let no-minutes = eqb-true minutes 0 (and-left (eqb minutes 0) true m) in
+        let no-seconds = eqb-true seconds 0 (and-left (eqb seconds 0) (eqb (l .nanoseconds) 0) s) in
+        omega (arith, no-hours, no-minutes, no-seconds, eqb-true (l .nanoseconds) 0 (and-right (eqb seconds 0) (eqb (l .nanoseconds) 0) s))
+
+    -- where the length has no seconds, it has nanoseconds
+    needless : (eqb (size l) 0 ≡ false) → (b : Bool) → eqb (l .seconds) 0 ≡ b → not none ≡ b || not none
+    needless e true z = rw (ne-eqb (l .nanoseconds) 0 (λ n. eqb-false (size l) 0 e (omega (arith, eqb-true (l .seconds) 0 z, n))), and-false)
+    needless e false z = refl
+
+    go :
+        (b : Bool)
+        → eqb (size l) 0 ≡ b
+        → spelling (if b then component SECONDS 0 0 ∷ [] else unless-zero HOURS hours 0 ++ unless-zero MINUTES minutes 0 ++ unless-zero SECONDS seconds (l .nanoseconds))
+        ≡ written (eqb (l .seconds) 0)
+    go true e =
+        let no-seconds : l .seconds ≡ 0 = omega (arith, eqb-true (size l) 0 e) in
+        let no-nanoseconds : l .nanoseconds ≡ 0 = omega (arith, eqb-true (size l) 0 e) in
+        rw (no-seconds, no-nanoseconds) (in-order 0 0 0 0 true true false (λ h m s. absurd (false≢true s)))
+    go false e =
+        in-order hours minutes seconds (l .nanoseconds) (eqb hours 0 && true) (eqb minutes 0 && true) none (λ h m s. eqb-false (size l) 0 e (nothing h m s))
+        ∙ ap
+        (λ b. 80 ∷ 84
+        ∷ (written-part 72 false hours 0
+        ++ written-part 77 false minutes 0
+        ++ (if b then whole-digits seconds ++ written-fraction (l .nanoseconds) ++ 83 ∷ [] else [])))
+        (needless e (eqb (l .seconds) 0) refl)
+
+-- ---- what the writer answers
+
+module _ (l : Length) (buffer : List ℕ) (place : ℕ) where
+  pub write-malformed : well-formed l ≡ false → (refusal Malformed ≡ iso-write-answer l buffer place) × (buffer ≡ iso-written-buffer l buffer place)
+  unfolding iso-write-answer iso-written-buffer writing-iso iso-buffer-after answered unless _>>_
+  write-malformed e = rw e (refl, refl)
+
+  module _ (good : well-formed l ≡ true) where
+    pub write-negative : l .negative ≡ true → (refusal (NegativeForbidden 0) ≡ iso-write-answer l buffer place) × (buffer ≡ iso-written-buffer l buffer place)
+    unfolding iso-write-answer iso-written-buffer writing-iso iso-buffer-after answered unless _>>_
+    write-negative e = rw (good, e) (refl, refl)
+
+    module _ (plus : l .negative ≡ false) where
+      pub write-beyond : length buffer < place → (refusal (Beyond place) ≡ iso-write-answer l buffer place) × (buffer ≡ iso-written-buffer l buffer place)
+      unfolding iso-write-answer iso-written-buffer writing-iso iso-buffer-after answered unless _>>_
+      write-beyond h = rw (good, plus, lt-leb place (length buffer) h) (refl, refl)
+
+      module _ (within : place ≤ length buffer) where
+        pub write-no-room : length buffer - place < length (iso-written l) → (refusal (NoRoom place) ≡ iso-write-answer l buffer place) × (buffer ≡ iso-written-buffer l buffer place)
+        unfolding iso-write-answer iso-written-buffer writing-iso iso-buffer-after answered unless _>>_
+        write-no-room h = rw (good, le-leb place (length buffer) within, lt-leb (length (iso-written l)) (length buffer - place) h, plus) (refl, refl)
+
+        pub write-done : length (iso-written l) ≤ length buffer - place → (done (place + length (iso-written l)) l ≡ iso-write-answer l buffer place) × (laid buffer place (iso-written l) ≡ iso-written-buffer l buffer place)
+        unfolding iso-write-answer iso-written-buffer writing-iso iso-buffer-after answered unless _>>_ laid
+        write-done h = rw (good, le-leb place (length buffer) within, le-leb (length (iso-written l)) (length buffer - place) h, plus) (refl, refl)
