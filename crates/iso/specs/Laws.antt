@@ -1,0 +1,3 @@
+-- Laws of the definitions of request one, a file for each thing that they say.
+pub mod Runs
+pub mod Worth
