@@ -1,7 +1,7 @@
 -- What is written of a component and of a length, from their digits; and what the writer answers, in the order of its refusals. A byte
 -- is written as its number: 72 is `H`, 77 `M`, 80 `P`, 83 `S`, 84 `T`. Assumes nothing.
 use mathlib.Core.Path.{_≡_, refl, sym, ap, ap₂, _∙_}
-use mathlib.Core.Bool.{Bool, true, false, not, _&&_, _||_, false≢true}
+use mathlib.Core.Bool.{Bool, true, false, not, _||_}
 use mathlib.Core.List.{List, [], _∷_, _++_, append-assoc, append-nil}
 use Prim.Native.Nat.{ℕ, _+_, _*_, _-_, _/_, _%_, _^_, _≤_, _<_}
 use native.Mathlib.Omega.{arith}
@@ -14,20 +14,16 @@ use Rattle.rules.specs.Common.{if_then_else_}
 use Rattle.rules.specs.NumbersHandedBack.{_>>_, unless, done, refusal, answered}
 use Rattle.rules.specs.ThePartOfTheCrateWeTake.{size, well-formed}
 use Rattle.rules.specs.WriterAndShiftTotal.{decimals, whole-digits, fraction-digits, written-fraction}
-use Rattle.rules.specs.Laws.Choices.{and-left, and-right, if-either}
-use Rattle.rules.specs.Laws.Tests.{and-false}
+use Rattle.rules.specs.Laws.Choices.{if-either}
 use Rattle.iso.specs.IsoTimings.{Component, SECONDS, MINUTES, HOURS, ANY, component, unless-zero, components-of, letters, letter, clock-mark, spelling-after, spelling, iso-written, writing-iso, iso-buffer-after, iso-write-answer, iso-written-buffer}
 use Rattle.writing.specs.Digits.{decimals-length}
 use Rattle.writing.specs.Forms.{fraction-size, fraction-size-most, behind-point, behind-length, behind-is}
 use Rattle.writing.specs.Laid.{laid, laid-then, laid-on, laid-byte, laid-nothing, laid-length}
+use Rattle.iso_writer.specs.Components.{shown, if-shown, chosen, hours-shown, minutes-shown, seconds-shown, one-shown, components-shown}
 use Rattle.iso_writer.specs.declared.writer.Part.{Part}
 use Rattle.iso_writer.specs.declared.writer.Form.{Form}
 
 -- ---- a component
-
--- one of zero is left out, unless it is needed
-unfoldable pub shown : Bool → ℕ → ℕ → Bool
-shown needed number nanoseconds = needed || not (eqb number 0 && eqb nanoseconds 0)
 
 -- what is written of one
 unfoldable pub written-part : ℕ → Bool → ℕ → ℕ → List ℕ
@@ -160,28 +156,24 @@ form-laid f buffer place after-hours after-minutes h m room =
 
 -- ---- what is written of a length, component by component
 
-module _ (hours minutes seconds nanoseconds : ℕ) where
-  -- those that are not left out, of which there is one at least: `T` stands before the first
-  in-order :
-      (no-hours no-minutes no-seconds : Bool)
-      → (no-hours ≡ true → no-minutes ≡ true → no-seconds ≡ true → ⊥)
-      → spelling
-      ((if no-hours then [] else component HOURS hours 0 ∷ [])
-      ++ (if no-minutes then [] else component MINUTES minutes 0 ∷ [])
-      ++ (if no-seconds then [] else component SECONDS seconds nanoseconds ∷ []))
-      ≡ 80 ∷ 84
-      ∷ ((if not no-hours then whole-digits hours ++ written-fraction 0 ++ 72 ∷ [] else [])
-      ++ (if not no-minutes then whole-digits minutes ++ written-fraction 0 ++ 77 ∷ [] else [])
-      ++ (if not no-seconds then whole-digits seconds ++ written-fraction nanoseconds ++ 83 ∷ [] else []))
-  unfolding spelling spelling-after clock-mark letter letters component if_then_else_
-  in-order true true true some = absurd (some refl refl refl)
-  in-order true true false some = simp append-assoc
-  in-order true false true some = simp (append-assoc, append-nil)
-  in-order true false false some = simp append-assoc
-  in-order false true true some = simp (append-assoc, append-nil)
-  in-order false true false some = simp append-assoc
-  in-order false false true some = simp (append-assoc, append-nil)
-  in-order false false false some = simp append-assoc
+-- those that are shown, of which there is one at least: `T` stands before the first
+in-order :
+    (hours minutes seconds nanoseconds : ℕ) (h m s : Bool)
+    → (h ≡ false → m ≡ false → s ≡ false → ⊥)
+    → spelling (chosen hours minutes seconds nanoseconds h m s)
+    ≡ 80 ∷ 84
+    ∷ ((if h then whole-digits hours ++ written-fraction 0 ++ 72 ∷ [] else [])
+    ++ (if m then whole-digits minutes ++ written-fraction 0 ++ 77 ∷ [] else [])
+    ++ (if s then whole-digits seconds ++ written-fraction nanoseconds ++ 83 ∷ [] else []))
+unfolding spelling spelling-after clock-mark letter letters if-shown component if_then_else_
+in-order hours minutes seconds nanoseconds false false false some = absurd (some refl refl refl)
+in-order hours minutes seconds nanoseconds false false true some = simp append-assoc
+in-order hours minutes seconds nanoseconds false true false some = simp (append-assoc, append-nil)
+in-order hours minutes seconds nanoseconds false true true some = simp append-assoc
+in-order hours minutes seconds nanoseconds true false false some = simp (append-assoc, append-nil)
+in-order hours minutes seconds nanoseconds true false true some = simp append-assoc
+in-order hours minutes seconds nanoseconds true true false some = simp (append-assoc, append-nil)
+in-order hours minutes seconds nanoseconds true true true some = simp append-assoc
 
 pub in-parts :
     (l : Length)
@@ -190,57 +182,10 @@ pub in-parts :
     ∷ (written-part 72 false (l .seconds / 3600) 0
     ++ written-part 77 false (l .seconds / 60 % 60) 0
     ++ written-part 83 (eqb (l .seconds) 0) (l .seconds % 60) (l .nanoseconds))
-unfolding iso-written components-of unless-zero written-part shown size if_then_else_
-in-parts l = go (eqb (size l) 0) refl
-  where
-    hours : ℕ
-    hours = l .seconds / 3600
-
-    minutes : ℕ
-    minutes = l .seconds / 60 % 60
-
-    seconds : ℕ
-    seconds = l .seconds % 60
-
-    none : Bool
-    none = eqb seconds 0 && eqb (l .nanoseconds) 0
-
-    written : Bool → List ℕ
-    written needed =
-        80 ∷ 84
-        ∷ (written-part 72 false hours 0
-        ++ written-part 77 false minutes 0
-        ++ (if needed || not none then whole-digits seconds ++ written-fraction (l .nanoseconds) ++ 83 ∷ [] else []))
-
-    nothing : eqb hours 0 && true ≡ true → eqb minutes 0 && true ≡ true → none ≡ true → size l ≡ 0
-    nothing h m s =
-        let no-hours = eqb-true hours 0 (and-left (eqb hours 0) true h) in
-        let no-minutes = eqb-true minutes 0 (and-left (eqb minutes 0) true m) in
-        let no-seconds = eqb-true seconds 0 (and-left (eqb seconds 0) (eqb (l .nanoseconds) 0) s) in
-        omega (arith, no-hours, no-minutes, no-seconds, eqb-true (l .nanoseconds) 0 (and-right (eqb seconds 0) (eqb (l .nanoseconds) 0) s))
-
-    -- where the length has no seconds, it has nanoseconds
-    needless : (eqb (size l) 0 ≡ false) → (b : Bool) → eqb (l .seconds) 0 ≡ b → not none ≡ b || not none
-    needless e true z = rw (ne-eqb (l .nanoseconds) 0 (λ n. eqb-false (size l) 0 e (omega (arith, eqb-true (l .seconds) 0 z, n))), and-false)
-    needless e false z = refl
-
-    go :
-        (b : Bool)
-        → eqb (size l) 0 ≡ b
-        → spelling (if b then component SECONDS 0 0 ∷ [] else unless-zero HOURS hours 0 ++ unless-zero MINUTES minutes 0 ++ unless-zero SECONDS seconds (l .nanoseconds))
-        ≡ written (eqb (l .seconds) 0)
-    go true e =
-        let no-seconds : l .seconds ≡ 0 = omega (arith, eqb-true (size l) 0 e) in
-        let no-nanoseconds : l .nanoseconds ≡ 0 = omega (arith, eqb-true (size l) 0 e) in
-        rw (no-seconds, no-nanoseconds) (in-order 0 0 0 0 true true false (λ h m s. absurd (false≢true s)))
-    go false e =
-        in-order hours minutes seconds (l .nanoseconds) (eqb hours 0 && true) (eqb minutes 0 && true) none (λ h m s. eqb-false (size l) 0 e (nothing h m s))
-        ∙ ap
-        (λ b. 80 ∷ 84
-        ∷ (written-part 72 false hours 0
-        ++ written-part 77 false minutes 0
-        ++ (if b then whole-digits seconds ++ written-fraction (l .nanoseconds) ++ 83 ∷ [] else [])))
-        (needless e (eqb (l .seconds) 0) refl)
+unfolding iso-written written-part
+in-parts l =
+    ap spelling (components-shown l)
+    ∙ in-order (l .seconds / 3600) (l .seconds / 60 % 60) (l .seconds % 60) (l .nanoseconds) (hours-shown l) (minutes-shown l) (seconds-shown l) (one-shown l)
 
 -- ---- what the writer answers
 

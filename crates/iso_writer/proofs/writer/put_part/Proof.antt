@@ -1,6 +1,6 @@
 -- `iso_writer::writer::put_part` meets its contract: nothing, or the digits, behind them the decimals, and behind them the letter. Assumes nothing.
 use mathlib.Core.Path.{_≡_, _∙_, ap, ap₂}
-use mathlib.Core.Bool.{true}
+use mathlib.Core.Bool.{true, false}
 use Prim.Native.Nat.{_+_}
 use native.Mathlib.Omega.{arith}
 use borrow.Author.Tests.{not-true, not-false}
@@ -19,7 +19,7 @@ some c = not-false _ (c .if1 .left)
 returns : tie.Need-returns
 returns c =
     let start = c .before .before .before in
-    let out = not-true _ (c .if1 .taken) in (
+    let out : start .args .part .shown ≡ false = not-true _ (c .if1 .taken) in (
       omega (arith, left-size (start .args .part) out),
       laid-nothing _ _ ∙ ap (laid (start .args .buffer .now) (start .args .place)) (left-bytes (start .args .part) out),
     )

@@ -1,6 +1,6 @@
 -- `iso_writer::writer::shows` meets its contract. Assumes nothing.
 use borrow.Author.Tests.{ne-eqb, eq-eqb}
-use Rattle.iso_writer.specs.Forms.{shown}
+use Rattle.iso_writer.specs.Components.{shown}
 use Rattle.iso_writer.proofs.writer.shows.Statement.{statement}
 use Rattle.iso_writer.proofs.writer.shows.Tie as tie
 
