@@ -1,24 +1,24 @@
 -- What is written of a component and of a length, from their digits; and what the writer answers, in the order of its refusals. A byte
 -- is written as its number: 72 is `H`, 77 `M`, 80 `P`, 83 `S`, 84 `T`. Assumes nothing.
-use mathlib.Core.Path.{_≡_, refl, sym, ap, ap₂, _∙_}
-use mathlib.Core.Bool.{Bool, true, false, not, _||_}
+use mathlib.Core.Path.{_≡_, refl, ap, _∙_}
+use mathlib.Core.Bool.{Bool, true, false}
 use mathlib.Core.List.{List, [], _∷_, _++_, append-assoc, append-nil}
-use Prim.Native.Nat.{ℕ, _+_, _*_, _-_, _/_, _%_, _^_, _≤_, _<_}
+use Prim.Native.Nat.{ℕ, _+_, _-_, _/_, _%_, _^_, _≤_, _<_}
 use native.Mathlib.Omega.{arith}
-use borrow.Author.Tests.{le-leb, lt-leb, eqb-true, eqb-false, eq-eqb, ne-eqb}
+use borrow.Author.Tests.{le-leb, lt-leb}
 use lib.Dec.{eqb}
 use lib.ListN.{length, set, length-append, length-set}
 use Rattle.rules.specs.declared.Length.{Length}
 use Rattle.rules.specs.declared.Refusal.the-variants.{NegativeForbidden, NoRoom, Beyond, Malformed}
 use Rattle.rules.specs.Common.{if_then_else_}
 use Rattle.rules.specs.NumbersHandedBack.{_>>_, unless, done, refusal, answered}
-use Rattle.rules.specs.ThePartOfTheCrateWeTake.{size, well-formed}
+use Rattle.rules.specs.ThePartOfTheCrateWeTake.{well-formed}
 use Rattle.rules.specs.WriterAndShiftTotal.{decimals, whole-digits, fraction-digits, written-fraction}
 use Rattle.rules.specs.Laws.Choices.{if-either}
-use Rattle.iso.specs.IsoTimings.{Component, SECONDS, MINUTES, HOURS, ANY, component, unless-zero, components-of, letters, letter, clock-mark, spelling-after, spelling, iso-written, writing-iso, iso-buffer-after, iso-write-answer, iso-written-buffer}
+use Rattle.iso.specs.IsoTimings.{component, letters, letter, clock-mark, spelling-after, spelling, iso-written, writing-iso, iso-buffer-after, iso-write-answer, iso-written-buffer}
 use Rattle.writing.specs.Digits.{decimals-length}
 use Rattle.writing.specs.Forms.{fraction-size, fraction-size-most, behind-point, behind-length, behind-is}
-use Rattle.writing.specs.Laid.{laid, laid-then, laid-on, laid-byte, laid-nothing, laid-length}
+use Rattle.writing.specs.Laid.{laid, laid-then, laid-on, laid-byte, laid-length}
 use Rattle.iso_writer.specs.Components.{shown, if-shown, chosen, hours-shown, minutes-shown, seconds-shown, one-shown, components-shown}
 use Rattle.iso_writer.specs.declared.writer.Part.{Part}
 use Rattle.iso_writer.specs.declared.writer.Form.{Form}

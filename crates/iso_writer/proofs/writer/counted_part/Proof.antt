@@ -1,5 +1,5 @@
 -- `iso_writer::writer::counted_part` meets its contract: nothing, or the digits that are written. Assumes nothing.
-use mathlib.Core.Path.{_≡_, refl, sym, _∙_}
+use mathlib.Core.Path.{sym, _∙_}
 use mathlib.Core.Bool.{false≢true}
 use borrow.Author.Tests.{not-true, not-false}
 use borrow.Author.Needs.{needs}
