@@ -1,0 +1,2 @@
+// The reader of ISO timings.
+pub mod components;
