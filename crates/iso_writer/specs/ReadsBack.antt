@@ -6,7 +6,7 @@ use mathlib.Core.Logic.{inl, inr}
 use Prim.Native.Nat.{ℕ, suc, _+_, _*_, _-_, _/_, _%_, _^_, _≤_, _<_}
 use native.Mathlib.Nat.{zero-mul, mul-assoc, mul-div-cancel}
 use native.Mathlib.Omega.{arith}
-use borrow.Author.Tests.{eqb-true, eqb-false, le-leb, lt-leb, leb-true, leb-false, lt-ltb}
+use borrow.Author.Tests.{eqb-true, eqb-false, le-leb, lt-leb, leb-true, leb-false}
 use lib.Dec.{eqb, leb}
 use lib.Pow.{pow-add}
 use lib.ListN.{length, take, drop, length-append}
@@ -15,7 +15,7 @@ use Rattle.rules.specs.declared.Length.{Length}
 use Rattle.rules.specs.declared.Reading.{Reading}
 use Rattle.rules.specs.declared.Refusal.the-variants.{NegativeForbidden, NoRoom, Beyond, Malformed}
 use Rattle.rules.specs.Common.{if_then_else_, all}
-use Rattle.rules.specs.NumbersHandedBack.{got, refused, _>>=_, _>>_, unless}
+use Rattle.rules.specs.NumbersHandedBack.{got, refused, _>>_, unless}
 use Rattle.rules.specs.ThePartOfTheCrateWeTake.{nanoseconds-per-second, seconds-limit, longest-text, size, well-formed}
 use Rattle.rules.specs.SettingsAndUnitTable.{DIGIT, is, kind-coefficients}
 use Rattle.rules.specs.Evaluation.{spelled, length-of}
@@ -27,7 +27,8 @@ use Rattle.writing.specs.Digits.{ten-pos, whole-some, whole-few}
 use Rattle.writing.specs.Forms.{all-zeros}
 use Rattle.readback.specs.OnePart.{few-seconds, length-of-size}
 use Rattle.readback.specs.Spelled.{spelled-whole, spelled-fraction, fraction-few}
-use Rattle.iso.specs.IsoTimings.{Component, SECONDS, MINUTES, HOURS, none, digits, is-mark, right-fraction, right-number, closes, right-after, right, decimals, seconds-of, nanoseconds-of, spelling, components, held, read-iso, component, components-of, iso-written, writing-iso, iso-buffer-after, iso-written-buffer}
+use Rattle.iso.specs.IsoTimings.{Component, SECONDS, MINUTES, HOURS, none, digits, is-mark, right-fraction, right-number, closes, right-after, right, decimals, seconds-of, nanoseconds-of, read-iso, component, components-of, iso-written, writing-iso, iso-buffer-after, iso-written-buffer}
+use Rattle.iso.specs.Laws.Right.{reads-exactly}
 use Rattle.iso.specs.Laws.Worth.{whole-worth, fraction-worth, worth-none, worth-first}
 use Rattle.iso_writer.specs.Components.{shown, left-out, if-shown, chosen, hours-shown, minutes-shown, seconds-shown, one-shown, components-shown}
 use Rattle.iso_writer.specs.Forms.{written-part, in-parts}
@@ -266,30 +267,30 @@ size-below : (l : Length) → well-formed l ≡ true → size l < seconds-limit 
 unfolding size
 size-below l good = omega (arith, few-seconds l good, proper l good)
 
-module _ (complete : (cs : List Component) → right cs ≡ true → components (spelling cs) ≡ got cs) where
-  pub reads-back : (l : Length) → well-formed l ≡ true → l .negative ≡ false → read-iso (iso-written l) ≡ got l
-  unfolding read-iso iso-written held unless _>>_ _>>=_ if_then_else_
-  reads-back l good plus =
-      rw (
-        le-leb (length (iso-written l)) longest-text (omega (arith, written-short l good)),
-        complete (components-of l) (written-right l good),
-        written-worth l good,
-        lt-ltb (size l) (seconds-limit * nanoseconds-per-second) (size-below l good),
-      )
-      (ap got (ap (λ b. length-of b (size l)) (sym plus) ∙ length-of-size l good))
+pub reads-back : (l : Length) → well-formed l ≡ true → l .negative ≡ false → read-iso (iso-written l) ≡ got l
+unfolding iso-written
+reads-back l good plus =
+    let worth = written-worth l good in
+    let short : length (iso-written l) ≤ longest-text = omega (arith, written-short l good) in
+    let same : l ≡ length-of false (size l) = sym (length-of-size l good) ∙ ap (λ b. length-of b (size l)) plus in
+    reads-exactly (iso-written l) l .1 (
+      record { parts = components-of l; rightly = written-right l good; spells = refl; short = short },
+      omega (arith, worth, size-below l good),
+      same ∙ ap (length-of false) (sym worth),
+    )
 
-  -- no two lengths are written alike
-  pub written-one : (l m : Length) → well-formed l ≡ true → well-formed m ≡ true → l .negative ≡ false → m .negative ≡ false → iso-written l ≡ iso-written m → l ≡ m
-  written-one l m good fine plus too same =
-      let both : got l ≡ got m = sym (reads-back l good plus) ∙ ap read-iso same ∙ reads-back m fine too in
-      cc
+-- no two lengths are written alike
+pub written-one : (l m : Length) → well-formed l ≡ true → well-formed m ≡ true → l .negative ≡ false → m .negative ≡ false → iso-written l ≡ iso-written m → l ≡ m
+written-one l m good fine plus too same =
+    let both : got l ≡ got m = sym (reads-back l good plus) ∙ ap read-iso same ∙ reads-back m fine too in
+    cc
 
-  -- what stands in the buffer reads back
-  pub in-buffer :
-      (l : Length) (buffer : List ℕ) (place : ℕ) (r : Reading)
-      → writing-iso l buffer place ≡ got r
-      → (slice place (r .next) (iso-written-buffer l buffer place) ≡ iso-written l) × (read-iso (slice place (r .next) (iso-written-buffer l buffer place)) ≡ got l)
-  in-buffer l buffer place r e =
-      let asked = wrote l buffer place r e in
-      let here = stands l buffer place r e in
-      (here, ap read-iso here ∙ reads-back l (asked .0) (asked .1))
+-- what stands in the buffer reads back
+pub in-buffer :
+    (l : Length) (buffer : List ℕ) (place : ℕ) (r : Reading)
+    → writing-iso l buffer place ≡ got r
+    → (slice place (r .next) (iso-written-buffer l buffer place) ≡ iso-written l) × (read-iso (slice place (r .next) (iso-written-buffer l buffer place)) ≡ got l)
+in-buffer l buffer place r e =
+    let asked = wrote l buffer place r e in
+    let here = stands l buffer place r e in
+    (here, ap read-iso here ∙ reads-back l (asked .0) (asked .1))
