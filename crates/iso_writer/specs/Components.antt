@@ -17,7 +17,10 @@ unfoldable pub shown : Bool → ℕ → ℕ → Bool
 shown needed number nanoseconds = needed || not (eqb number 0 && eqb nanoseconds 0)
 
 -- what is left out is zero
-pub left-out : (needed : Bool) (number nanoseconds : ℕ) → shown needed number nanoseconds ≡ false → (needed ≡ false) × (number ≡ 0) × (nanoseconds ≡ 0)
+pub left-out :
+    (needed : Bool) (number nanoseconds : ℕ)
+    → shown needed number nanoseconds ≡ false
+    → (needed ≡ false) × (number ≡ 0) × (nanoseconds ≡ 0)
 unfolding shown
 left-out needed number nanoseconds h = go needed (eqb number 0) (eqb nanoseconds 0) refl refl h
   where
@@ -30,7 +33,9 @@ left-out needed number nanoseconds h = go needed (eqb number 0) (eqb nanoseconds
 unfoldable pub if-shown : Bool → Component → List Component
 if-shown b c = if b then c ∷ [] else []
 
-unless-shown : (kind number nanoseconds : ℕ) → unless-zero kind number nanoseconds ≡ if-shown (shown false number nanoseconds) (component kind number nanoseconds)
+unless-shown :
+    (kind number nanoseconds : ℕ)
+    → unless-zero kind number nanoseconds ≡ if-shown (shown false number nanoseconds) (component kind number nanoseconds)
 unfolding unless-zero if-shown shown if_then_else_
 unless-shown kind number nanoseconds = go (eqb number 0 && eqb nanoseconds 0)
   where
@@ -69,7 +74,11 @@ module _ (l : Length) where
   components-shown = go (eqb (size l) 0) refl
     where
       -- where a length of other than zero has no seconds, it has nanoseconds
-      needless : eqb (size l) 0 ≡ false → (b : Bool) → eqb (l .seconds) 0 ≡ b → shown false (l .seconds % 60) (l .nanoseconds) ≡ shown b (l .seconds % 60) (l .nanoseconds)
+      needless :
+          eqb (size l) 0 ≡ false
+          → (b : Bool)
+          → eqb (l .seconds) 0 ≡ b
+          → shown false (l .seconds % 60) (l .nanoseconds) ≡ shown b (l .seconds % 60) (l .nanoseconds)
       needless e true z = rw (ne-eqb (l .nanoseconds) 0 (λ n. eqb-false (size l) 0 e (omega (arith, eqb-true (l .seconds) 0 z, n))), and-false)
       needless e false z = refl
 

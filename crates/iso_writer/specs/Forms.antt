@@ -9,6 +9,7 @@ use borrow.Author.Tests.{le-leb, lt-leb}
 use lib.Dec.{eqb}
 use lib.ListN.{length, set, length-append, length-set}
 use Rattle.rules.specs.declared.Length.{Length}
+use Rattle.rules.specs.declared.Answer.{Answer}
 use Rattle.rules.specs.declared.Refusal.the-variants.{NegativeForbidden, NoRoom, Beyond, Malformed}
 use Rattle.rules.specs.Common.{if_then_else_}
 use Rattle.rules.specs.NumbersHandedBack.{_>>_, unless, done, refusal, answered}
@@ -60,7 +61,11 @@ module _ (p : Part) where
       if-either (λ n. n ≤ 31) (p .shown) (λ _. omega (arith, small .0, fraction-size-most (p .decimals .count) (small .1))) (λ _. omega arith)
 
   -- laid over a buffer with room for it, it changes no length
-  pub part-kept : (buffer after : List ℕ) (place : ℕ) → after ≡ laid buffer place (part-bytes p) → place + part-size p ≤ length buffer → length after ≡ length buffer
+  pub part-kept :
+      (buffer after : List ℕ) (place : ℕ)
+      → after ≡ laid buffer place (part-bytes p)
+      → place + part-size p ≤ length buffer
+      → length after ≡ length buffer
   part-kept buffer after place e room = ap length e ∙ laid-length buffer place (part-bytes p) (omega (arith, part-length))
 
   module _ (out : p .shown ≡ false) where
@@ -101,16 +106,21 @@ module _ (p : Part) where
 
 -- the digits that were counted are those that are written
 module _ (p : Part) (needed : Bool) (number nanoseconds : ℕ) (short : nanoseconds < 10 ^ 9) where
+  abbrev Counted : Type 0
+  Counted =
+      (whole-digits number ≡ decimals (p .whole .count) (p .whole .number))
+      × (fraction-digits nanoseconds ≡ decimals (p .decimals .count) (p .decimals .number))
+
   pub part-is :
       p .shown ≡ shown needed number nanoseconds
-      → (shown needed number nanoseconds ≡ true → (whole-digits number ≡ decimals (p .whole .count) (p .whole .number)) × (fraction-digits nanoseconds ≡ decimals (p .decimals .count) (p .decimals .number)))
+      → (shown needed number nanoseconds ≡ true → Counted)
       → part-bytes p ≡ written-part (p .letter) needed number nanoseconds
   unfolding part-bytes written-part if_then_else_
   part-is same digits = rw same (go (shown needed number nanoseconds) digits)
     where
       go :
           (b : Bool)
-          → (b ≡ true → (whole-digits number ≡ decimals (p .whole .count) (p .whole .number)) × (fraction-digits nanoseconds ≡ decimals (p .decimals .count) (p .decimals .number)))
+          → (b ≡ true → Counted)
           → (if b then decimals (p .whole .count) (p .whole .number) ++ behind-point (p .decimals) ++ p .letter ∷ [] else [])
           ≡ (if b then whole-digits number ++ written-fraction nanoseconds ++ p .letter ∷ [] else [])
       go true e = rw (e refl .0, behind-is nanoseconds (p .decimals) short (e refl .1))
@@ -137,7 +147,8 @@ pub form-laid :
     → after-hours ≡ place + 1 + 1 + part-size (f .hours)
     → after-minutes ≡ after-hours + part-size (f .minutes)
     → place + form-size f ≤ length buffer
-    → laid (laid (laid (set (set buffer place 80) (place + 1) 84) (place + 1 + 1) (part-bytes (f .hours))) after-hours (part-bytes (f .minutes))) after-minutes (part-bytes (f .seconds))
+    → let letters = set (set buffer place 80) (place + 1) 84 in
+    laid (laid (laid letters (place + 1 + 1) (part-bytes (f .hours))) after-hours (part-bytes (f .minutes))) after-minutes (part-bytes (f .seconds))
     ≡ laid buffer place (form-bytes f)
 unfolding form-bytes
 form-laid f buffer place after-hours after-minutes h m room =
@@ -190,25 +201,35 @@ in-parts l =
 -- ---- what the writer answers
 
 module _ (l : Length) (buffer : List ℕ) (place : ℕ) where
-  pub write-malformed : well-formed l ≡ false → (refusal Malformed ≡ iso-write-answer l buffer place) × (buffer ≡ iso-written-buffer l buffer place)
+  -- what is handed back, and the buffer then
+  abbrev Ends : Answer → List ℕ → Type 0
+  Ends answer after = (answer ≡ iso-write-answer l buffer place) × (after ≡ iso-written-buffer l buffer place)
+
+  pub write-malformed : well-formed l ≡ false → Ends (refusal Malformed) buffer
   unfolding iso-write-answer iso-written-buffer writing-iso iso-buffer-after answered unless _>>_
   write-malformed e = rw e (refl, refl)
 
   module _ (good : well-formed l ≡ true) where
-    pub write-negative : l .negative ≡ true → (refusal (NegativeForbidden 0) ≡ iso-write-answer l buffer place) × (buffer ≡ iso-written-buffer l buffer place)
+    pub write-negative : l .negative ≡ true → Ends (refusal (NegativeForbidden 0)) buffer
     unfolding iso-write-answer iso-written-buffer writing-iso iso-buffer-after answered unless _>>_
     write-negative e = rw (good, e) (refl, refl)
 
     module _ (plus : l .negative ≡ false) where
-      pub write-beyond : length buffer < place → (refusal (Beyond place) ≡ iso-write-answer l buffer place) × (buffer ≡ iso-written-buffer l buffer place)
+      pub write-beyond : length buffer < place → Ends (refusal (Beyond place)) buffer
       unfolding iso-write-answer iso-written-buffer writing-iso iso-buffer-after answered unless _>>_
       write-beyond h = rw (good, plus, lt-leb place (length buffer) h) (refl, refl)
 
       module _ (within : place ≤ length buffer) where
-        pub write-no-room : length buffer - place < length (iso-written l) → (refusal (NoRoom place) ≡ iso-write-answer l buffer place) × (buffer ≡ iso-written-buffer l buffer place)
+        pub write-no-room : length buffer - place < length (iso-written l) → Ends (refusal (NoRoom place)) buffer
         unfolding iso-write-answer iso-written-buffer writing-iso iso-buffer-after answered unless _>>_
-        write-no-room h = rw (good, le-leb place (length buffer) within, lt-leb (length (iso-written l)) (length buffer - place) h, plus) (refl, refl)
+        write-no-room h =
+            let full = lt-leb (length (iso-written l)) (length buffer - place) h in
+            rw (good, le-leb place (length buffer) within, full, plus) (refl, refl)
 
-        pub write-done : length (iso-written l) ≤ length buffer - place → (done (place + length (iso-written l)) l ≡ iso-write-answer l buffer place) × (laid buffer place (iso-written l) ≡ iso-written-buffer l buffer place)
+        pub write-done :
+            length (iso-written l) ≤ length buffer - place
+            → Ends (done (place + length (iso-written l)) l) (laid buffer place (iso-written l))
         unfolding iso-write-answer iso-written-buffer writing-iso iso-buffer-after answered unless _>>_ laid
-        write-done h = rw (good, le-leb place (length buffer) within, le-leb (length (iso-written l)) (length buffer - place) h, plus) (refl, refl)
+        write-done h =
+            let fits = le-leb (length (iso-written l)) (length buffer - place) h in
+            rw (good, le-leb place (length buffer) within, fits, plus) (refl, refl)

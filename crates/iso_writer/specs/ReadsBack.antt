@@ -2,7 +2,7 @@
 use mathlib.Core.Path.{_≡_, refl, sym, ap, _∙_}
 use mathlib.Core.Bool.{Bool, true, false, not}
 use mathlib.Core.List.{List, [], _∷_, _++_}
-use mathlib.Core.Logic.{inl, inr}
+use mathlib.Core.Logic.{inl, inr, _↔_}
 use Prim.Native.Nat.{ℕ, suc, _+_, _*_, _-_, _/_, _%_, _^_, _≤_, _<_}
 use native.Mathlib.Nat.{zero-mul, mul-assoc, mul-div-cancel}
 use native.Mathlib.Omega.{arith}
@@ -29,6 +29,7 @@ use Rattle.readback.specs.OnePart.{few-seconds, length-of-size}
 use Rattle.readback.specs.Spelled.{spelled-whole, spelled-fraction, fraction-few}
 use Rattle.iso.specs.IsoTimings.{Component, SECONDS, MINUTES, HOURS, none, digits, is-mark, right-fraction, right-number, closes, right-after, right, decimals, seconds-of, nanoseconds-of, read-iso, component, components-of, iso-written, writing-iso, iso-buffer-after, iso-written-buffer}
 use Rattle.iso.specs.Laws.Right.{reads-exactly}
+use Rattle.iso.specs.Laws.Sound.{never}
 use Rattle.iso.specs.Laws.Worth.{whole-worth, fraction-worth, worth-none, worth-first}
 use Rattle.iso_writer.specs.Components.{shown, left-out, if-shown, chosen, hours-shown, minutes-shown, seconds-shown, one-shown, components-shown}
 use Rattle.iso_writer.specs.Forms.{written-part, in-parts}
@@ -57,7 +58,11 @@ unfolding right-number component
 number-right kind number nanoseconds h = and-both (some-digits (whole-digits number) (whole-some number) (whole-digits-only number)) (fraction-right nanoseconds h)
 
 chosen-right :
-    (hours minutes seconds nanoseconds : ℕ) → nanoseconds < 10 ^ 9 → (h m s : Bool) → (h ≡ false → m ≡ false → s ≡ false → ⊥) → right (chosen hours minutes seconds nanoseconds h m s) ≡ true
+    (hours minutes seconds nanoseconds : ℕ)
+    → nanoseconds < 10 ^ 9
+    → (h m s : Bool)
+    → (h ≡ false → m ≡ false → s ≡ false → ⊥)
+    → right (chosen hours minutes seconds nanoseconds h m s) ≡ true
 unfolding right right-after closes none if-shown component written-fraction if_then_else_
 chosen-right hours minutes seconds nanoseconds short h m s some = go h m s some
   where
@@ -203,11 +208,15 @@ written-short l good =
 -- ---- where it is written
 
 module _ (l : Length) (buffer : List ℕ) (place : ℕ) where
-  -- what was asked before anything was written
-  pub wrote :
-      (r : Reading)
-      → writing-iso l buffer place ≡ got r
-      → (well-formed l ≡ true) × (l .negative ≡ false) × (place ≤ length buffer) × (length (iso-written l) ≤ length buffer - place) × (r .next ≡ place + length (iso-written l))
+  -- what was asked before anything was written, and where that ends
+  pub record Wrote (r : Reading) : Type 0 where
+    pub good : well-formed l ≡ true
+    pub plus : l .negative ≡ false
+    pub within : place ≤ length buffer
+    pub fits : length (iso-written l) ≤ length buffer - place
+    pub next : r .next ≡ place + length (iso-written l)
+
+  pub wrote : (r : Reading) → writing-iso l buffer place ≡ got r → Wrote r
   unfolding writing-iso unless _>>_
   wrote r e = go (well-formed l) (l .negative) (leb place (length buffer)) (leb (length (iso-written l)) (length buffer - place)) refl refl refl refl e
     where
@@ -221,45 +230,50 @@ module _ (l : Length) (buffer : List ℕ) (place : ℕ) where
           >> (unless (NegativeForbidden 0) (not b)
           >> (unless (Beyond place) c >> (unless (NoRoom place) d >> got (record { length = l; next = place + length (iso-written l) })))))
           ≡ got r
-          → (well-formed l ≡ true) × (l .negative ≡ false) × (place ≤ length buffer) × (length (iso-written l) ≤ length buffer - place) × (r .next ≡ place + length (iso-written l))
-      go false b c d p q x y e = let z : _≡_ {A = ℕ} 0 1 = cc in absurd (omega arith)
-      go true true c d p q x y e = let z : _≡_ {A = ℕ} 0 1 = cc in absurd (omega arith)
-      go true false false d p q x y e = let z : _≡_ {A = ℕ} 0 1 = cc in absurd (omega arith)
-      go true false true false p q x y e = let z : _≡_ {A = ℕ} 0 1 = cc in absurd (omega arith)
+          → Wrote r
+      go false b c d p q x y e = never e
+      go true true c d p q x y e = never e
+      go true false false d p q x y e = never e
+      go true false true false p q x y e = never e
       go true false true true p q x y e =
           let same : record { length = l; next = place + length (iso-written l) } ≡ r = cc in
-          (p, q, leb-true place (length buffer) x, leb-true (length (iso-written l)) (length buffer - place) y, ap (λ a. a .next) (sym same))
+          record {
+            good = p;
+            plus = q;
+            within = leb-true place (length buffer) x;
+            fits = leb-true (length (iso-written l)) (length buffer - place) y;
+            next = ap (λ a. a .next) (sym same);
+          }
 
+  -- none that fits is refused
   module _ (good : well-formed l ≡ true) (plus : l .negative ≡ false) (within : place ≤ length buffer) where
-    -- none that fits is refused
-    pub none-refused-that-fits :
-        (writing-iso l buffer place ≡ refused (NoRoom place) → length buffer - place < length (iso-written l))
-        × (length buffer - place < length (iso-written l) → writing-iso l buffer place ≡ refused (NoRoom place))
+    pub none-refused-that-fits : (writing-iso l buffer place ≡ refused (NoRoom place)) ↔ (length buffer - place < length (iso-written l))
     unfolding writing-iso unless _>>_
-    none-refused-that-fits = (go (leb (length (iso-written l)) (length buffer - place)) refl, full)
+    none-refused-that-fits = (full (leb (length (iso-written l)) (length buffer - place)) refl, none)
       where
-        full : length buffer - place < length (iso-written l) → writing-iso l buffer place ≡ refused (NoRoom place)
-        full h = rw (good, le-leb place (length buffer) within, lt-leb (length (iso-written l)) (length buffer - place) h, plus)
+        none : length buffer - place < length (iso-written l) → writing-iso l buffer place ≡ refused (NoRoom place)
+        none h = rw (good, le-leb place (length buffer) within, lt-leb (length (iso-written l)) (length buffer - place) h, plus)
 
-        go :
+        full :
             (b : Bool)
             → leb (length (iso-written l)) (length buffer - place) ≡ b
             → writing-iso l buffer place ≡ refused (NoRoom place)
             → length buffer - place < length (iso-written l)
-        go true e h =
-            let fits : writing-iso l buffer place ≡ got (record { length = l; next = place + length (iso-written l) }) = rw (good, le-leb place (length buffer) within, e, plus) in
-            let z : _≡_ {A = ℕ} 0 1 = cc in
-            absurd (omega arith)
-        go false e h = leb-false (length (iso-written l)) (length buffer - place) e
+        full true e h =
+            let fits : writing-iso l buffer place ≡ got (record { length = l; next = place + length (iso-written l) }) =
+            rw (good, le-leb place (length buffer) within, e, plus) in
+            never (sym h ∙ fits)
+        full false e h = leb-false (length (iso-written l)) (length buffer - place) e
 
   -- the bytes from the place on are what is written
   pub stands : (r : Reading) → writing-iso l buffer place ≡ got r → slice place (r .next) (iso-written-buffer l buffer place) ≡ iso-written l
   unfolding iso-written-buffer iso-buffer-after
   stands r e =
       let asked = wrote r e in
-      let before : length (take place buffer) ≡ place = length-take-le place buffer (asked .2) in
-      let through : length (take place buffer ++ iso-written l) ≡ r .next = length-append (take place buffer) (iso-written l) ∙ omega (arith, before, asked .4) in
-      rw (e, take-at (take place buffer ++ iso-written l) (drop (r .next) buffer) (r .next) through) (drop-at (take place buffer) (iso-written l) place before)
+      let front : List ℕ = take place buffer in
+      let before : length front ≡ place = length-take-le place buffer (asked .within) in
+      let through : length (front ++ iso-written l) ≡ r .next = length-append front (iso-written l) ∙ omega (arith, before, asked .next) in
+      rw (e, take-at (front ++ iso-written l) (drop (r .next) buffer) (r .next) through) (drop-at front (iso-written l) place before)
 
 -- ---- read again
 
@@ -280,7 +294,14 @@ reads-back l good plus =
     )
 
 -- no two lengths are written alike
-pub written-one : (l m : Length) → well-formed l ≡ true → well-formed m ≡ true → l .negative ≡ false → m .negative ≡ false → iso-written l ≡ iso-written m → l ≡ m
+pub written-one :
+    (l m : Length)
+    → well-formed l ≡ true
+    → well-formed m ≡ true
+    → l .negative ≡ false
+    → m .negative ≡ false
+    → iso-written l ≡ iso-written m
+    → l ≡ m
 written-one l m good fine plus too same =
     let both : got l ≡ got m = sym (reads-back l good plus) ∙ ap read-iso same ∙ reads-back m fine too in
     cc
@@ -293,4 +314,4 @@ pub in-buffer :
 in-buffer l buffer place r e =
     let asked = wrote l buffer place r e in
     let here = stands l buffer place r e in
-    (here, ap read-iso here ∙ reads-back l (asked .0) (asked .1))
+    (here, ap read-iso here ∙ reads-back l (asked .good) (asked .plus))

@@ -23,10 +23,14 @@ slice-write-buffer-2 c =
 add-put-part : tie.Need-add-put-part
 add-put-part c = search needs
 
-lettered : (c : tie.After-seconds) → let start = c .before .before .before .before in length (set (set (start .args .buffer .now) (start .args .place) 80) (start .args .place + 1) 84) ≡ length (start .args .buffer .now)
+-- `P` and `T` change no length
+lettered :
+    (c : tie.After-seconds)
+    → let args = c .before .before .before .before .args in
+    length (set (set (args .buffer .now) (args .place) 80) (args .place + 1) 84) ≡ length (args .buffer .now)
 lettered c =
-    let start = c .before .before .before .before in
-    length-set (set (start .args .buffer .now) (start .args .place) 80) (start .args .place + 1) 84 ∙ length-set (start .args .buffer .now) (start .args .place) 80
+    let args = c .before .before .before .before .args in
+    length-set (set (args .buffer .now) (args .place) 80) (args .place + 1) 84 ∙ length-set (args .buffer .now) (args .place) 80
 
 put-part-requires : tie.Need-put-part-requires
 put-part-requires c κs =
@@ -49,9 +53,11 @@ put-part-requires-3 c κs =
     let letters = hours .before .before in
     let start = letters .before .before .before .before in
     let form = start .args .form in
+    let next = hours .put-part .ensures .0 in
     let kept = part-kept (form .hours) _ _ _ (hours .put-part .ensures .1) (omega (arith, lettered letters, start .pre .1)) in
-    let kept-too = part-kept (form .minutes) _ _ _ (minutes .put-part2 .ensures .1) (omega (arith, kept, lettered letters, hours .put-part .ensures .0, start .pre .1)) in
-    (start .pre .0 .2, omega (arith, kept-too, kept, lettered letters, hours .put-part .ensures .0, minutes .put-part2 .ensures .0, start .pre .1))
+    let kept-too =
+    part-kept (form .minutes) _ _ _ (minutes .put-part2 .ensures .1) (omega (arith, kept, lettered letters, next, start .pre .1)) in
+    (start .pre .0 .2, omega (arith, kept-too, kept, lettered letters, next, minutes .put-part2 .ensures .0, start .pre .1))
 
 returns : tie.Need-returns
 returns c =
@@ -60,9 +66,13 @@ returns c =
     let hours = minutes .before .before .before .before in
     let start = hours .before .before .before .before .before .before in
     let form = start .args .form in
+    let after-hours = hours .put-part .result in
+    let after-minutes = minutes .put-part2 .result in
     seconds .put-part3 .ensures .1
-    ∙ ap (λ b. laid b (minutes .put-part2 .result) (part-bytes (form .seconds))) (minutes .put-part2 .ensures .1 ∙ ap (λ b. laid b (hours .put-part .result) (part-bytes (form .minutes))) (hours .put-part .ensures .1))
-    ∙ form-laid form (start .args .buffer .now) (start .args .place) (hours .put-part .result) (minutes .put-part2 .result) (hours .put-part .ensures .0) (minutes .put-part2 .ensures .0) (start .pre .1)
+    ∙ ap (λ b. laid b after-minutes (part-bytes (form .seconds)))
+    (minutes .put-part2 .ensures .1 ∙ ap (λ b. laid b after-hours (part-bytes (form .minutes))) (hours .put-part .ensures .1))
+    ∙ form-laid form (start .args .buffer .now) (start .args .place) after-hours after-minutes
+    (hours .put-part .ensures .0) (minutes .put-part2 .ensures .0) (start .pre .1)
 
 same-length : tie.Need-same-length
 same-length c =

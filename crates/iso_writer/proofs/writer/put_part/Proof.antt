@@ -1,4 +1,5 @@
--- `iso_writer::writer::put_part` meets its contract: nothing, or the digits, behind them the decimals, and behind them the letter. Assumes nothing.
+-- `iso_writer::writer::put_part` meets its contract: nothing, or the digits, behind them the decimals, and behind them the letter.
+-- Assumes nothing.
 use mathlib.Core.Path.{_≡_, _∙_, ap, ap₂}
 use mathlib.Core.Bool.{true, false}
 use Prim.Native.Nat.{_+_}
@@ -63,7 +64,8 @@ slice-write-buffer c =
     let digits = decimals-length (part .whole .count) (part .whole .number) in
     let size = shown-size part (some written) in
     let kept = ap length (put .put .ensures) ∙ laid-length _ _ _ (omega (arith, digits, size, start .pre .1)) in
-    omega (arith, ap length (fract .put-fraction .ensures) ∙ laid-length _ _ _ (omega (arith, kept, behind-length (part .decimals), size, start .pre .1)), kept, c .fraction-size .ensures, size, start .pre .1)
+    let kept-too = ap length (fract .put-fraction .ensures) ∙ laid-length _ _ _ (omega (arith, kept, behind-length (part .decimals), size, start .pre .1)) in
+    omega (arith, kept-too, kept, c .fraction-size .ensures, size, start .pre .1)
 
 add-result : tie.Need-add-result
 add-result c =
@@ -79,9 +81,10 @@ returns-2 c =
     let written = put .before .before .before .before in
     let start = written .before .before .before in
     let part = start .args .part in
-    let point = start .args .place + part .whole .count in (
+    let point = start .args .place + part .whole .count in
+    let decimals = fract .put-fraction .ensures ∙ ap (λ b. laid b point (behind-point (part .decimals))) (put .put .ensures) in (
       omega (arith, c .fraction-size .ensures, shown-size part (some written)),
-      ap₂ (λ b n. set b (point + n) (part .letter)) (fract .put-fraction .ensures ∙ ap (λ b. laid b point (behind-point (part .decimals))) (put .put .ensures)) (c .fraction-size .ensures)
+      ap₂ (λ b n. set b (point + n) (part .letter)) decimals (c .fraction-size .ensures)
           ∙ part-laid part (some written) (start .args .buffer .now) (start .args .place) (start .pre .1),
     )
 

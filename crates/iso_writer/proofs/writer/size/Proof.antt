@@ -9,7 +9,9 @@ part-size-requires : tie.Need-part-size-requires
 part-size-requires c κs = search needs
 
 add-result : tie.Need-add-result
-add-result c = omega (arith, c .part-size .ensures, part-most (c .before .before .before .before .args .form .hours) (c .before .before .before .before .pre .0))
+add-result c =
+    let start = c .before .before .before .before in
+    omega (arith, c .part-size .ensures, part-most (start .args .form .hours) (start .pre .0))
 
 part-size-requires-2 : tie.Need-part-size-requires-2
 part-size-requires-2 c κs = search needs
@@ -18,7 +20,13 @@ add-result-2 : tie.Need-add-result-2
 add-result-2 c =
     let hours = c .before in
     let start = hours .before .before .before .before in
-    omega (arith, hours .part-size .ensures, c .part-size2 .ensures, part-most (start .args .form .hours) (start .pre .0), part-most (start .args .form .minutes) (start .pre .1))
+    omega (
+      arith,
+      hours .part-size .ensures,
+      c .part-size2 .ensures,
+      part-most (start .args .form .hours) (start .pre .0),
+      part-most (start .args .form .minutes) (start .pre .1),
+    )
 
 part-size-requires-3 : tie.Need-part-size-requires-3
 part-size-requires-3 c κs = search needs
