@@ -46,7 +46,7 @@ attos-nine n f h =
     ap (λ p. n * p) power ∙ sym (mul-assoc n (10 ^ (9 - f) * 10 ^ 9) (10 ^ f)) ∙ ap (λ m. m * 10 ^ f) moved in
     ap (λ k. n * 10 ^ 18 / 10 ^ k) (add-zero f) ∙ ap (λ m. m / 10 ^ f) product ∙ mul-div-cancel (n * 10 ^ (9 - f) * 10 ^ 9) (ten-pos f)
 
-few-seconds : (l : Length) → well-formed l ≡ true → l .seconds < 2 ^ 64
+pub few-seconds : (l : Length) → well-formed l ≡ true → l .seconds < 2 ^ 64
 unfolding well-formed
 few-seconds l well = ltb-true (l .seconds) (2 ^ 64) (and-left (ltb (l .seconds) (2 ^ 64)) (ltb (l .nanoseconds) (10 ^ 9)) (and-left _ (not (l .negative && eqb (size l) 0)) well))
 

@@ -7,14 +7,15 @@ use Prim.Native.Nat.{ℕ, zero, suc, _+_, _*_, _-_, _/_, _%_, _^_, _≤_, _<_}
 use native.Mathlib.Nat.{add-zero, zero-add, sub-zero, mul-comm, div-eq-of-lt, div-one, div-div-eq-div-mul, div-lt-iff-lt-mul, le-div-iff-mul-le, mod-eq-of-lt, one-le-pow, pow-le-pow-right, pow-succ', lt-of-lt-of-le, le-of-suc-le-suc, not-suc-le-zero}
 use native.Mathlib.Omega.{arith}
 use borrow.Author.Tests.{ne-eqb, leb-true, leb-false}
-use lib.Dec.{leb, lit<}
+use lib.Dec.{leb, eqb, lit<}
 use lib.Pow.{pow-add}
 use lib.ListN.{length, take, drop, set, length-append, length-take, length-drop, take-append-drop}
 use Rattle.rules.specs.Common.{if_then_else_}
+use Rattle.rules.specs.Laws.Choices.{if-either}
 use Rattle.rules.specs.WriterAndShiftTotal.{decimals, no-leading-zeros, before-zeros, no-trailing-zeros, whole-digits}
 use Rattle.writing.specs.Laid.{laid}
 
-ten-pos : (k : ℕ) → 0 < 10 ^ k
+pub ten-pos : (k : ℕ) → 0 < 10 ^ k
 ten-pos k = one-le-pow k 10 (lit< tt)
 
 pub ten-more : (n x : ℕ) → x / 10 / 10 ^ n ≡ x / 10 ^ suc n
@@ -131,6 +132,31 @@ whole-is x (suc n) h d =
     let few : suc n ≤ 20 = leads-most (suc n) x h (d .2) in
     let count : 20 ≡ 20 - suc n + suc n = omega arith in
     ap (λ m. no-leading-zeros (decimals m x)) count ∙ stripped (20 - suc n) n x (d .1) ∙ kept n x (d .1) (d .2)
+
+-- no digit comes of dropping zeros, and the last one stays
+leading-fewer : (digits : List ℕ) → length (no-leading-zeros digits) ≤ length digits
+unfolding no-leading-zeros
+leading-fewer [] = omega arith
+leading-fewer (d ∷ []) = omega arith
+leading-fewer (d ∷ e ∷ digits) =
+    if-either (λ l. length l ≤ suc (suc (length digits))) (eqb d 48) {x = no-leading-zeros (e ∷ digits)} {y = d ∷ e ∷ digits} (λ _. omega (arith, leading-fewer (e ∷ digits))) (λ _. omega arith)
+
+leading-some : (d : ℕ) (digits : List ℕ) → 0 < length (no-leading-zeros (d ∷ digits))
+unfolding no-leading-zeros
+leading-some d [] = omega arith
+leading-some d (e ∷ digits) = if-either (λ l. 0 < length l) (eqb d 48) {x = no-leading-zeros (e ∷ digits)} {y = d ∷ e ∷ digits} (λ _. leading-some e digits) (λ _. omega arith)
+
+pub whole-some : (x : ℕ) → 0 < length (whole-digits x)
+unfolding whole-digits decimals
+whole-some x = leading-some _ _
+
+-- a number below a power of ten has no more digits than that
+pub whole-few : (k x : ℕ) → k < 20 → x < 10 ^ suc k → length (whole-digits x) ≤ suc k
+unfolding whole-digits
+whole-few k x few h =
+    let count : 20 ≡ 19 - k + suc k = omega arith in
+    let shorter : whole-digits x ≡ no-leading-zeros (decimals (suc k) x) = ap (λ m. no-leading-zeros (decimals m x)) count ∙ stripped (19 - k) k x h in
+    omega (arith, ap length shorter, leading-fewer (decimals (suc k) x), decimals-length (suc k) x)
 
 -- ---- without trailing zeros
 

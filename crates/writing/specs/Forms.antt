@@ -83,7 +83,7 @@ form-laid buffer place sign whole fract h =
     ∙ laid-then buffer place (place + 1 + whole .count) (sign ∷ digits) (behind-point fract) (omega (arith, decimals-length (whole .count) (whole .number))) (omega arith)
 
 -- a number of which all so many digits are zeros is zero
-all-zeros : (n x : ℕ) → x < 10 ^ n → no-trailing-zeros (decimals n x) ≡ [] → x ≡ 0
+pub all-zeros : (n x : ℕ) → x < 10 ^ n → no-trailing-zeros (decimals n x) ≡ [] → x ≡ 0
 all-zeros zero x h e = omega arith
 all-zeros (suc n) x h e = go (eqb (x % 10) 0) refl (all-zeros n (x / 10))
   where
@@ -107,7 +107,7 @@ unfolding fraction-digits no-trailing-zeros decimals before-zeros if_then_else_
 no-decimals = refl
 
 -- the decimals of nanoseconds stand behind a point unless the nanoseconds are 0
-behind-is : (x : ℕ) (d : Decimal) → x < 10 ^ 9 → fraction-digits x ≡ decimals (d .count) (d .number) → behind-point d ≡ written-fraction x
+pub behind-is : (x : ℕ) (d : Decimal) → x < 10 ^ 9 → fraction-digits x ≡ decimals (d .count) (d .number) → behind-point d ≡ written-fraction x
 unfolding behind-point written-fraction if_then_else_ fraction-digits
 behind-is x d h e = go (eqb x 0) (eqb (d .count) 0) refl refl
   where

@@ -30,7 +30,7 @@ pub fn sign_byte(negative: bool) -> u8
 }
 
 // How many bytes the decimals take: none, or a point and they.
-fn fraction_size(count: usize) -> usize
+pub fn fraction_size(count: usize) -> usize
     requires { ⌜ count ≤ 9 ⌝ }
     ensures { λ r. ⌜ r ≡ fraction-size count ⌝ }
 {
@@ -38,7 +38,7 @@ fn fraction_size(count: usize) -> usize
 }
 
 // The point and the decimals, if there are any.
-fn put_fraction(decimals: Decimal, buffer: &mut [u8], point: usize)
+pub fn put_fraction(decimals: Decimal, buffer: &mut [u8], point: usize)
     requires { ⌜ point + fraction-size (decimals .count) ≤ length (now buffer) ⌝ }
     ensures { λ r. ⌜ now (buffer .exit) ≡ laid (now (buffer .entry)) point (behind-point decimals) ⌝ }
 {
