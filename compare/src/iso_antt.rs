@@ -10,10 +10,6 @@ use crate::iso_lengths;
 use crate::iso_texts;
 use crate::request::{Answer, Length};
 
-/// Longer texts take antt minutes, so few of them are computed.
-const SHORT: usize = 400;
-const LONG_TEXTS: usize = 6;
-
 /// Lengths that are written, spread over the list.
 const LENGTHS: usize = 240;
 
@@ -41,18 +37,11 @@ agrees a n p l = eqb (a .number) n && eqb (a .position) p && same-length (a .len
 /// Writes the modules of the texts into the folder `specs`, and says how many
 /// texts they hold.
 pub fn write_texts(specs: &Path) -> Result<usize, String> {
-    let (short, long): (Vec<_>, Vec<_>) = iso_texts::texts()
-        .into_iter()
-        .partition(|text| text.len() <= SHORT);
-    let texts: Vec<Vec<u8>> = short
-        .into_iter()
-        .chain(long.into_iter().take(LONG_TEXTS))
-        .collect();
     let statement = |text: &Vec<u8>| {
         let entry = format!("iso-answer ({})", bytes(text));
         agreement(&entry, &iso::read(text))
     };
-    write_statements(texts.iter().map(statement), specs)
+    write_statements(iso_texts::texts().iter().map(statement), specs)
 }
 
 /// The same for lengths: what is written of each; and what is handed back and
