@@ -6,7 +6,7 @@ use crate::plain::MOST_TEXT_BYTES;
 use crate::rng::Random;
 
 const SEED: u64 = 8_601;
-const DAMAGED: usize = 800;
+const DAMAGED: usize = 1_000;
 
 /// The first number that is too many seconds is one more than this.
 const MOST_SECONDS: &str = "18446744073709551615";
@@ -481,7 +481,7 @@ fn sizes() -> Vec<Vec<u8>> {
 }
 
 /// Right texts made at random, and each of them with a byte dropped, doubled or
-/// replaced, or with two swapped.
+/// replaced, with two swapped, or with years or months for days or weeks.
 fn damaged() -> Vec<Vec<u8>> {
     let mut random = Random::new(SEED);
     let mut texts = Vec::new();
@@ -542,13 +542,18 @@ fn fraction(random: &mut Random) -> String {
 fn damage(random: &mut Random, text: &mut Vec<u8>) {
     let place = random.below(text.len() as u64) as usize;
     let other = random.below(text.len() as u64) as usize;
-    match random.below(4) {
+    match random.below(5) {
         0 => {
             text.remove(place);
         }
         1 => text.insert(place, text[place]),
         2 if random.chance(80) => text[place] = *random.pick(b"PTWDHMSY0123456789.,+- pt"),
         2 => text[place] = random.below(256) as u8,
-        _ => text.swap(place, other),
+        3 => text.swap(place, other),
+        _ => {
+            let long = *random.pick(b"YM");
+            let days = text.iter_mut().filter(|byte| matches!(byte, b'D' | b'W'));
+            days.for_each(|byte| *byte = long);
+        }
     }
 }
