@@ -14,8 +14,9 @@ const MOST_SECONDS: &str = "18446744073709551615";
 /// A number that is too large in every unit.
 const HUGE: &str = "99999999999999999999";
 
-/// The examples of the request: text, number, position, seconds, nanoseconds.
-pub const EXAMPLES: [(&str, u8, u64, u64, u64); 23] = [
+/// The examples of the request, and a few more with answers written by hand:
+/// text, number, position, seconds, nanoseconds.
+pub const EXAMPLES: [(&str, u8, u64, u64, u64); 22] = [
     ("P1Y", 13, 2, 0, 0),
     ("P1.5M", 13, 4, 0, 0),
     ("PT1Y", 12, 3, 0, 0),
@@ -35,7 +36,6 @@ pub const EXAMPLES: [(&str, u8, u64, u64, u64); 23] = [
     ("PT0,1S", 0, 6, 0, 100_000_000),
     ("P1W", 0, 3, 604_800, 0),
     ("P2DT3H4M5.6S", 0, 12, 183_845, 600_000_000),
-    ("PT36H", 0, 5, 129_600, 0),
     (
         "PT18446744073709551615.9999999999S",
         0,
