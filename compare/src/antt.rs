@@ -47,14 +47,35 @@ pub fn write_modules(requests: &str, answers: &str, specs: &Path) -> Result<usiz
             held.push((index + 1, Request::parse(line)?, answer));
         }
     }
+    let modules: Result<Vec<String>, String> =
+        held.chunks(REQUESTS_IN_A_MODULE).map(module).collect();
+    write_all(specs, &modules?)?;
+    Ok(held.len())
+}
+
+/// The same with declarations that stand for themselves behind what every
+/// module says.
+pub fn write_declarations(
+    declarations: &[String],
+    head: &str,
+    specs: &Path,
+) -> Result<usize, String> {
+    let modules: Vec<String> = declarations
+        .chunks(REQUESTS_IN_A_MODULE)
+        .map(|chunk| head.to_string() + &chunk.concat())
+        .collect();
+    write_all(specs, &modules)?;
+    Ok(declarations.len())
+}
+
+fn write_all(specs: &Path, modules: &[String]) -> Result<(), String> {
     let mut root = String::new();
-    for (number, chunk) in held.chunks(REQUESTS_IN_A_MODULE).enumerate() {
+    for (number, module) in modules.iter().enumerate() {
         let name = format!("M{number}");
         let _ = writeln!(root, "pub mod {name}");
-        write(&specs.join(format!("{name}.antt")), &module(chunk)?)?;
+        write(&specs.join(format!("{name}.antt")), module)?;
     }
-    write(&specs.join("Lib.antt"), &root)?;
-    Ok(held.len())
+    write(&specs.join("Lib.antt"), &root)
 }
 
 fn write(path: &Path, text: &str) -> Result<(), String> {
@@ -164,7 +185,7 @@ fn record(sign: &str, seconds: &str, nanos: &str) -> String {
     format!("record {{ negative = {negative}; seconds = {seconds}; nanoseconds = {nanos} }}")
 }
 
-fn length(length: &Length) -> String {
+pub fn length(length: &Length) -> String {
     let sign = if length.negative { "-" } else { "+" };
     record(sign, &length.seconds.to_string(), &length.nanos.to_string())
 }
@@ -208,7 +229,7 @@ fn byte_set(set: &ByteSet) -> String {
 }
 
 /// A list of bytes.
-fn bytes(bytes: &[u8]) -> String {
+pub fn bytes(bytes: &[u8]) -> String {
     let mut terms = Vec::new();
     for segment in segments(bytes) {
         terms.push(match segment {

@@ -10,6 +10,11 @@ mod chosen;
 mod crate_side;
 mod day;
 mod evaluations;
+mod iso;
+mod iso_antt;
+mod iso_lengths;
+mod iso_list;
+mod iso_texts;
 mod limits;
 mod lines;
 mod long_texts;
@@ -56,7 +61,10 @@ usage: compare make SEED COUNT          make requests
        compare round FOUND              what round prints of its lists of lengths
        compare replay LIST FOUND        requests with answers, and what replay prints of them
        compare scale SEED COUNT FOUND   the same made on the fly, the list on standard output
+       compare iso TEXTS FOUND          texts for the reader of ISO timings, and what iso_list prints
        compare antt REQUESTS ANSWERS DIR  both as antt modules in the folder DIR
+       compare antt iso-texts DIR       ISO timings with the plain way's answers, the same
+       compare antt iso-lengths DIR     lengths written as ISO timings, the same
 ";
 
 fn main() -> ExitCode {
@@ -84,6 +92,9 @@ fn main() -> ExitCode {
         ["replay", list, found] => replay::write_files(list, found),
         ["round", found] => round::write_file(found),
         ["scale", seed, count, found] => print_requests(seed, count, found),
+        ["iso", texts, found] => iso_list::write_files(texts, found),
+        ["antt", "iso-texts", folder] => told(iso_antt::write_texts(Path::new(folder))),
+        ["antt", "iso-lengths", folder] => told(iso_antt::write_lengths(Path::new(folder))),
         ["antt", requests, answers, folder] => write_antt(requests, answers, folder),
         _ => Err(USAGE.to_string()),
     };
@@ -116,8 +127,16 @@ fn make_lines(seed: &str, count: &str) -> Result<bool, String> {
 fn write_antt(requests: &str, answers: &str, folder: &str) -> Result<bool, String> {
     let read =
         |path: &str| std::fs::read_to_string(path).map_err(|error| format!("{path}: {error}"));
-    let held = antt::write_modules(&read(requests)?, &read(answers)?, Path::new(folder))?;
-    println!("{held}");
+    told(antt::write_modules(
+        &read(requests)?,
+        &read(answers)?,
+        Path::new(folder),
+    ))
+}
+
+/// Prints how many declarations modules hold.
+fn told(held: Result<usize, String>) -> Result<bool, String> {
+    println!("{}", held?);
     Ok(true)
 }
 
