@@ -1,6 +1,5 @@
 // ISO timings: reads the stored texts and prints number, position and length of each, and how often each number came; then writes lengths,
 // reads each again, prints it, and tries the edges of a buffer.
-mod counts;
 mod lengths;
 mod reads;
 mod writes;

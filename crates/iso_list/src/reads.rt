@@ -1,8 +1,8 @@
 // The stored texts, each a line of hexadecimal digits (run and size) and the line of its bytes.
-use crate::counts::one_more;
-use crate::counts::print_count;
 use iso_reader::reader::read_iso;
 use lists::answers::print_answer;
+use lists::counts::one_more;
+use lists::counts::print_count;
 use lists::fields::half_at;
 use lists::fields::short_at;
 use lists::lines::first_bytes;

@@ -1,22 +1,20 @@
 // Lengths written and read again, and the edges of a buffer.
-use crate::counts::added;
-use crate::counts::one_more;
-use crate::counts::print_count;
-use crate::counts::unless;
 use crate::lengths::LENGTHS;
 use crate::lengths::nth;
 use iso_reader::reader::read_iso;
 use iso_writer::writer::write_iso;
 use libc::STDOUT_FILENO;
+use lists::counts::added;
+use lists::counts::one_more;
+use lists::counts::print_count;
+use lists::counts::unless;
+use lists::edges::BEFORE;
+use lists::edges::EDGE;
+use lists::edges::untouched;
 use lists::fields::same_length;
 use lists::lines::first_bytes;
 use rules::Answer;
 use rules::Length;
-
-// A buffer of which the edges are tried, and what each of its bytes holds before: no byte that is ever written.
-const EDGE: usize = 64;
-
-const BEFORE: u8 = 7;
 
 // What was written, which numbers the writer handed back, and how often something was not as it should be.
 struct Tally {
@@ -91,21 +89,6 @@ fn read_back(text: &[u8], length: Length, before: Tally) -> Tally {
         same_answer(read_iso(text), done(text.len(), length)),
         before,
     )
-}
-
-// Whether a buffer's bytes up to a place are as before.
-fn untouched(buffer: &[u8], end: usize) -> bool {
-    let mut i = 0;
-    while i < end {
-        if buffer.len() <= i {
-            return true;
-        }
-        if buffer[i] != BEFORE {
-            return false;
-        }
-        i += 1;
-    }
-    true
 }
 
 // A length written into the first bytes of a buffer, which are lent as a buffer of their own.
@@ -183,7 +166,7 @@ fn write_one(length: Length, before: Tally) -> Tally {
     io::write_all(STDOUT_FILENO, b"\n");
     let mut tally = read_back(text, length, before);
     tally.lengths = one_more(tally.lengths);
-    tally.bytes = added(tally.bytes, size);
+    tally.bytes = added(tally.bytes, size as u64);
     if size == 0 {
         return differs_unless(false, tally);
     }

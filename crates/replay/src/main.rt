@@ -7,6 +7,8 @@ use lists::answers::print_answer;
 use lists::cards::MOST_BYTES;
 use lists::cards::Next;
 use lists::cards::next_card;
+use lists::counts::MOST;
+use lists::counts::one_more;
 use lists::fields::byte_at;
 use lists::fields::flag_at;
 use lists::fields::half_at;
@@ -48,9 +50,6 @@ const ROOM: usize = 81_920;
 // Document 01's numbers are 0 to 11. The two entries give all but 9 and 11.
 const NUMBERS: usize = 12;
 
-// More of anything than a list has, since a proved loop has to end and a proved sum to fit.
-const MOST: u64 = 1_000_000_000_000;
-
 // So many differing requests are shown.
 const SHOWN: u64 = 10;
 
@@ -73,10 +72,6 @@ struct Tally {
     cards: u64,
     requests: u64,
     differ: u64,
-}
-
-fn one_more(count: u64) -> u64 {
-    if count < MOST { count + 1 } else { count }
 }
 
 fn request_of(line: &[u8]) -> Request {

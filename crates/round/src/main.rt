@@ -6,6 +6,13 @@ use libc::STDOUT_FILENO;
 use lists::cards::MOST_BYTES;
 use lists::cards::Next;
 use lists::cards::next_card;
+use lists::counts::added;
+use lists::counts::one_more;
+use lists::counts::print_count;
+use lists::counts::unless;
+use lists::edges::BEFORE;
+use lists::edges::EDGE;
+use lists::edges::untouched;
 use lists::fields::same_length;
 use lists::lines::first_bytes;
 use reading::entries::LONGEST_TEXT;
@@ -20,15 +27,10 @@ use writing::writer::write_length;
 // Room for one length, the longest of which has 31 bytes.
 const ONE: usize = 32;
 
-// A buffer of which the edges are tried, and what each of its bytes holds before: no byte that is ever written.
-const EDGE: usize = 64;
-
-const BEFORE: u8 = 7;
-
 // Lists under each card. The longest is as long as a line may be.
 const LISTS: u64 = 200;
 
-// More of anything than there is, since a proved sum has to fit.
+// More lengths than are made, and more cards than there are, since a proved loop has to end.
 const MOST: u64 = 1_000_000;
 
 // What was written of a list: how many lengths, and how many bytes they take.
@@ -51,23 +53,6 @@ struct Edges {
     beyond: u64,
     malformed: u64,
     differ: u64,
-}
-
-fn one_more(count: u64) -> u64 {
-    if count < MOST { count + 1 } else { count }
-}
-
-fn added(a: u64, b: u64) -> u64 {
-    if a < MOST {
-        if b < MOST {
-            return a + b;
-        }
-    }
-    MOST
-}
-
-fn unless(agrees: bool, differ: u64) -> u64 {
-    if agrees { differ } else { one_more(differ) }
 }
 
 // Zero has no minus.
@@ -157,21 +142,6 @@ fn read_list(settings: Settings, table: &[u8], text: &[u8], first: u64, lengths:
         read += 1;
     }
     unless(place == text.len(), differ)
-}
-
-// Whether a buffer's bytes up to a place are as before.
-fn untouched(buffer: &[u8], end: usize) -> bool {
-    let mut i = 0;
-    while i < end {
-        if buffer.len() <= i {
-            return true;
-        }
-        if buffer[i] != BEFORE {
-            return false;
-        }
-        i += 1;
-    }
-    true
 }
 
 // One answer more, which should have a number.
@@ -286,12 +256,6 @@ fn edges_of(lengths: u64) -> Edges {
         tried += 1;
     }
     edges
-}
-
-fn print_count(name: &[u8], count: u64) {
-    io::write_all(STDOUT_FILENO, name);
-    io::print_decimal(STDOUT_FILENO, count);
-    io::write_all(STDOUT_FILENO, b"\n");
 }
 
 fn main() {

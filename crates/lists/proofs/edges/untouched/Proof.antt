@@ -1,8 +1,8 @@
--- `round::untouched` is safe and ends: each turn leaves fewer bytes. Assumes nothing.
+-- `lists::edges::untouched` is safe and ends: each turn leaves fewer bytes. Assumes nothing.
 use Prim.Native.Nat.{_-_}
 use borrow.Author.Needs.{needs}
-use Rattle.round.proofs.untouched.Statement.{statement}
-use Rattle.round.proofs.untouched.Tie as tie
+use Rattle.lists.proofs.edges.untouched.Statement.{statement}
+use Rattle.lists.proofs.edges.untouched.Tie as tie
 
 abbrev Inv-loop : tie.InvT-loop
 Inv-loop buffer end i₀ i = Unit {0}

@@ -1,21 +1,23 @@
 // Counts, which have an end so that their sums are proved to fit.
 use libc::STDOUT_FILENO;
 
-// More of anything than there is.
-const MOST: u64 = 1_000_000;
+// More of anything than a list has.
+pub const MOST: u64 = 1_000_000_000_000;
 
 pub fn one_more(count: u64) -> u64 {
     if count < MOST { count + 1 } else { count }
 }
 
-// So many bytes more.
-pub fn added(count: u64, bytes: usize) -> u64 {
-    if count < MOST {
-        return count + (bytes as u64) % MOST;
+pub fn added(a: u64, b: u64) -> u64 {
+    if a < MOST {
+        if b < MOST {
+            return a + b;
+        }
     }
-    count
+    MOST
 }
 
+// One difference more, unless all agrees.
 pub fn unless(agrees: bool, differ: u64) -> u64 {
     if agrees { differ } else { one_more(differ) }
 }
