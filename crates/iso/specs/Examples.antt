@@ -42,11 +42,13 @@ pub refusals : all agrees (
     ∷ refused-at "PT1M1H" 12 5
     ∷ refused-at "PT1S1M" 12 4
     ∷ refused-at "P1W1D" 12 3
+    ∷ refused-at "P1WT1S" 12 3
     ∷ refused-at "P1DT" 12 4
     ∷ refused-at "P" 12 1
     ∷ refused-at "PT.5S" 12 2
     ∷ refused-at "pT1S" 12 0
     ∷ refused-at "PT18446744073709551616S" 14 0
+    ∷ refused-at "PT18446744073709551616S1" 12 23
     ∷ []) ≡ true
 unfolding agrees computing-iso
 refusals = refl
@@ -56,6 +58,8 @@ pub readings : all agrees (
     ∷ read-to "PT0,1S" 6 0 100000000
     ∷ read-to "P1W" 3 604800 0
     ∷ read-to "P2DT3H4M5.6S" 12 183845 600000000
+    ∷ read-to "PT0.0000000019H" 15 0 6840
+    ∷ read-to "P0.00000000000000165344W" 24 0 1
     ∷ read-to "PT18446744073709551615.9999999999S" 34 18446744073709551615 999999999
     ∷ []) ≡ true
 unfolding agrees computing-iso
