@@ -1,14 +1,11 @@
 -- The examples of request one, computed. Assumes nothing.
 use mathlib.Core.Path.{_≡_, refl}
 use mathlib.Core.Bool.{Bool, true, false, _&&_}
-use mathlib.Core.List.{List, [], _∷_}
+use mathlib.Core.List.{[], _∷_}
 use Prim.Native.Nat.{ℕ}
 use Prim.Native.String.{String}
 use lib.Dec.{eqb}
-use Rattle.rules.specs.declared.Length.{Length}
-use Rattle.rules.specs.declared.Answer.{Answer}
 use Rattle.rules.specs.Common.{ascii, all, same}
-use Rattle.rules.specs.ThePartOfTheCrateWeTake.{largest}
 use Rattle.iso.specs.IsoTimings.{iso-answer, iso-written}
 use Rattle.iso.specs.Computing.{computing-iso}
 

@@ -4,11 +4,10 @@ pub mod Letters
 pub mod OneComponent
 pub mod Complete
 pub mod Sound
-pub mod Causes
-pub mod Right
 pub mod Stands
 pub mod Walks
 pub mod Begins
 pub mod Refused
+pub mod Right
 pub mod Places
 pub mod Worth

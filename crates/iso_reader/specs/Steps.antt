@@ -1,24 +1,22 @@
 -- A component, by its pieces: digits, a mark, digits, a letter. What each function found, as the definitions have it. Assumes nothing.
-use mathlib.Core.Path.{_≡_, refl, sym, ap, ap₂, _∙_}
-use mathlib.Core.Bool.{Bool, true, false, _&&_, _||_, false≢true}
-use mathlib.Core.List.{List, [], _∷_, _++_, append-nil}
-use Prim.Native.Nat.{ℕ, zero, suc, _+_, _-_, _≤_, _<_}
-use native.Mathlib.Nat.{add-suc, suc-add, add-sub-of-le}
+use mathlib.Core.Path.{_≡_, refl, sym, ap, _∙_}
+use mathlib.Core.Bool.{Bool, true, false, _||_}
+use mathlib.Core.List.{List, [], _∷_, _++_}
+use Prim.Native.Nat.{ℕ, suc, _+_, _-_, _≤_, _<_}
 use native.Mathlib.Numerals.{add-one}
 use native.Mathlib.Omega.{arith}
-use borrow.Author.Tests.{eqb-true, leb-true, leb-false}
+use borrow.Author.Tests.{leb-true, leb-false}
 use lib.Dec.{eqb, leb}
 use lib.ListN.{length, getD, take, drop, length-take, take-append-drop, drop-of-length-le}
 use lib.Seq.{slice, slice-cons, slice-empty, length-slice, drop-cons, drop-append-le, drop-drop, length-take-le}
 use Rattle.rules.specs.declared.Refusal.the-variants.{NotIso, YearOrMonth}
-use Rattle.rules.specs.Common.{if_then_else_, between, all, starts, sees, front, run}
-use Rattle.rules.specs.SettingsAndUnitTable.{DIGIT, is, class}
+use Rattle.rules.specs.Common.{if_then_else_, all, starts, sees, front, run}
+use Rattle.rules.specs.SettingsAndUnitTable.{DIGIT, is}
 use Rattle.rules.specs.NumbersHandedBack.{Outcome, got, refused, _>>=_}
-use Rattle.rules.specs.Laws.Choices.{all-first, all-others}
 use Rattle.rules.specs.Laws.Tests.{eqb-sym}
-use Rattle.rules.specs.Laws.Texts.{run-from, run-within, sees-here, sees-end, sees-in}
+use Rattle.rules.specs.Laws.Texts.{run-within, sees-here, sees-in}
 use Rattle.value.specs.Digits.{run-end, run-passes}
-use Rattle.iso.specs.IsoTimings.{Component, Stand, Move, start, date, wanted, whole, mark, fraction, unit, closed, none, is-mark, on, kind-of, may-come, year-or-month, digit-step, after-letter, letter-step, step, may-end, read-from}
+use Rattle.iso.specs.IsoTimings.{Component, start, wanted, whole, mark, fraction, none, is-mark, kind-of, may-come, year-or-month, digit-step, after-letter, letter-step, step, may-end, read-from}
 use Rattle.iso.specs.Laws.Letters.{mark-not-digit}
 use Rattle.iso.specs.Laws.Runs.{goes-on, wanted-run, mark-run}
 use Rattle.iso_reader.specs.declared.components.Typed.{Typed}

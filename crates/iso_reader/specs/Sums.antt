@@ -1,16 +1,16 @@
 -- Components summed up as they are read: what is due after one is what was due with it. Assumes nothing.
 use mathlib.Core.Path.{_≡_, refl, sym, ap, _∙_}
-use mathlib.Core.Bool.{Bool, true, false, not, _&&_, _||_, false≢true}
-use mathlib.Core.List.{List, [], _∷_, _++_}
+use mathlib.Core.Bool.{Bool, true, false, not, _||_, false≢true}
+use mathlib.Core.List.{List, [], _∷_}
 use mathlib.Core.Logic.{_⊎_, inl, inr}
-use Prim.Native.Nat.{ℕ, suc, _+_, _*_, _-_, _/_, _^_, _≤_, _<_}
+use Prim.Native.Nat.{ℕ, suc, _+_, _*_, _^_, _≤_, _<_}
 use native.Mathlib.Nat.{add-zero, zero-add, add-assoc}
 use native.Mathlib.Numerals.{add-one}
 use native.Mathlib.Omega.{arith}
-use borrow.Author.Tests.{eqb-true, eqb-false, eq-eqb, ne-eqb, leb-true, le-leb, lt-leb, ltb-true, ltb-false, lt-ltb, le-ltb}
-use lib.Dec.{leb, ltb, eqb}
+use borrow.Author.Tests.{ne-eqb, lt-leb, ltb-true, ltb-false}
+use lib.Dec.{ltb, eqb}
 use lib.ListN.{length, getD, take, drop, drop-of-length-le}
-use lib.Seq.{slice, slice-empty, slice-cons, drop-cons, drop-drop, length-slice}
+use lib.Seq.{slice, slice-empty, slice-cons, drop-cons, drop-drop}
 use Rattle.rules.specs.declared.Length.{Length}
 use Rattle.rules.specs.declared.Refusal.the-variants.{NotIso}
 use Rattle.rules.specs.Common.{if_then_else_, between, sees, starts}
@@ -21,7 +21,7 @@ use Rattle.rules.specs.Laws.Texts.{sees-in, sees-here}
 use Rattle.rules.specs.Evaluation.{spelled}
 use Rattle.value.specs.declared.digits.Word.{Word}
 use Rattle.value.specs.declared.digits.Word.the-variants as Word
-use Rattle.iso.specs.IsoTimings.{Component, Stand, DAYS, ANY, SECONDS, WEEKS, start, date, wanted, whole, mark, fraction, unit, closed, none, closes, decimals, seconds-of, nanoseconds-of, may-come, after-letter, digit-step, step, on, may-end, read-from, components, held}
+use Rattle.iso.specs.IsoTimings.{Component, Stand, DAYS, ANY, start, date, wanted, fraction, unit, closed, none, closes, decimals, seconds-of, nanoseconds-of, after-letter, step, on, may-end, read-from, components, held}
 use Rattle.iso.specs.Laws.Runs.{goes-on}
 use Rattle.iso.specs.Laws.Letters.{came-date, came-below}
 use Rattle.iso.specs.Laws.OneComponent.{open-kind}

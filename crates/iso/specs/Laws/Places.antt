@@ -7,7 +7,7 @@ use Prim.Native.Nat.{ℕ, suc, _<_}
 use lib.ListN.{length, take}
 use Rattle.rules.specs.declared.Refusal.{Refusal}
 use Rattle.rules.specs.declared.Refusal.the-variants.{NotIso, YearOrMonth}
-use Rattle.rules.specs.NumbersHandedBack.{got, refused}
+use Rattle.rules.specs.NumbersHandedBack.{refused}
 use Rattle.iso.specs.IsoTimings.{Component, right, spelling, components}
 use Rattle.iso.specs.Laws.Complete.{complete}
 use Rattle.iso.specs.Laws.Sound.{sound}

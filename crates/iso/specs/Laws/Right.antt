@@ -2,7 +2,7 @@
 use mathlib.Core.Path.{_≡_, refl, sym, _∙_, ap}
 use mathlib.Core.Bool.{Bool, true, false}
 use mathlib.Core.List.{List}
-use mathlib.Core.Logic.{_↔_}
+use mathlib.Core.Logic.{_↔_, ⊎-elim}
 use Prim.Native.Nat.{ℕ, _*_, _≤_, _<_}
 use native.Mathlib.Omega.{arith}
 use lib.Dec.{leb, ltb}
@@ -18,7 +18,7 @@ use Rattle.rules.specs.Evaluation.{length-of}
 use Rattle.rules.specs.Laws.Choices.{if-either}
 use Rattle.iso.specs.IsoTimings.{Component, right, spelling, components, nanoseconds-of, held, read-iso}
 use Rattle.iso.specs.Laws.Sound.{never}
-use Rattle.iso.specs.Laws.Causes.{Caused, was-read, was-off, was-year, caused}
+use Rattle.iso.specs.Laws.Refused.{refused-place}
 pub use Rattle.iso.specs.Laws.Complete.{complete, spelling-one}
 pub use Rattle.iso.specs.Laws.Sound.{sound}
 
@@ -37,10 +37,9 @@ spelt-read text t =
     rw (le-leb (length text) longest-text (t .short), c)
 
 -- one that spells no right components is not too large
-not-large : {A : Type 0} {o : Outcome A} → Caused o → o ≡ refused TooLarge → ⊥
-not-large was-read h = let z : _≡_ {A = ℕ} 0 1 = cc in omega arith
-not-large was-off h = let z : _≡_ {A = ℕ} 0 1 = cc in omega arith
-not-large was-year h = let z : _≡_ {A = ℕ} 0 1 = cc in omega arith
+not-large : (text : List ℕ) (cause : Refusal) → components text ≡ refused cause → cause ≡ TooLarge → ⊥
+not-large text cause e h =
+    ⊎-elim (λ f. let z : _≡_ {A = ℕ} 0 1 = cc in omega arith) (λ f. let z : _≡_ {A = ℕ} 0 1 = cc in omega arith) (refused-place text cause e .1)
 
 -- a text is spelt, and then its components say what is read; or it is refused, and not as too large
 data Reads (text : List ℕ) : Outcome Length → Type 0 where
@@ -55,7 +54,7 @@ reads text = go (leb (length text) longest-text) (components text) refl refl
     go true (got cs) l e =
         let s = sound text cs e in
         of-spelt (record { parts = cs; rightly = s .0; spells = s .1; short = leb-true (length text) longest-text l })
-    go true (refused cause) l e = of-no cause (λ h. not-large (caused text) (e ∙ ap refused h))
+    go true (refused cause) l e = of-no cause (not-large text cause e)
     go false o l e = of-no TextTooLong (λ h. let z : _≡_ {A = ℕ} 0 1 = cc in omega arith)
 
 -- a text spells this length

@@ -1,11 +1,10 @@
 -- What components are worth, from the first on: whole numbers add up, and only what stands behind a mark has anything to round.
 -- Assumes nothing.
-use mathlib.Core.Path.{_≡_, refl, sym, ap, _∙_}
+use mathlib.Core.Path.{_≡_, refl, ap, _∙_}
 use mathlib.Core.List.{List, [], _∷_, _++_, append-nil}
-use mathlib.Core.Logic.{_⊎_, inl, inr, ⊎-elim}
-use Prim.Native.Nat.{ℕ, zero, suc, _+_, _*_, _-_, _/_, _^_, _<_, max}
-use native.Mathlib.Nat.{add-zero, zero-add, add-comm, add-mul, mul-assoc, mul-comm, mul-one, div-one, one-le-pow, add-mul-div-right, max-zero, zero-max, sub-zero, sub-self, zero-mul, pow-zero}
-use native.Mathlib.Omega.{arith}
+use mathlib.Core.Logic.{_⊎_, ⊎-elim}
+use Prim.Native.Nat.{ℕ, _+_, _*_, _/_, _^_, _<_}
+use native.Mathlib.Nat.{add-zero, add-comm, add-mul, mul-assoc, mul-comm, mul-one, div-one, one-le-pow, add-mul-div-right, max-zero, zero-max, sub-zero, sub-self, zero-mul, pow-zero}
 use lib.Dec.{lit<}
 use lib.ListN.{length, drop}
 use Rattle.rules.specs.ThePartOfTheCrateWeTake.{nanoseconds-per-second}

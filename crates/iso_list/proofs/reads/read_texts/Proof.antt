@@ -4,8 +4,6 @@ use borrow.Author.Needs.{needs}
 use lib.ListN.{length}
 use Rattle.iso_list.proofs.reads.read_texts.Statement.{statement}
 use Rattle.iso_list.proofs.reads.read_texts.Tie as tie
-use Rattle.iso_list.proofs.reads.counted.Reads as counted-reads
-use Rattle.iso_list.proofs.reads.read_next.Reads as read-next-reads
 
 abbrev Inv-loop : tie.InvT-loop
 Inv-loop buffer₀ readings₀ left₀ buffer readings left = length buffer ≡ 16384

@@ -3,8 +3,6 @@ use Prim.Native.Nat.{_-_}
 use borrow.Author.Needs.{needs}
 use Rattle.iso_list.proofs.writes.write_lengths.Statement.{statement}
 use Rattle.iso_list.proofs.writes.write_lengths.Tie as tie
-use Rattle.iso_list.proofs.lengths.nth.Reads as nth-reads
-use Rattle.iso_list.proofs.writes.write_one.Reads as write-one-reads
 
 abbrev Inv-loop : tie.InvT-loop
 Inv-loop tally₀ number₀ tally number = Unit {0}

@@ -4,7 +4,7 @@ use mathlib.Core.Bool.{false}
 use borrow.Author.Needs.{needs}
 use lib.ListN.{getD, drop}
 use Rattle.iso.specs.IsoTimings.{wanted, kind-of, may-come, read-from}
-use Rattle.iso_reader.specs.Steps.{typed-whole, typed-fraction, letter-from, number-outcome, number-within, Within, component-outcome, letter-none, letter-comes, letter-year, letter-other}
+use Rattle.iso_reader.specs.Steps.{typed-whole, typed-fraction, letter-from, number-outcome, Within, component-outcome, letter-none, letter-comes, letter-year, letter-other}
 use Rattle.iso_reader.proofs.components.component.Statement.{statement}
 use Rattle.iso_reader.proofs.components.component.Tie as tie
 

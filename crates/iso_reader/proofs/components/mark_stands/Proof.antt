@@ -1,6 +1,5 @@
 -- `iso_reader::components::mark_stands` meets its contract: `.`, or `,`. Assumes nothing.
 use mathlib.Core.Path.{sym, _∙_}
-use mathlib.Core.Bool.{_||_}
 use borrow.Author.Needs.{needs}
 use Rattle.iso_reader.specs.Steps.{sees-mark}
 use Rattle.iso_reader.proofs.components.mark_stands.Statement.{statement}

@@ -1,5 +1,5 @@
 -- `iso_reader::components::stands` meets its contract: the byte there, and none beyond the end. Assumes nothing.
-use mathlib.Core.Path.{sym, _∙_}
+use mathlib.Core.Path.{sym}
 use borrow.Author.Needs.{needs}
 use lib.Dec.{eqb}
 use Rattle.iso_reader.specs.Steps.{sees-byte}

@@ -1,5 +1,4 @@
 -- `iso_reader::components::year_or_month` meets its contract: two bytes, before `T`. Assumes nothing.
-use borrow.Author.Needs.{needs}
 use borrow.Author.Tests.{lt-leb, le-leb, eq-eqb, ne-eqb}
 use Rattle.iso.specs.IsoTimings.{year-or-month}
 use Rattle.iso_reader.proofs.components.year_or_month.Statement.{statement}

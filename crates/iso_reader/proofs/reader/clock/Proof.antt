@@ -1,16 +1,16 @@
 -- `iso_reader::reader::clock` meets its contract: what components come to from here on, with the seconds so far, is what they come to from the
 -- start. The kinds fall. Assumes nothing.
 use mathlib.Core.Path.{_≡_, refl, sym, ap, _∙_}
-use mathlib.Core.Bool.{true, false}
-use Prim.Native.Nat.{_+_, _≤_}
+use mathlib.Core.Bool.{false}
+use Prim.Native.Nat.{_≤_}
 use native.Mathlib.Nat.{le-trans, le-suc}
 use native.Mathlib.Omega.{arith}
 use borrow.Author.Needs.{needs}
 use lib.ListN.{drop}
-use Rattle.rules.specs.Laws.Outcomes.{bind-got, bind-refused}
+use Rattle.rules.specs.Laws.Outcomes.{bind-refused}
 use Rattle.iso.specs.IsoTimings.{wanted, closes, read-from}
-use Rattle.iso_reader.specs.Steps.{Lettered, component-of, component-outcome, component-within, found}
-use Rattle.iso_reader.specs.Sums.{Sized, summed, sized-clock, falls, sum-closes, sum-open, sum-ends, sum-goes-on}
+use Rattle.iso_reader.specs.Steps.{Lettered, component-of, component-outcome, found}
+use Rattle.iso_reader.specs.Sums.{Sized, summed, sized-clock, falls, sum-closes, sum-ends, sum-goes-on}
 use Rattle.iso_reader.proofs.reader.clock.Statement.{statement}
 use Rattle.iso_reader.proofs.reader.clock.Tie as tie
 

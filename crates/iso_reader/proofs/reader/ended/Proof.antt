@@ -1,5 +1,5 @@
 -- `iso_reader::reader::ended` meets its contract: something comes, or nothing. Assumes nothing.
-use mathlib.Core.Path.{_≡_, sym, ap, _∙_}
+use mathlib.Core.Path.{sym, ap, _∙_}
 use borrow.Author.Needs.{needs}
 use Rattle.rules.specs.Laws.Outcomes.{bind-got, bind-refused}
 use Rattle.iso_reader.specs.Due.{due}

@@ -1,12 +1,11 @@
 -- `iso_reader::reader::timing` meets its contract: no `P`, `T` after it, and a component after it. Assumes nothing.
 use mathlib.Core.Path.{_≡_, sym, ap, _∙_}
-use mathlib.Core.Bool.{true}
 use borrow.Author.Needs.{needs}
 use borrow.Author.Tests.{not-true, not-false}
 use lib.ListN.{drop}
 use Rattle.rules.specs.Laws.Outcomes.{bind-refused}
-use Rattle.iso.specs.IsoTimings.{wanted, date, read-from, components}
-use Rattle.iso_reader.specs.Steps.{Lettered, component-outcome}
+use Rattle.iso.specs.IsoTimings.{date, read-from, components}
+use Rattle.iso_reader.specs.Steps.{component-outcome}
 use Rattle.iso_reader.specs.Sums.{valued, first-refused, first-is, date-clock, date-number, none-so-far}
 use Rattle.iso_reader.proofs.reader.timing.Statement.{statement}
 use Rattle.iso_reader.proofs.reader.timing.Tie as tie

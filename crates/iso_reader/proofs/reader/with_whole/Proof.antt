@@ -1,5 +1,5 @@
 -- `iso_reader::reader::with_whole` meets its contract: the number that the digits spell, times the seconds of the kind. Assumes nothing.
-use mathlib.Core.Path.{_≡_, sym, ap, _∙_}
+use mathlib.Core.Path.{ap, _∙_}
 use Prim.Native.Nat.{_+_, _*_, _^_}
 use native.Mathlib.Nat.{le-trans}
 use borrow.Author.Needs.{needs}

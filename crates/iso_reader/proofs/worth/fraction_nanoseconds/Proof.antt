@@ -1,7 +1,5 @@
 -- `iso_reader::worth::fraction_nanoseconds` meets its contract: at each turn the digits from the place on are known, and what they are
 -- worth is less than a unit. Assumes nothing.
-use mathlib.Core.Path.{_≡_, sym, ap, _∙_}
-use mathlib.Core.Bool.{true}
 use Prim.Native.Nat.{_+_, _*_, _-_, _^_, _<_}
 use native.Mathlib.Omega.{arith}
 use borrow.Author.Needs.{needs}

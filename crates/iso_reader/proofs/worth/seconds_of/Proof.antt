@@ -1,5 +1,5 @@
 -- `iso_reader::worth::seconds_of` meets its contract: each kind from seconds to weeks. Assumes nothing.
-use mathlib.Core.Path.{_≡_, refl}
+use mathlib.Core.Path.{_≡_}
 use mathlib.Core.Bool.{true}
 use native.Mathlib.Omega.{arith}
 use lib.Dec.{lit<, lit≤}
