@@ -1,8 +1,9 @@
 /* Herovinga for C99 and C++: timings that are read exactly.
  *
- * Four functions, over numbers and bytes: a part of a text, a text's total, a length written, and a shift total added to. They keep
- * nothing between calls, so any number of threads may call them. The library is target/staticlib/libterminal.a (rt staticlib terminal),
- * for Linux on x86-64; every function in it is proved to answer as document 01 says, whatever it is passed.
+ * Six functions, over numbers and bytes: a part of a text, a text's total, a length written, a shift total added to, an ISO 8601 duration
+ * read, and a length written as one. They keep nothing between calls, so any number of threads may call them. The library is
+ * target/staticlib/libterminal.a (rt staticlib terminal), for Linux on x86-64; every function in it is proved to answer as document 01 and
+ * request one say, whatever it is passed.
  *
  * Each function returns a number of enum herovinga_number and writes the whole answer. On 0 the answer has the position and the length
  * that stand at the function below; on a refusal it has the position that stands at the number, and a length of zero with a plus, and
@@ -26,20 +27,24 @@ extern "C" {
 #endif
 
 /* What is handed back, and the position that then stands in the answer. The first test that fails decides, in the order 7, 11, 8, 10 and
- * then left to right through the text; the writer's order is 11, 10, 9. */
+ * then left to right through the text; the writer's order is 11, 10, 9. For an ISO text it is 8, then 12 and 13 left to right, and 14 last;
+ * for the ISO writer 11, 5, 10, 9. */
 enum herovinga_number {
-    HEROVINGA_DONE = 0,           /* read or written: the next place, or the text's size for a total */
+    HEROVINGA_DONE = 0,           /* read or written: the next place, or the text's size for a total and for an ISO text */
     HEROVINGA_NOTHING = 1,        /* nothing at the place: the place */
     HEROVINGA_SYNTAX = 2,         /* the text is no timing: where that shows */
     HEROVINGA_EXPONENT_ABOVE = 3, /* an exponent above 32767: 0 */
     HEROVINGA_EXPONENT_BELOW = 4, /* an exponent below -32768: 0 */
-    HEROVINGA_NEGATIVE = 5,       /* a part is negative while negatives are off: 0 */
+    HEROVINGA_NEGATIVE = 5,       /* a part is negative while negatives are off, or a length is that is to be written as ISO: 0 */
     HEROVINGA_NO_NUMBER = 6,      /* a part begins with no number: that byte */
     HEROVINGA_CARD = 7,           /* settings or table are wrong: one of enum herovinga_wrong, or the number of the first bad row */
     HEROVINGA_TEXT_TOO_LONG = 8,  /* a text of more than 4,096 bytes: 4096 */
     HEROVINGA_NO_ROOM = 9,        /* the buffer has fewer bytes left than the length needs: the place */
     HEROVINGA_BEYOND = 10,        /* a place beyond the text or the buffer: the place */
-    HEROVINGA_MALFORMED = 11      /* no length: 1,000,000,000 nanoseconds or more, or zero with a minus: 0 */
+    HEROVINGA_MALFORMED = 11,     /* no length: 1,000,000,000 nanoseconds or more, or zero with a minus: 0 */
+    HEROVINGA_NOT_ISO = 12,       /* no right ISO text has this byte here, or it ends too soon: that place */
+    HEROVINGA_YEAR_OR_MONTH = 13, /* the letter of years or months, which have no length: that byte */
+    HEROVINGA_TOO_LARGE = 14      /* an ISO text beyond the largest length: 0 */
 };
 
 /* Positions of number 7 beside those of rows, which are 0 to 63. */
@@ -79,7 +84,8 @@ enum herovinga_row {
 
 enum herovinga_limit {
     HEROVINGA_LONGEST_TEXT = 4096, /* bytes of a text that is read */
-    HEROVINGA_LONGEST_FORM = 31    /* bytes of a length that is written, at most */
+    HEROVINGA_LONGEST_FORM = 31,   /* bytes of a length that is written, at most */
+    HEROVINGA_LONGEST_ISO = 35     /* the same for one that is written as ISO */
 };
 
 /* A length of time. The sign is minus if negative is not 0; in an answer and in a total that was added to it is 0 or 1. */
@@ -169,6 +175,17 @@ uint8_t herovinga_write(const herovinga_length *length, uint8_t *buffer, size_t 
  * new total, which then also stands in *total. A refusal leaves *total as it was. */
 uint8_t herovinga_add_total(herovinga_length *total, const herovinga_settings *settings, const uint8_t *table, size_t table_size,
                             const uint8_t *text, size_t text_size, herovinga_answer *answer);
+
+/* Reads an ISO 8601 duration, as "P2W", "P1DT12H" or "PT1H30M0,5S": weeks alone; or days, hours, minutes and seconds in that order, at least
+ * one of them, with a 'T' before the first that is below days. The last number may have decimals, behind '.' or ','. A day has 24 hours.
+ * There is no card, and no sign. Position: the text's size. Length: the exact sum, rounded down to nanoseconds once. A sum beyond the largest
+ * length is not held to it, but refused by 14. */
+uint8_t herovinga_read_iso(const uint8_t *text, size_t text_size, herovinga_answer *answer);
+
+/* Writes a length at a place of the buffer as an ISO 8601 duration, as "PT1H30M0.5S": hours, minutes and seconds, the last two below 60, and
+ * those of zero left out; zero is "PT0S". Position: the place behind it. Length: the one written, and herovinga_read_iso reads it back. No
+ * other byte of the buffer changes, and none on a refusal. A length with a minus is refused by 5. */
+uint8_t herovinga_write_iso(const herovinga_length *length, uint8_t *buffer, size_t buffer_size, size_t place, herovinga_answer *answer);
 
 #ifdef __cplusplus
 }

@@ -1,5 +1,5 @@
 /* Calls the entries as C calls them, with what only C can pass (null, odd switches, counts that no byte holds, words that are no length) and
- * with every number of document 01's table, and holds each answer, the buffer and the total to what must be there. Prints how many answers
+ * with every number that is handed back, and holds each answer, the buffer and the total to what must be there. Prints how many answers
  * were held so, and each that is wrong; exits 1 if one is. */
 #include <inttypes.h>
 #include <stdint.h>
@@ -10,7 +10,7 @@
 #include "herovinga.h"
 
 #define LARGEST UINT64_MAX
-#define NUMBERS 12
+#define NUMBERS 15
 
 static unsigned long checks, wrong, answers[NUMBERS];
 
@@ -311,8 +311,12 @@ static void tables(const card *a)
     check_answer("no whole row", got, answer, HEROVINGA_CARD, HEROVINGA_WRONG_TABLE_SIZE, zero);
 }
 
+/* One of the two writers. */
+typedef uint8_t writer(const herovinga_length *, uint8_t *, size_t, size_t, herovinga_answer *);
+
 /* A length at a place of a buffer of so many bytes. What must be in the buffer then: wanted, or what was there. */
-static void writes(herovinga_length length, size_t size, size_t place, uint8_t number, uint64_t position, const char *wanted)
+static void check_written(writer *write, herovinga_length length, size_t size, size_t place, uint8_t number, uint64_t position,
+                          const char *wanted)
 {
     uint8_t buffer[40], then[40];
     herovinga_answer answer = unwritten();
@@ -321,9 +325,14 @@ static void writes(herovinga_length length, size_t size, size_t place, uint8_t n
     memset(buffer, '#', sizeof buffer);
     memset(then, '#', sizeof then);
     memcpy(then, wanted, strlen(wanted));
-    got = herovinga_write(&length, buffer, size, place, &answer);
+    got = write(&length, buffer, size, place, &answer);
     check_answer(wanted, got, answer, number, position, number == HEROVINGA_DONE ? written : zero);
     check("the buffer then", memcmp(buffer, then, sizeof buffer) == 0);
+}
+
+static void writes(herovinga_length length, size_t size, size_t place, uint8_t number, uint64_t position, const char *wanted)
+{
+    check_written(herovinga_write, length, size, place, number, position, wanted);
 }
 
 static void writings(void)
@@ -385,6 +394,120 @@ static void shift_totals(const card *a)
     adds(&worse, minus_zero, ".", HEROVINGA_CARD, HEROVINGA_WRONG_CONJUNCTIONS, minus_zero);
 }
 
+/* ---- ISO timings */
+
+static void check_iso(const char *text, size_t size, uint8_t number, uint64_t position, herovinga_length length)
+{
+    herovinga_answer answer = unwritten();
+    uint8_t got = herovinga_read_iso((const uint8_t *)text, size, &answer);
+    check_answer(text == NULL ? "null as ISO" : text, got, answer, number, position, length);
+}
+
+static void reads_iso(const char *text, uint64_t seconds, uint64_t nanoseconds)
+{
+    herovinga_length length = {0, 0, 0};
+    length.seconds = seconds;
+    length.nanoseconds = nanoseconds;
+    check_iso(text, strlen(text), HEROVINGA_DONE, strlen(text), length);
+}
+
+static void fails_iso(const char *text, uint8_t number, uint64_t position)
+{
+    check_iso(text, strlen(text), number, position, zero);
+}
+
+static void iso_readings(void)
+{
+    char text[HEROVINGA_LONGEST_TEXT + 2];
+
+    reads_iso("P2W", 1209600, 0);
+    reads_iso("P1DT12H", 129600, 0);
+    reads_iso("PT1H30M0,5S", 5400, 500000000);
+    reads_iso("PT0,1S", 0, 100000000);
+    reads_iso("PT0.0000000019S", 0, 1);
+    reads_iso("P0,000000000000001W", 0, 0);
+    reads_iso("PT18446744073709551615.9999999999S", LARGEST, 999999999);
+    fails_iso("PT18446744073709551616S", HEROVINGA_TOO_LARGE, 0);
+    fails_iso("P99999999999999999999W", HEROVINGA_TOO_LARGE, 0);
+    fails_iso("", HEROVINGA_NOT_ISO, 0);
+    fails_iso("P", HEROVINGA_NOT_ISO, 1);
+    fails_iso("p1D", HEROVINGA_NOT_ISO, 0);
+    fails_iso("-P1D", HEROVINGA_NOT_ISO, 0);
+    fails_iso("P1D1M", HEROVINGA_NOT_ISO, 3);
+    fails_iso("P1DT", HEROVINGA_NOT_ISO, 4);
+    fails_iso("PT1", HEROVINGA_NOT_ISO, 3);
+    fails_iso("PT1M1H", HEROVINGA_NOT_ISO, 5);
+    fails_iso("PT1.5H1M", HEROVINGA_NOT_ISO, 6);
+    fails_iso("PT1Y", HEROVINGA_NOT_ISO, 3);
+    fails_iso("PT99999999999999999999S ", HEROVINGA_NOT_ISO, 23);
+    fails_iso("P1Y", HEROVINGA_YEAR_OR_MONTH, 2);
+    fails_iso("P1,5MT1", HEROVINGA_YEAR_OR_MONTH, 4);
+    check_iso("PT1S\0", 5, HEROVINGA_NOT_ISO, 4, zero);
+    check_iso("P\377D", 3, HEROVINGA_NOT_ISO, 1, zero);
+    check_iso(NULL, 0, HEROVINGA_NOT_ISO, 0, zero);
+
+    /* As many bytes as may be read, and one more, which is 8 whatever they are. */
+    memset(text, '0', sizeof text);
+    memcpy(text, "PT", 2);
+    text[HEROVINGA_LONGEST_TEXT - 1] = 'S';
+    check_iso(text, HEROVINGA_LONGEST_TEXT, HEROVINGA_DONE, HEROVINGA_LONGEST_TEXT, zero);
+    check_iso(text, HEROVINGA_LONGEST_TEXT + 1, HEROVINGA_TEXT_TOO_LONG, 4096, zero);
+    text[0] = 'Y';
+    check_iso(text, HEROVINGA_LONGEST_TEXT, HEROVINGA_NOT_ISO, 0, zero);
+    check_iso(text, HEROVINGA_LONGEST_TEXT + 1, HEROVINGA_TEXT_TOO_LONG, 4096, zero);
+}
+
+/* As writes, and what is written reads back. */
+static void writes_iso(herovinga_length length, size_t size, size_t place, uint8_t number, uint64_t position, const char *wanted)
+{
+    check_written(herovinga_write_iso, length, size, place, number, position, wanted);
+    if (number == HEROVINGA_DONE)
+        check_iso(wanted + place, strlen(wanted + place), HEROVINGA_DONE, strlen(wanted + place), length);
+}
+
+static void iso_writings(void)
+{
+    static const uint64_t too_many[] = {1000000000, 0xffffffff, (uint64_t)1 << 32, ((uint64_t)1 << 32) + 5, (uint64_t)1 << 63, LARGEST};
+    static const uint64_t minus[] = {1, 5, 256, (uint64_t)1 << 32, LARGEST};
+    const herovinga_length small = {0, 0, 61700000}, day = {0, 90061, 500000000}, largest = {0, LARGEST, 999999999};
+    const herovinga_length longest = {0, UINT64_C(3600000000000003599), 999999999}, odd_zero = {5, 0, 0};
+    herovinga_answer answer = unwritten();
+    uint8_t got;
+    size_t i;
+    writes_iso(zero, 40, 0, HEROVINGA_DONE, 4, "PT0S");
+    writes_iso(day, 40, 0, HEROVINGA_DONE, 11, "PT25H1M1.5S");
+    writes_iso(small, 40, 0, HEROVINGA_DONE, 9, "PT0.0617S");
+    writes_iso(small, 9, 0, HEROVINGA_DONE, 9, "PT0.0617S");
+    writes_iso(small, 8, 0, HEROVINGA_NO_ROOM, 0, "");
+    writes_iso(small, 12, 3, HEROVINGA_DONE, 12, "###PT0.0617S");
+    writes_iso(small, 11, 3, HEROVINGA_NO_ROOM, 3, "");
+    writes_iso(small, 9, 9, HEROVINGA_NO_ROOM, 9, "");
+    writes_iso(small, 9, 10, HEROVINGA_BEYOND, 10, "");
+    writes_iso(small, 9, SIZE_MAX, HEROVINGA_BEYOND, SIZE_MAX, "");
+    writes_iso(longest, HEROVINGA_LONGEST_ISO, 0, HEROVINGA_DONE, 35, "PT1000000000000000H59M59.999999999S");
+    writes_iso(longest, HEROVINGA_LONGEST_ISO - 1, 0, HEROVINGA_NO_ROOM, 0, "");
+    writes_iso(largest, 40, 0, HEROVINGA_DONE, 32, "PT5124095576030431H15.999999999S");
+    writes_iso(odd_zero, 9, SIZE_MAX, HEROVINGA_MALFORMED, 0, "");
+    for (i = 0; i < sizeof minus / sizeof minus[0]; i++) {
+        herovinga_length negative = {0, 1, 0};
+        negative.negative = minus[i];
+        writes_iso(negative, 40, 0, HEROVINGA_NEGATIVE, 0, "");
+        writes_iso(negative, 9, 10, HEROVINGA_NEGATIVE, 0, "");
+    }
+    for (i = 0; i < sizeof too_many / sizeof too_many[0]; i++) {
+        herovinga_length length = {0, 1, 0};
+        length.nanoseconds = too_many[i];
+        writes_iso(length, 40, 0, HEROVINGA_MALFORMED, 0, "");
+        length.negative = 5;
+        writes_iso(length, 40, 0, HEROVINGA_MALFORMED, 0, "");
+    }
+    got = herovinga_write_iso(&small, NULL, 0, 0, &answer);
+    check_answer("null buffer for ISO", got, answer, HEROVINGA_NO_ROOM, 0, zero);
+    answer = unwritten();
+    got = herovinga_write_iso(&small, NULL, 0, 1, &answer);
+    check_answer("beyond a null buffer for ISO", got, answer, HEROVINGA_BEYOND, 1, zero);
+}
+
 int main(void)
 {
     card a, before;
@@ -403,6 +526,8 @@ int main(void)
     tables(&a);
     writings();
     shift_totals(&a);
+    iso_readings();
+    iso_writings();
     check("the card is as it was", memcmp(&a, &before, sizeof a) == 0);
     for (i = 0; i < NUMBERS; i++) {
         sum += answers[i];

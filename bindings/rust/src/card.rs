@@ -2,7 +2,7 @@
 
 use crate::length::Length;
 use crate::parts::{Part, Parts};
-use crate::raw::{self, Answer, Settings};
+use crate::raw::{self, Settings};
 use crate::refusal::Refusal;
 
 /// How many conjunctions the settings have room for.
@@ -97,14 +97,14 @@ impl Card {
     /// The sum of a text's parts, clamped at each part between [`Length::MIN`]
     /// and [`Length::MAX`].
     pub fn read_total(&self, text: impl AsRef<[u8]>) -> Result<Length, Refusal> {
-        length(raw::read_total(&self.settings, &self.table, text.as_ref()))
+        Length::of_answer(&raw::read_total(&self.settings, &self.table, text.as_ref()))
     }
 
     /// The part of a text at a place, and the place at which the next begins.
     pub fn read_part(&self, text: impl AsRef<[u8]>, place: usize) -> Result<Part, Refusal> {
         let answer = raw::read_part(&self.settings, &self.table, text.as_ref(), place);
         Ok(Part {
-            length: length(answer)?,
+            length: Length::of_answer(&answer)?,
             next: answer.position as usize,
         })
     }
@@ -122,14 +122,7 @@ impl Card {
         let added = raw::add_total(&mut record, &self.settings, &self.table, text.as_ref());
         // After a refusal the record is as it was.
         *total = Length::of(record);
-        length(added)
-    }
-}
-
-fn length(answer: Answer) -> Result<Length, Refusal> {
-    match answer.number {
-        0 => Ok(Length::of(answer.length)),
-        _ => Err(Refusal::of(&answer)),
+        Length::of_answer(&added)
     }
 }
 

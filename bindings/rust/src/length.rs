@@ -6,12 +6,17 @@ use std::fmt;
 use std::ops::Neg;
 use std::time::Duration;
 
-use crate::raw::{self, Record};
+use crate::raw::{self, Answer, Record};
 use crate::refusal::Refusal;
 
 /// The largest size of a written length: a sign, twenty digits of seconds, a
 /// point and nine decimals.
 pub const MOST_WRITTEN: usize = 31;
+
+/// The largest size of a length written as an ISO 8601 text: sixteen digits of
+/// hours, two of minutes, two of seconds and nine decimals, a point, and the
+/// letters `P`, `T`, `H`, `M` and `S`.
+pub const MOST_WRITTEN_ISO: usize = 35;
 
 const NANOSECONDS_OF_A_SECOND: u32 = 1_000_000_000;
 
@@ -85,11 +90,7 @@ impl Length {
     /// Refused (10) if the place is beyond the buffer, and (9) if too few bytes
     /// are left there; the buffer is then as it was.
     pub fn write_at(self, buffer: &mut [u8], place: usize) -> Result<usize, Refusal> {
-        let answer = raw::write(&self.record(), buffer, place);
-        match answer.number {
-            0 => Ok(answer.position as usize),
-            _ => Err(Refusal::of(&answer)),
-        }
+        place_after(&raw::write(&self.record(), buffer, place))
     }
 
     /// Writes the length at the end of a text. Texts of lengths so written, one
@@ -102,6 +103,49 @@ impl Length {
             .write_at(text, place)
             .expect("a length is written where there is room for the largest");
         text.truncate(next);
+    }
+
+    /// The length of an ISO 8601 text, as `P2W`, `P1DT12H` or `PT1H30M0,5S`:
+    /// weeks alone, or days, hours, minutes and seconds, the last number with
+    /// decimals or not. It is exact, rounded down to nanoseconds once.
+    ///
+    /// Refused (12) where it is no such text, (13) at the letter of years or
+    /// months, which have no length, (14) if it is more than [`Length::MAX`], and
+    /// (8) if it has more than 4,096 bytes.
+    ///
+    /// ```
+    /// use herovinga::{Length, Refusal};
+    ///
+    /// assert_eq!(Length::from_iso("PT1H30M0,5S")?, Length::new(false, 5_400, 500_000_000)?);
+    /// assert_eq!(Length::from_iso("P1Y"), Err(Refusal { number: 13, position: 2 }));
+    /// # Ok::<(), Refusal>(())
+    /// ```
+    pub fn from_iso(text: impl AsRef<[u8]>) -> Result<Self, Refusal> {
+        Self::of_answer(&raw::read_iso(text.as_ref()))
+    }
+
+    /// The length as an ISO 8601 text: hours, minutes and seconds, those of zero
+    /// left out, and `PT0S` for zero. [`Length::from_iso`] reads it back. Refused
+    /// (5) if it is negative, for which there is no such text.
+    ///
+    /// ```
+    /// use herovinga::Length;
+    ///
+    /// assert_eq!(Length::new(false, 5_400, 500_000_000)?.to_iso()?, "PT1H30M0.5S");
+    /// # Ok::<(), herovinga::Refusal>(())
+    /// ```
+    pub fn to_iso(self) -> Result<String, Refusal> {
+        let mut buffer = [0; MOST_WRITTEN_ISO];
+        let end = self.write_iso_at(&mut buffer, 0)?;
+        Ok(buffer[..end].iter().copied().map(char::from).collect())
+    }
+
+    /// Writes the length as an ISO 8601 text at a place of a buffer and gives the
+    /// place after it. Refused (5) if it is negative, (10) if the place is beyond
+    /// the buffer, and (9) if too few bytes are left there; the buffer is then as
+    /// it was.
+    pub fn write_iso_at(self, buffer: &mut [u8], place: usize) -> Result<usize, Refusal> {
+        place_after(&raw::write_iso(&self.record(), buffer, place))
     }
 
     /// The length as a record of words.
@@ -118,6 +162,22 @@ impl Length {
             seconds,
             nanoseconds: nanoseconds as u32,
         }
+    }
+
+    /// The length of an answer, or its refusal.
+    pub(crate) fn of_answer(answer: &Answer) -> Result<Self, Refusal> {
+        match answer.number {
+            0 => Ok(Self::of(answer.length)),
+            _ => Err(Refusal::of(answer)),
+        }
+    }
+}
+
+/// The place after what was written, or the answer's refusal.
+fn place_after(answer: &Answer) -> Result<usize, Refusal> {
+    match answer.number {
+        0 => Ok(answer.position as usize),
+        _ => Err(Refusal::of(answer)),
     }
 }
 

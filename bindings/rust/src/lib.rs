@@ -43,6 +43,10 @@
 //! card.add_total(&mut total, "90s")?;
 //! card.add_total(&mut total, "10s and then").unwrap_err();
 //! assert_eq!(std::time::Duration::try_from(total)?.as_secs(), 90);
+//!
+//! // ISO 8601 texts need no card.
+//! assert_eq!(Length::from_iso("PT1M30S")?, total);
+//! assert_eq!(total.to_iso()?, "PT1M30S");
 //! # Ok::<(), Box<dyn std::error::Error>>(())
 //! ```
 
@@ -55,6 +59,6 @@ pub mod raw;
 mod refusal;
 
 pub use card::{Card, CardBuilder, Kind};
-pub use length::{Length, MOST_WRITTEN, NegativeLength};
+pub use length::{Length, MOST_WRITTEN, MOST_WRITTEN_ISO, NegativeLength};
 pub use parts::{Part, Parts};
 pub use refusal::Refusal;

@@ -80,6 +80,14 @@ unsafe extern "C" {
         text_size: usize,
         answer: *mut u64,
     ) -> u8;
+    fn herovinga_read_iso(text: *const u8, text_size: usize, answer: *mut u64) -> u8;
+    fn herovinga_write_iso(
+        length: *const u64,
+        buffer: *mut u8,
+        buffer_size: usize,
+        place: usize,
+        answer: *mut u64,
+    ) -> u8;
 }
 
 /// Reads one part of a text from a place.
@@ -155,6 +163,35 @@ pub fn add_total(total: &mut Record, settings: &Settings, table: &[u8], text: &[
             table.len(),
             text.as_ptr(),
             text.len(),
+            answer.as_mut_ptr(),
+        )
+    };
+    Answer::of(number, answer)
+}
+
+/// Reads an ISO 8601 text.
+pub fn read_iso(text: &[u8]) -> Answer {
+    let mut answer = [0; 4];
+    // SAFETY: the text is a slice lent with its size for the call; the four
+    // words of the answer are the entry's alone, and it writes nothing else and
+    // keeps no pointer.
+    let number = unsafe { herovinga_read_iso(text.as_ptr(), text.len(), answer.as_mut_ptr()) };
+    Answer::of(number, answer)
+}
+
+/// Writes a length at a place of a buffer as an ISO 8601 text. After a refusal
+/// the buffer is as it was.
+pub fn write_iso(length: &Record, buffer: &mut [u8], place: usize) -> Answer {
+    let mut answer = [0; 4];
+    // SAFETY: the record is three words; the buffer is a slice lent with its
+    // size and, like the four words of the answer, the entry's alone for the
+    // call. It writes within these two only and keeps no pointer.
+    let number = unsafe {
+        herovinga_write_iso(
+            length.as_ptr(),
+            buffer.as_mut_ptr(),
+            buffer.len(),
+            place,
             answer.as_mut_ptr(),
         )
     };

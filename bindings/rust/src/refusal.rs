@@ -5,11 +5,12 @@ use std::fmt;
 
 use crate::raw::Answer;
 
-/// A refusal, by document 01's number, and where it was met. What the position
-/// means depends on the number; `Display` says it in a sentence.
+/// A refusal, by its number in document 01 or, above 11, in request one, and
+/// where it was met. What the position means depends on the number; `Display`
+/// says it in a sentence.
 #[derive(Clone, Copy, PartialEq, Eq, Hash, Debug)]
 pub struct Refusal {
-    /// 1 to 11.
+    /// 1 to 14.
     pub number: u8,
     /// A place of the text or buffer, 0, or for 7 what is wrong: 65 the
     /// delimiters, 66 the conjunctions, 67 the default kind, 64 the size of the
@@ -52,7 +53,9 @@ impl fmt::Display for Refusal {
             2 => write!(out, "the text cannot be read on at place {position}"),
             3 => out.write_str("an exponent is above 32767"),
             4 => out.write_str("an exponent is below -32768"),
-            5 => out.write_str("a part is negative, which the card forbids"),
+            5 => out.write_str(
+                "a length is negative, which the card forbids or an ISO text cannot say",
+            ),
             6 => write!(out, "the part begins with no number at place {position}"),
             7 => self.describe_card(out),
             8 => write!(out, "the text has more than {position} bytes"),
@@ -61,6 +64,15 @@ impl fmt::Display for Refusal {
             11 => out.write_str(
                 "the length record is malformed: a second or more of nanoseconds, or minus zero",
             ),
+            12 => write!(
+                out,
+                "the text is no ISO timing: at place {position} it is wrong, or ends too soon"
+            ),
+            13 => write!(
+                out,
+                "years and months have no length, and place {position} has the letter of one"
+            ),
+            14 => out.write_str("the ISO timing is beyond the largest length"),
             number => write!(out, "refusal {number} at {position}"),
         }
     }

@@ -165,7 +165,10 @@ fn sentences() {
         ((2, 6), "the text cannot be read on at place 6"),
         ((3, 0), "an exponent is above 32767"),
         ((4, 0), "an exponent is below -32768"),
-        ((5, 0), "a part is negative, which the card forbids"),
+        (
+            (5, 0),
+            "a length is negative, which the card forbids or an ISO text cannot say",
+        ),
         ((6, 2), "the part begins with no number at place 2"),
         (
             (7, 65),
@@ -188,6 +191,15 @@ fn sentences() {
             (11, 0),
             "the length record is malformed: a second or more of nanoseconds, or minus zero",
         ),
+        (
+            (12, 3),
+            "the text is no ISO timing: at place 3 it is wrong, or ends too soon",
+        ),
+        (
+            (13, 2),
+            "years and months have no length, and place 2 has the letter of one",
+        ),
+        ((14, 0), "the ISO timing is beyond the largest length"),
     ];
     for ((number, position), sentence) in sentences {
         let error: Box<dyn std::error::Error> = Box::new(refusal(number, position));

@@ -1,4 +1,4 @@
-// The four entries. C passes a slice as pointer and length, and an array by its pointer.
+// The four entries of document 01. C passes a slice as pointer and length, and an array by its pointer.
 ghost use mathlib.Core.Path.{_≡_};
 ghost use Rattle.rules.specs.WhatEveryEntryOwes.{part-answer, total-answer, write-answer, written-buffer, shift-answer};
 ghost use Rattle.terminal.specs.Words.{settings-of, length-of, answer-words, shifted-words};
