@@ -1,4 +1,3 @@
 -- What the contracts of the writer of ISO timings need besides the definitions of request one, and laws of those definitions.
 pub mod Components
 pub mod Forms
-pub mod ReadsBack

@@ -1,0 +1,2 @@
+-- ISO timings: what is written reads back.
+pub mod ReadsBack
