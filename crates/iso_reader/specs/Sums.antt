@@ -25,6 +25,7 @@ use Rattle.iso.specs.IsoTimings.{Component, Stand, DAYS, ANY, start, date, want
 use Rattle.iso.specs.Laws.Runs.{goes-on}
 use Rattle.iso.specs.Laws.Letters.{came-date, came-below}
 use Rattle.iso.specs.Laws.OneComponent.{open-kind}
+use Rattle.iso.specs.Laws.Stands.{or-false-right}
 use Rattle.iso.specs.Laws.Worth.{whole-worth, fraction-worth, worth-first, worth-none}
 use Rattle.iso_reader.specs.declared.components.Counted.{Counted}
 use Rattle.iso_reader.specs.Steps.{Within, Lettered, component-of, component-outcome, found}
@@ -52,10 +53,6 @@ due-then read total n = read >>= λ cs. due total n
 
 pub next-within : {a b : ℕ} → a < b → a + 1 ≤ b
 next-within h = omega arith
-
-no-or : (a b : Bool) → (a || b) ≡ false → b ≡ false
-no-or true b e = absurd (false≢true (sym e))
-no-or false b e = e
 
 unmarked : (fs : List ℕ) → not (none fs) ≡ false → fs ≡ []
 unfolding none
@@ -108,7 +105,7 @@ module _ (text : List ℕ) (c : Counted) (known : Sized text c) where
 
   open-fraction : closes comp ≡ false → comp .fraction ≡ []
   unfolding closes
-  open-fraction e = unmarked (comp .fraction) (no-or (eqb (c .kind) 7 || eqb (c .kind) 3) (not (none (comp .fraction))) e)
+  open-fraction e = unmarked (comp .fraction) (or-false-right (eqb (c .kind) 7 || eqb (c .kind) 3) (not (none (comp .fraction))) e)
 
   -- ---- what it is worth
 

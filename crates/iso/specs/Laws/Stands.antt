@@ -82,7 +82,7 @@ or-false-left : (a b : Bool) → (a || b) ≡ false → a ≡ false
 or-false-left false b e = refl
 or-false-left true b e = e
 
-or-false-right : (a b : Bool) → (a || b) ≡ false → b ≡ false
+pub or-false-right : (a b : Bool) → (a || b) ≡ false → b ≡ false
 or-false-right false b e = e
 or-false-right true b e = absurd (false≢true (sym e))
 
