@@ -22,7 +22,7 @@ const READ_AT: usize = 0;
 
 const WRITTEN_AT: usize = 8;
 
-// Room for one length, the longest of which has 36 bytes.
+// Room for one length, the longest of which has 35 bytes.
 const ONE: usize = 64;
 
 // The first bytes of a buffer, read so often. The number of an answer is below 15, so 0 is added to the size each time; but the
