@@ -17,7 +17,7 @@ const SIZE_AT: usize = 8;
 const TEXT: usize = 13;
 
 // Room for the line of a text that is a little longer than a text may be.
-const ROOM: usize = 16_384;
+pub const ROOM: usize = 16_384;
 
 // More texts than the list has, since a proved loop has to end.
 const MOST_TEXTS: u64 = 1_000_000;
@@ -32,23 +32,35 @@ struct Readings {
     too_large: u64,
 }
 
+pub enum Put {
+    End,
+    Bytes(usize),
+}
+
 enum Next {
     End,
     Number(u8),
 }
 
-// One text put into the buffer, read and printed.
-fn read_next(buffer: &mut [u8]) -> Next {
+// One text put into the buffer.
+pub fn put_next(buffer: &mut [u8]) -> Put {
     let mut line = [0u8; TEXT];
     if !read_line(&mut line) {
-        return Next::End;
+        return Put::End;
     }
     let run = half_at(&line, RUN_AT);
     let size = short_at(&line, SIZE_AT);
     if !read_text(buffer, run, size) {
-        return Next::End;
+        return Put::End;
     }
-    let bytes = run as usize + size as usize;
+    Put::Bytes(run as usize + size as usize)
+}
+
+// One text put into the buffer, read and printed.
+fn read_next(buffer: &mut [u8]) -> Next {
+    let Put::Bytes(bytes) = put_next(buffer) else {
+        return Next::End;
+    };
     let answer = read_iso(first_bytes(buffer, bytes));
     print_answer(answer);
     Next::Number(answer.number)

@@ -34,10 +34,11 @@ pub enum NumberRead {
     Refused(usize),
 }
 
-// A number, and the kind of the unit whose letter stands at its end.
+// A number, and the kind of the unit whose letter stands at its end. The kind comes first: it is one byte, as is what a refusal begins with,
+// so that no place shares a word with it where the two meet.
 pub struct Counted {
-    pub typed: Typed,
     pub kind: u8,
+    pub typed: Typed,
 }
 
 pub enum ComponentRead {
