@@ -9,53 +9,20 @@ Inv-loop buffer size rounds answer₀ left₀ answer left = Unit {0}
 abbrev μ-loop : tie.MeasureT-loop
 μ-loop buffer size rounds answer₀ left₀ answer left = left
 
-first-bytes-requires : tie.Need-first-bytes-requires Inv-loop μ-loop
-first-bytes-requires c κs = search needs
-
-read-iso-requires : tie.Need-read-iso-requires Inv-loop μ-loop
-read-iso-requires c κs = search needs
-
-loop-holds : tie.Need-loop-holds Inv-loop μ-loop
-loop-holds c = search needs
-
-cast-more : tie.Need-cast-more Inv-loop μ-loop
-cast-more c = search needs
-
-further-requires : tie.Need-further-requires Inv-loop μ-loop
-further-requires c κs = search needs
-
-first-bytes-requires-2 : tie.Need-first-bytes-requires-2 Inv-loop μ-loop
-first-bytes-requires-2 c κs = search needs
-
-read-iso-requires-2 : tie.Need-read-iso-requires-2 Inv-loop μ-loop
-read-iso-requires-2 c κs = search needs
-
-sub-left : tie.Need-sub-left Inv-loop μ-loop
-sub-left c = search needs
-
-loop-less : tie.Need-loop-less Inv-loop μ-loop
-loop-less c = search needs
-
-loop-again : tie.Need-loop-again Inv-loop μ-loop
-loop-again c = search needs
-
-returns : tie.Need-returns Inv-loop μ-loop
-returns c = search needs
-
 pub read-often-spec : {M : Type 1} → statement M
 read-often-spec =
     tie.close
     (tie.spec
     Inv-loop
     μ-loop
-    first-bytes-requires
-    read-iso-requires
-    loop-holds
-    cast-more
-    further-requires
-    first-bytes-requires-2
-    read-iso-requires-2
-    sub-left
-    loop-less
-    loop-again
-    returns)
+    (λ c κs. search needs)
+    (λ c κs. search needs)
+    (λ c. search needs)
+    (λ c. search needs)
+    (λ c κs. search needs)
+    (λ c κs. search needs)
+    (λ c κs. search needs)
+    (λ c. search needs)
+    (λ c. search needs)
+    (λ c. search needs)
+    (λ c. search needs))

@@ -26,12 +26,6 @@ size-is c = c .size .ensures ∙ sym (form-length _) ∙ ap length (c .before .c
 
 -- ---- the needs
 
-well-formed-requires : tie.Need-well-formed-requires
-well-formed-requires c κs = search needs
-
-refusal-requires : tie.Need-refusal-requires
-refusal-requires c κs = search needs
-
 returns : tie.Need-returns
 returns c =
     let bad = c .before in
@@ -40,9 +34,6 @@ returns c =
       kept .1,
     )
 
-refusal-requires-2 : tie.Need-refusal-requires-2
-refusal-requires-2 c κs = search needs
-
 returns-2 : tie.Need-returns-2
 returns-2 c =
     let minus = c .before in
@@ -50,9 +41,6 @@ returns-2 c =
       c .refusal2 .ensures ∙ kept .0,
       kept .1,
     )
-
-refusal-requires-3 : tie.Need-refusal-requires-3
-refusal-requires-3 c κs = search needs
 
 returns-3 : tie.Need-returns-3
 returns-3 c =
@@ -66,15 +54,6 @@ returns-3 c =
 counted-requires : tie.Need-counted-requires
 counted-requires c κs = proper _ (good (c .before .before))
 
-size-requires : tie.Need-size-requires
-size-requires c κs = search needs
-
-sub-if4 : tie.Need-sub-if4
-sub-if4 c = search needs
-
-refusal-requires-4 : tie.Need-refusal-requires-4
-refusal-requires-4 c κs = search needs
-
 returns-4 : tie.Need-returns-4
 returns-4 c =
     let full = c .before in
@@ -87,18 +66,6 @@ returns-4 c =
       c .refusal4 .ensures ∙ kept .0,
       kept .1,
     )
-
-put-form-requires : tie.Need-put-form-requires
-put-form-requires c κs = search needs
-
-add-done : tie.Need-add-done
-add-done c = search needs
-
-done-requires : tie.Need-done-requires
-done-requires c κs = search needs
-
-same-length : tie.Need-same-length
-same-length c = search needs
 
 returns-5 : tie.Need-returns-5
 returns-5 c =
@@ -119,20 +86,20 @@ pub write-iso-spec : {M : Type 1} → statement M
 write-iso-spec =
     tie.close
     (tie.spec
-    well-formed-requires
-    refusal-requires
+    (λ c κs. search needs)
+    (λ c κs. search needs)
     returns
-    refusal-requires-2
+    (λ c κs. search needs)
     returns-2
-    refusal-requires-3
+    (λ c κs. search needs)
     returns-3
     counted-requires
-    size-requires
-    sub-if4
-    refusal-requires-4
+    (λ c κs. search needs)
+    (λ c. search needs)
+    (λ c κs. search needs)
     returns-4
-    put-form-requires
-    add-done
-    done-requires
-    same-length
+    (λ c κs. search needs)
+    (λ c. search needs)
+    (λ c κs. search needs)
+    (λ c. search needs)
     returns-5)
