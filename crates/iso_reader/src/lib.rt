@@ -1,4 +1,4 @@
 // The reader of ISO timings.
-pub mod components;
+mod components;
 pub mod reader;
-pub mod worth;
+mod worth;

@@ -132,6 +132,7 @@ fn dated(text: &[u8], counted: Counted) -> TotalRead
     clock(text, next + 1, sum, DAYS)
 }
 
+// `P`, and behind it `T` or a first component.
 fn timing(text: &[u8]) -> TotalRead
     ensures { λ r. ⌜ outcomes.total r ≡ valued (components (now (text .entry))) ⌝ }
 {

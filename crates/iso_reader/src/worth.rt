@@ -19,6 +19,7 @@ use reading::total::TotalRead;
 use rules::Length;
 use rules::Refusal;
 use value::digits::Word;
+use value::digits::wide;
 
 pub const NANOSECONDS_PER_SECOND: u64 = 1_000_000_000;
 
@@ -63,14 +64,8 @@ pub fn add(total: Word, number: Word, unit: u64) -> Word
     Word::Fits(seconds + count * unit)
 }
 
-fn wide(byte: u8) -> u64
-    ensures { λ r. ⌜ r ≡ byte ⌝ }
-{
-    byte as u64
-}
-
 // What digits behind a mark are worth, of a unit of so many nanoseconds, rounded down once: from the last digit to the first, a tenth
-// of the digit and of what stands behind it. No digit is cut off, since what a tenth drops cannot come back.
+// of the digit and of what stands behind it. Rounded down at each tenth it comes to the same as rounded down once, at the end.
 pub fn fraction_nanoseconds(text: &[u8], start: usize, end: usize, unit: u64) -> u64
     requires { ⌜ (0 < unit) × (unit ≤ 604800 * 10 ^ 9) ⌝ }
     requires { ⌜ (start ≤ end) × (end ≤ length (now text)) ⌝ }

@@ -35,7 +35,7 @@ const LAST_DIGIT: u64 = 5;
 // The byte `0`.
 const ZERO: u64 = 48;
 
-fn wide(byte: u8) -> u64
+pub fn wide(byte: u8) -> u64
     ensures { λ r. ⌜ r ≡ byte ⌝ }
 {
     byte as u64
