@@ -10,4 +10,5 @@ pub mod Begins
 pub mod Refused
 pub mod Right
 pub mod Places
+pub mod Answered
 pub mod Worth

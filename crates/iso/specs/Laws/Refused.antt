@@ -38,10 +38,10 @@ pub record AtYearOrMonth (Begun : List ℕ → Type 0) (text : List ℕ) (place 
   pub after-number : is DIGIT (getD text (place - 1) 0) ≡ true
   pub before-clock : all (λ b. not (eqb b 84)) (take place text) ≡ true
 
-other-cause : {A : Type 0} {o : Outcome A} {c d : Refusal} → o ≡ refused c → o ≡ refused d → c ≡ d
+pub other-cause : {A : Type 0} {o : Outcome A} {c d : Refusal} → o ≡ refused c → o ≡ refused d → c ≡ d
 other-cause p q = cc
 
-causes-apart : {place other : ℕ} → NotIso place ≡ YearOrMonth other → ⊥
+pub causes-apart : {place other : ℕ} → NotIso place ≡ YearOrMonth other → ⊥
 causes-apart p = let z : _≡_ {A = ℕ} 0 1 = cc in omega arith
 
 -- ---- what a refusal says
