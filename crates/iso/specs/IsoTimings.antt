@@ -121,13 +121,13 @@ nanoseconds-of cs = exact (most-decimals cs) cs * nanoseconds-per-second / 10 ^ 
 
 -- ---- how a text is read: byte by byte; what has been read says what may come
 
--- after so much of a text. A kind k says that the next one is below it
+-- after so much of a text, what may come next. A kind k says that the kind of the next component is below it
 pub data Stand : Type 0 where
   -- nothing: `P` comes
   start : Stand
   -- `P`: a digit, or `T`
   date : Stand
-  -- `T`, or hours or minutes: a digit
+  -- `T`: a digit
   wanted : ℕ → Stand
   -- digits: more of them, a mark, or a letter
   whole : ℕ → List ℕ → Stand
@@ -218,10 +218,11 @@ iso-answer text = answered (done (length text)) (read-iso text)
 
 -- ---- the writer
 
--- a component, its fraction as in the old writer; none of zero
+-- a component, its fraction as in the old writer
 unfoldable pub component : ℕ → ℕ → ℕ → Component
 component kind number nanoseconds = record { whole = whole-digits number; fraction = written-fraction nanoseconds; kind = kind }
 
+-- one of zero is left out
 unfoldable pub unless-zero : ℕ → ℕ → ℕ → List Component
 unless-zero kind number nanoseconds = if eqb number 0 && eqb nanoseconds 0 then [] else component kind number nanoseconds ∷ []
 

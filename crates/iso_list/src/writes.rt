@@ -4,6 +4,7 @@ use crate::lengths::nth;
 use iso_reader::reader::read_iso;
 use iso_writer::writer::write_iso;
 use libc::STDOUT_FILENO;
+use lists::answers::same_answer;
 use lists::counts::added;
 use lists::counts::one_more;
 use lists::counts::print_count;
@@ -50,16 +51,6 @@ fn done(position: usize, length: Length) -> Answer {
         position,
         length,
     }
-}
-
-fn same_answer(a: Answer, b: Answer) -> bool {
-    if a.number != b.number {
-        return false;
-    }
-    if a.position != b.position {
-        return false;
-    }
-    same_length(a.length, b.length)
 }
 
 fn differs_unless(agrees: bool, before: Tally) -> Tally {

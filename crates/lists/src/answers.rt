@@ -1,4 +1,5 @@
-// Answers, printed as the line program prints them.
+// Answers: printed as the line program prints them, and compared.
+use crate::fields::same_length;
 use crate::lines::first_bytes;
 use libc::STDOUT_FILENO;
 use rules::Answer;
@@ -12,4 +13,14 @@ pub fn print_answer(answer: Answer) {
     let mut line = [0u8; LONGEST_LINE];
     let printed = put_answer(answer, &mut line, 0);
     io::write_all(STDOUT_FILENO, first_bytes(&line, printed));
+}
+
+pub fn same_answer(a: Answer, b: Answer) -> bool {
+    if a.number != b.number {
+        return false;
+    }
+    if a.position != b.position {
+        return false;
+    }
+    same_length(a.length, b.length)
 }

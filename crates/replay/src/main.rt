@@ -4,6 +4,7 @@
 // hexadecimal digits (entry, place, run and size of the text, number, position, length) and the line of its text.
 use libc::STDOUT_FILENO;
 use lists::answers::print_answer;
+use lists::answers::same_answer;
 use lists::cards::MOST_BYTES;
 use lists::cards::Next;
 use lists::cards::next_card;
@@ -13,7 +14,6 @@ use lists::fields::byte_at;
 use lists::fields::flag_at;
 use lists::fields::half_at;
 use lists::fields::length_at;
-use lists::fields::same_length;
 use lists::fields::short_at;
 use lists::fields::word_at;
 use lists::lines::first_bytes;
@@ -96,16 +96,6 @@ fn ask(settings: Settings, table: &[u8], text: &[u8], request: Request) -> Answe
     }
 }
 
-fn same(a: Answer, b: Answer) -> bool {
-    if a.number != b.number {
-        return false;
-    }
-    if a.position != b.position {
-        return false;
-    }
-    same_length(a.length, b.length)
-}
-
 fn count(number: u8, counts: &mut [u64; NUMBERS]) {
     let n = number as usize;
     if n < NUMBERS {
@@ -131,7 +121,7 @@ fn replay_next(
     let size = request.run as usize + request.size as usize;
     let answer = ask(settings, table, first_bytes(text, size), request);
     count(answer.number, counts);
-    if same(answer, request.answer) {
+    if same_answer(answer, request.answer) {
         Turn::Agrees
     } else {
         Turn::Differs(answer)

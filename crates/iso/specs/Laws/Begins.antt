@@ -12,6 +12,7 @@ use Rattle.rules.specs.declared.Refusal.the-variants.{NotIso}
 use Rattle.rules.specs.Common.{if_then_else_, all}
 use Rattle.rules.specs.NumbersHandedBack.{Outcome, got, refused}
 use Rattle.iso.specs.IsoTimings.{Component, Stand, start, step, may-end, read-from, components}
+use Rattle.iso.specs.Laws.Sound.{never}
 use Rattle.iso.specs.Laws.Stands.{Sane, untimed, completion, completed, ReadsFrom}
 use Rattle.iso.specs.Laws.Walks.{Walk, walk-reads, walk-refused, walk-stopped, walk-place, walk-sane, Way, through, stopped, way}
 
@@ -25,7 +26,7 @@ Begins bytes = (rest : List ℕ) × Reads (bytes ++ rest)
 
 -- an outcome is not both
 pub not-both : {A : Type 0} {o : Outcome A} {a : A} {cause : Refusal} → o ≡ got a → o ≡ refused cause → ⊥
-not-both p q = let z : _≡_ {A = ℕ} 0 1 = cc in omega arith
+not-both p q = never (sym q ∙ p)
 
 begins-front : (front back : List ℕ) → Begins (front ++ back) → Begins front
 begins-front front back r = (back ++ r .0, (r .1 .0, rw (← append-assoc front back (r .0)) (r .1 .1)))

@@ -3,17 +3,13 @@
 use mathlib.Core.Path.{_≡_, refl, ap, _∙_}
 use mathlib.Core.List.{List, [], _∷_, _++_, append-nil}
 use mathlib.Core.Logic.{_⊎_, ⊎-elim}
-use Prim.Native.Nat.{ℕ, _+_, _*_, _/_, _^_, _<_}
-use native.Mathlib.Nat.{add-zero, add-comm, add-mul, mul-assoc, mul-comm, mul-one, div-one, one-le-pow, add-mul-div-right, max-zero, zero-max, sub-zero, sub-self, zero-mul, pow-zero}
-use lib.Dec.{lit<}
+use Prim.Native.Nat.{ℕ, _+_, _*_, _/_, _^_}
+use native.Mathlib.Nat.{add-zero, add-comm, add-mul, mul-assoc, mul-comm, mul-one, div-one, add-mul-div-right, max-zero, zero-max, sub-zero, sub-self, zero-mul, pow-zero}
 use lib.ListN.{length, drop}
 use Rattle.rules.specs.ThePartOfTheCrateWeTake.{nanoseconds-per-second}
 use Rattle.rules.specs.Evaluation.{spelled}
-use Rattle.value.specs.Digits.{spelled-append, spelled-from}
+use Rattle.value.specs.Digits.{ten-pos, spelled-append, spelled-from}
 use Rattle.iso.specs.IsoTimings.{Component, decimals, most-decimals, seconds-of, exact, nanoseconds-of}
-
-ten-pos : (k : ℕ) → 0 < 10 ^ k
-ten-pos k = one-le-pow k 10 (lit< tt)
 
 -- what is whole comes out of a division
 pub whole-out : (a b n : ℕ) → (a * 10 ^ n + b) / 10 ^ n ≡ a + b / 10 ^ n
