@@ -9,4 +9,5 @@ pub mod WriterAndShiftTotal
 pub mod WhatEveryEntryOwes
 pub mod Computing
 pub mod CardAAndItsReadings
+pub mod AUnitNobodyCouldType
 pub mod Laws

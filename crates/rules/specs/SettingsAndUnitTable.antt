@@ -12,7 +12,7 @@ use Rattle.rules.specs.declared.Multiplier.{Multiplier}
 use Rattle.rules.specs.declared.Found.{Found}
 use Rattle.rules.specs.declared.Found.the-variants.{Row, Nowhere}
 use Rattle.rules.specs.declared.Refusal.the-variants.{Delimiters, Conjunctions, DefaultKind, TableSize, BadRow}
-use Rattle.rules.specs.Common.{if_then_else_, between, all, same}
+use Rattle.rules.specs.Common.{if_then_else_, between, all, same, starts}
 use Rattle.rules.specs.NumbersHandedBack.{Outcome, got, refused, _>>_, unless}
 
 -- ---- byte classes
@@ -72,6 +72,14 @@ delimits set b (suc n) = (not (holds set b) || may-delimit b) && delimits set (s
 
 unfoldable pub delimiters-accepted : Settings → Bool
 delimiters-accepted s = delimits (s .inner) 0 256 && delimits (s .outer) 0 256
+
+-- the set holds none of the n bytes from b on
+unfoldable pub holds-none : ByteSet → ℕ → ℕ → Bool
+holds-none set b zero = true
+holds-none set b (suc n) = not (holds set b) && holds-none set (suc b) n
+
+unfoldable pub empty : ByteSet → Bool
+empty set = holds-none set 0 256
 
 -- ---- conjunctions
 
@@ -222,8 +230,20 @@ unfoldable pub named : List ℕ → List ℕ → ℕ → Bool
 named table wanted zero = false
 named table wanted (suc n) = same (name (row table n)) wanted || named table wanted n
 
-unfoldable pub row-accepted : Settings → List ℕ → ℕ → Bool
-row-accepted s table i =
+-- straight after a number `e` and `E` begin an exponent
+unfoldable pub led-by-e : List ℕ → Bool
+led-by-e n = starts (λ b. eqb 101 (lower b)) n
+
+-- so a name led by one needs exponents on (`3e0eon`), or the switch before units on with an inner set that is not empty (`3 eon`)
+unfoldable pub e-may-lead : Settings → Bool
+e-may-lead s = s .exponents || s .«before_unit» && not (empty (s .inner))
+
+unfoldable pub can-be-typed : Settings → List ℕ → Bool
+can-be-typed s n = not (led-by-e n) || e-may-lead s
+
+-- document 01's tests of a row
+unfoldable pub row-right : Settings → List ℕ → ℕ → Bool
+row-right s table i =
     let r = row table i in
     between 1 name-room (name-size r)
     && all (eqb 0) (after-name r)
@@ -232,6 +252,10 @@ row-accepted s table i =
     && all (may-name s) (name r)
     && not (named table (name r) i)
     && in-range (product r)
+
+-- and its name can be typed
+unfoldable pub row-accepted : Settings → List ℕ → ℕ → Bool
+row-accepted s table i = row-right s table i && can-be-typed s (name (row table i))
 
 -- the first bad row of the n from i on
 unfoldable pub rows-check : Settings → List ℕ → ℕ → ℕ → Outcome (Unit {0})
