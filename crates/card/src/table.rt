@@ -5,7 +5,7 @@ ghost use Prim.Native.Nat.{ℕ, _<_, _≤_};
 ghost use lib.Dec.{eqb};
 ghost use lib.ListN.{length, drop};
 ghost use Rattle.rules.specs.Common.{all, same};
-ghost use Rattle.rules.specs.SettingsAndUnitTable.{row-size, rows, row, name, named, row-accepted, rows-check, table-check, card-check};
+ghost use Rattle.rules.specs.SettingsAndUnitTable.{row-size, rows, row, name, named, led-by-e, e-may-lead, row-right, row-accepted, rows-check, table-check, card-check};
 ghost use Rattle.settings.specs.Outcomes.{outcome};
 ghost use Rattle.card.specs.Fields.{padded, outside, unnameable};
 use rows::fields::KIND_AT;
@@ -21,6 +21,7 @@ use rules::Settings;
 use settings::Checked;
 use settings::check::settings_check;
 use settings::sets::either;
+use settings::sets::empty;
 use settings::sets::holds;
 use words::half_at;
 use words::word_at;
@@ -124,11 +125,12 @@ fn named_before(table: &[u8], i: usize) -> bool
     false
 }
 
-fn row_accepted(s: Settings, set: ByteSet, table: &[u8], i: usize) -> bool
+// Document 01's tests of a row.
+fn row_right(s: Settings, set: ByteSet, table: &[u8], i: usize) -> bool
     requires { ⌜ i < rows (now table) ⌝ }
     requires { ⌜ ((j : ℕ) → j < i → padded (row (now table) j) ≡ true) ⌝ }
     requires { ⌜ set ≡ unnameable s ⌝ }
-    ensures { λ r. ⌜ r ≡ row-accepted s (now (table .entry)) i ⌝ }
+    ensures { λ r. ⌜ r ≡ row-right s (now (table .entry)) i ⌝ }
 {
     let own = row_at(table, i);
     if !padded(own) {
@@ -149,14 +151,54 @@ fn row_accepted(s: Settings, set: ByteSet, table: &[u8], i: usize) -> bool
     product_in_range(own)
 }
 
+// Whether something can stand between a number and a name led by `e`, so that the `e` begins no exponent: an exponent, or a
+// delimiter.
+fn e_may_lead(s: Settings) -> bool
+    ensures { λ r. ⌜ r ≡ e-may-lead s ⌝ }
+{
+    if s.exponents {
+        return true;
+    }
+    if !s.before_unit {
+        return false;
+    }
+    let inner = s.inner;
+    !empty(inner)
+}
+
+fn led_by_e(row: &[u8]) -> bool
+    requires { ⌜ (length (now row) ≡ row-size) × (padded (now row) ≡ true) ⌝ }
+    ensures { λ r. ⌜ r ≡ led-by-e (name (now (row .entry))) ⌝ }
+{
+    let first = row[NAME_AT];
+    first == b'e' || first == b'E'
+}
+
+// Document 01's tests, and the name can be typed.
+fn row_accepted(s: Settings, set: ByteSet, leads: bool, table: &[u8], i: usize) -> bool
+    requires { ⌜ i < rows (now table) ⌝ }
+    requires { ⌜ ((j : ℕ) → j < i → padded (row (now table) j) ≡ true) ⌝ }
+    requires { ⌜ (set ≡ unnameable s) × (leads ≡ e-may-lead s) ⌝ }
+    ensures { λ r. ⌜ r ≡ row-accepted s (now (table .entry)) i ⌝ }
+{
+    if !row_right(s, set, table, i) {
+        return false;
+    }
+    if leads {
+        return true;
+    }
+    !led_by_e(row_at(table, i))
+}
+
 fn rows_check(s: Settings, table: &[u8]) -> Checked
     ensures { λ r. ⌜ outcome r ≡ rows-check s (now (table .entry)) 0 (rows (now (table .entry))) ⌝ }
 {
     let set = unnameable(s);
+    let leads = e_may_lead(s);
     let count = table.len() / ROW_SIZE;
     let mut i = 0;
     while i < count {
-        if !row_accepted(s, set, table, i) {
+        if !row_accepted(s, set, leads, table, i) {
             return Checked::Refused(Refusal::BadRow(i));
         }
         i += 1;

@@ -1,7 +1,7 @@
 // Sets of bytes, and which bytes a set of delimiters may hold.
 ghost use mathlib.Core.Path.{_≡_};
 ghost use Prim.Native.Nat.{_/_};
-ghost use Rattle.rules.specs.SettingsAndUnitTable.{word, holds, delimits};
+ghost use Rattle.rules.specs.SettingsAndUnitTable.{word, holds, delimits, empty};
 ghost use Rattle.settings.specs.Sets.{either};
 use rules::ByteSet;
 
@@ -32,6 +32,19 @@ pub fn either(a: ByteSet, b: ByteSet) -> ByteSet
         word2: a.word2 | b.word2,
         word3: a.word3 | b.word3,
     }
+}
+
+// Whether the set holds no byte.
+pub fn empty(set: ByteSet) -> bool
+    ensures { λ r. ⌜ r ≡ empty set ⌝ }
+{
+    if set.word0 != 0 {
+        return false;
+    }
+    if set.word1 != 0 {
+        return false;
+    }
+    set.word2 == 0 && set.word3 == 0
 }
 
 // Whether every byte that the set holds may delimit. Each run of bytes that may not is a run of bits of one word, which is

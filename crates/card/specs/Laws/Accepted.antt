@@ -18,14 +18,14 @@ use Rattle.rules.specs.declared.Found.{Found}
 use Rattle.rules.specs.declared.Found.the-variants.{Row, Nowhere}
 use Rattle.rules.specs.Common.{if_then_else_, between, all, same}
 use Rattle.rules.specs.NumbersHandedBack.{Outcome, got, refused, _>>_, unless}
-use Rattle.rules.specs.SettingsAndUnitTable.{LETTER, OTHER, class, letters-of, is, holds, may-delimit, delimits, delimiters-accepted, conjunction-accepted, conjunctions-accepted, conjunctions-of, most-conjunctions, most-letters, last-kind, settings-check, most-rows, row-size, rows, row, name, product, in-range, named, row-accepted, rows-check, table-check, card-check, lookup-from, lookup}
+use Rattle.rules.specs.SettingsAndUnitTable.{LETTER, OTHER, class, letters-of, is, holds, may-delimit, delimits, delimiters-accepted, conjunction-accepted, conjunctions-accepted, conjunctions-of, most-conjunctions, most-letters, last-kind, settings-check, most-rows, row-size, rows, row, name, product, in-range, named, row-right, row-accepted, rows-check, table-check, card-check, lookup-from, lookup}
 use Rattle.rules.specs.Laws.Choices.{if-either, and-left, and-right}
 use Rattle.rules.specs.Laws.Tests.{between-from, between-to}
 use Rattle.rules.specs.Laws.Lists.{all-index}
 use Rattle.rows.specs.Laws.Lookup.{same-refl, same-equal}
 use Rattle.rows.specs.Laws.Rows.{length-row}
 use Rattle.card.specs.Laws.Names.{name-some}
-use Rattle.card.specs.Laws.Table.{accepted-padded, accepted-unnamed, accepted-in-range}
+use Rattle.card.specs.Laws.Table.{row-both, right-padded, right-unnamed, right-in-range}
 
 -- ---- checks one after another
 
@@ -161,14 +161,19 @@ module _ (s : Settings) (table : List ℕ) (good : table-check s table ≡ got t
   unfolding table-check
   row-good i below = rw (zero-add i) at (rows-good s table (rows table) 0 i (passed TableSize _ _ good .1) below)
 
+  -- so each passes document 01's tests
+  pub rows-right : (i : ℕ) → i < rows table → row-right s table i ≡ true
+  rows-right i below = row-both s table i (row-good i below) .0
+
   -- the bound that evaluation needs
   pub row-in-range : (i : ℕ) → i < rows table → in-range (product (row table i)) ≡ true
-  row-in-range i below = accepted-in-range s table i (row-good i below)
+  row-in-range i below = right-in-range s table i (rows-right i below)
 
+module _ (s : Settings) (table : List ℕ) (right : (i : ℕ) → i < rows table → row-right s table i ≡ true) where
   -- no two rows have one name
   names-apart : (i j : ℕ) → i < j → j < rows table → name (row table i) ≡ name (row table j) → ⊥
   names-apart i j before below e =
-      false≢true (sym (names-before table (name (row table j)) j i (accepted-unnamed s table j (row-good j below)) before) ∙ ap (λ n. same n (name (row table j))) e ∙ same-refl (name (row table j)))
+      false≢true (sym (names-before table (name (row table j)) j i (right-unnamed s table j (right j below)) before) ∙ ap (λ n. same n (name (row table j))) e ∙ same-refl (name (row table j)))
 
   pub name-only : (i j : ℕ) → i < rows table → j < rows table → name (row table i) ≡ name (row table j) → i ≡ j
   name-only i j hi hj e = go (leb j i) refl (leb i j) refl
@@ -224,14 +229,14 @@ module _ (table wanted : List ℕ) where
   pub lookup-nowhere : lookup table wanted ≡ Nowhere → (i : ℕ) → i < rows table → name (row table i) ≡ wanted → ⊥
   lookup-nowhere e i below = found-nowhere (rw e at looked-all) i (omega arith) (omega arith)
 
--- in an accepted table the row with a name is the one that its lookup finds
-pub lookup-only : (s : Settings) (table : List ℕ) → table-check s table ≡ got tt → (i : ℕ) → i < rows table → lookup table (name (row table i)) ≡ Row i
-lookup-only s table good i below = go (lookup table (name (row table i))) refl
+-- where all rows pass document 01's tests, the row with a name is the one that its lookup finds
+pub lookup-only : (s : Settings) (table : List ℕ) → ((i : ℕ) → i < rows table → row-right s table i ≡ true) → (i : ℕ) → i < rows table → lookup table (name (row table i)) ≡ Row i
+lookup-only s table right i below = go (lookup table (name (row table i))) refl
   where
     go : (f : Found) → lookup table (name (row table i)) ≡ f → f ≡ Row i
     go (Row k) e =
         let at-row = lookup-found table (name (row table i)) k e in
-        ap Row (name-only s table good k i (at-row .0) below (at-row .1))
+        ap Row (name-only s table right k i (at-row .0) below (at-row .1))
     go Nowhere e = absurd (lookup-nowhere table (name (row table i)) e i below refl)
 
 -- and nothing has no name
@@ -241,5 +246,5 @@ lookup-empty s table good = go (lookup table []) refl
     go : (f : Found) → lookup table [] ≡ f → f ≡ Nowhere
     go (Row k) e =
         let at-row = lookup-found table [] k e in
-        absurd (name-some (row table k) (length-row table k (at-row .0)) (accepted-padded s table k (row-good s table good k (at-row .0))) (at-row .1))
+        absurd (name-some (row table k) (length-row table k (at-row .0)) (right-padded s table k (rows-right s table good k (at-row .0))) (at-row .1))
     go Nowhere e = refl

@@ -1,7 +1,7 @@
 -- Laws of names: of two rows with zeros after their names, size and room decide whether the names are the same, a word at a time.
 -- Assumes nothing.
 use mathlib.Core.Path.{_≡_, refl, sym, ap, _∙_}
-use mathlib.Core.Bool.{Bool, true, _&&_}
+use mathlib.Core.Bool.{Bool, true, _&&_, _||_}
 use mathlib.Core.List.{List, [], _∷_, _++_}
 use Prim.Native.Nat.{ℕ, zero, suc, _+_, _*_, _-_, _/_, _^_, _≤_, _<_}
 use native.Mathlib.Nat.{add-zero, div-one, zero-div}
@@ -12,14 +12,15 @@ use lib.Seq.{take-add, take-take, drop-drop, take-at, drop-at, drop-append-le, d
 use lib.Pow.{shr-shr}
 use borrow.Author.Tests.{eq-eqb, eqb-true, leb-true}
 use Rattle.rules.specs.declared.Settings.{Settings}
-use Rattle.rules.specs.Common.{all, between, same}
-use Rattle.rules.specs.SettingsAndUnitTable.{row-size, name-room, name-size, name, after-name, may-name, low-first}
+use Rattle.rules.specs.Common.{all, between, same, starts, if_then_else_}
+use Rattle.rules.specs.SettingsAndUnitTable.{row-size, name-room, name-at, name-size, name, after-name, may-name, led-by-e, lower, low-first}
 use Rattle.rules.specs.Laws.Choices.{and-left, and-right, and-both}
 use Rattle.rules.specs.Laws.Texts.{slice-shift}
 use Rattle.card.specs.Fields.{padded, outside, unnameable}
 use Rattle.rules.specs.Laws.Tests.{same-test, between-from}
 use Rattle.rules.specs.Laws.Lists.{Bytes, all-both, all-alike}
 use Rattle.card.specs.Laws.Unnameable.{outside-names}
+use Rattle.settings.specs.Laws.Sets.{runs, agree}
 use Rattle.rows.specs.Laws.Lookup.{same-refl, same-equal}
 use Rattle.words.specs.LowFirst.{bytes-part}
 
@@ -36,6 +37,13 @@ low-first-only (x ∷ a) (y ∷ b) n p q e =
     cc
 
 -- ---- a row's name and its room
+
+begins : (test : ℕ → Bool) (n : ℕ) (r : List ℕ) → 1 ≤ n → 2 ≤ length r → starts test (take n (drop 1 r)) ≡ test (getD r 1 0)
+unfolding starts
+begins test zero r p q = absurd (omega arith)
+begins test (suc n) [] p q = absurd (omega arith)
+begins test (suc n) (size ∷ []) p q = absurd (omega arith)
+begins test (suc n) (size ∷ b ∷ r) p q = refl
 
 zeros-only : (l : List ℕ) → all (eqb 0) l ≡ true → l ≡ replicate (length l) 0
 unfolding all
@@ -55,9 +63,17 @@ module _ (r : List ℕ) (long : length r ≡ row-size) (p : padded r ≡ true) w
   name-length = simp (length-take, length-drop) (omega (arith, size-most))
 
   -- a name has at least one byte
-  pub name-some : name r ≡ [] → ⊥
+  size-least : 1 ≤ name-size r
   unfolding padded
-  name-some e = omega (arith, between-from 1 name-room (name-size r) (and-left _ (all (eqb 0) (after-name r)) p), name-length, ap length e)
+  size-least = between-from 1 name-room (name-size r) (and-left _ (all (eqb 0) (after-name r)) p)
+
+  pub name-some : name r ≡ [] → ⊥
+  name-some e = omega (arith, size-least, name-length, ap length e)
+
+  -- the first stands after the size
+  pub name-starts : (test : ℕ → Bool) → starts test (name r) ≡ test (getD r name-at 0)
+  unfolding name
+  name-starts test = begins test (name-size r) r size-least (omega (arith, long))
 
   after-zeros : take (name-room - name-size r) (drop (1 + name-size r) r) ≡ replicate (name-room - name-size r) 0
   unfolding padded after-name
@@ -203,3 +219,13 @@ pub names-outside : (s : Settings) (r : List ℕ) → Bytes r → all (outside (
 unfolding name
 names-outside s r p =
     all-alike (outside (unnameable s)) (may-name s) (name r) (λ i. outside-names s (getD (name r) i 0) (bytes-part r (name-size r) 1 p i))
+
+-- ---- names led by `e`
+
+pub led-byte : (b : ℕ) → b < 256 → eqb 101 (lower b) ≡ (eqb b 101 || eqb b 69)
+unfolding runs lower between if_then_else_
+led-byte b h = agree (λ b. eqb 101 (lower b)) (λ b. eqb b 101 || eqb b 69) 0 256 refl b (omega arith) h
+
+pub led-first : (r : List ℕ) → length r ≡ row-size → padded r ≡ true → Bytes r → led-by-e (name r) ≡ (eqb (getD r name-at 0) 101 || eqb (getD r name-at 0) 69)
+unfolding led-by-e
+led-first r long p bytes = name-starts r long p (λ b. eqb 101 (lower b)) ∙ led-byte (getD r name-at 0) (bytes name-at)

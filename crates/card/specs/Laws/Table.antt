@@ -1,4 +1,4 @@
--- Laws of the table check: row by row, and the tests that an accepted row passed. Assumes nothing.
+-- Laws of the table check: row by row, and the tests that a right row and an accepted one passed. Assumes nothing.
 use mathlib.Core.Path.{_≡_, sym, _∙_}
 use mathlib.Core.Bool.{true, false, not, _&&_, _||_}
 use mathlib.Core.List.{List}
@@ -13,7 +13,7 @@ use Rattle.rules.specs.declared.Settings.{Settings}
 use Rattle.rules.specs.declared.Refusal.the-variants.{BadRow}
 use Rattle.rules.specs.Common.{if_then_else_, all, same}
 use Rattle.rules.specs.NumbersHandedBack.{Outcome, got, refused}
-use Rattle.rules.specs.SettingsAndUnitTable.{last-kind, zeros-at, rows, row, name, kind, may-name, named, product, in-range, row-accepted, rows-check}
+use Rattle.rules.specs.SettingsAndUnitTable.{last-kind, zeros-at, rows, row, name, kind, may-name, named, product, in-range, can-be-typed, row-right, row-accepted, rows-check}
 use Rattle.rules.specs.Laws.Choices.{and-left, and-right}
 use Rattle.card.specs.Fields.{padded}
 use Rattle.rules.specs.Laws.Tests.{and-assoc}
@@ -53,36 +53,40 @@ module _ (s : Settings) (table : List ℕ) where
 
 -- ---- a row
 
+pub row-both : (s : Settings) (table : List ℕ) (i : ℕ) → row-accepted s table i ≡ true → (row-right s table i ≡ true) × (can-be-typed s (name (row table i)) ≡ true)
+unfolding row-accepted
+row-both s table i good = (and-left _ _ good, and-right (row-right s table i) _ good)
+
 module _ (s : Settings) (table : List ℕ) (i : ℕ) where
-  pub row-accepted-parts :
-      row-accepted s table i
+  pub row-right-parts :
+      row-right s table i
       ≡ (padded (row table i)
       && (leb (kind (row table i)) last-kind
       && (all (eqb 0) (drop zeros-at (row table i))
       && (all (may-name s) (name (row table i)) && (not (named table (name (row table i)) i) && in-range (product (row table i)))))))
-  unfolding row-accepted padded
-  row-accepted-parts = simp and-assoc
+  unfolding row-right padded
+  row-right-parts = simp and-assoc
 
-  module _ (good : row-accepted s table i ≡ true) where
-    pub accepted-padded : padded (row table i) ≡ true
-    accepted-padded = and-left _ _ (sym row-accepted-parts ∙ good)
+  module _ (good : row-right s table i ≡ true) where
+    pub right-padded : padded (row table i) ≡ true
+    right-padded = and-left _ _ (sym row-right-parts ∙ good)
 
-    pub accepted-kind : leb (kind (row table i)) last-kind ≡ true
-    accepted-kind = and-left _ _ (and-right (padded (row table i)) _ (sym row-accepted-parts ∙ good))
+    pub right-kind : leb (kind (row table i)) last-kind ≡ true
+    right-kind = and-left _ _ (and-right (padded (row table i)) _ (sym row-right-parts ∙ good))
 
-    accepted-rest : (all (may-name s) (name (row table i)) && (not (named table (name (row table i)) i) && in-range (product (row table i)))) ≡ true
-    accepted-rest =
+    right-rest : (all (may-name s) (name (row table i)) && (not (named table (name (row table i)) i) && in-range (product (row table i)))) ≡ true
+    right-rest =
         and-right (all (eqb 0) (drop zeros-at (row table i))) _
-        (and-right (leb (kind (row table i)) last-kind) _ (and-right (padded (row table i)) _ (sym row-accepted-parts ∙ good)))
+        (and-right (leb (kind (row table i)) last-kind) _ (and-right (padded (row table i)) _ (sym row-right-parts ∙ good)))
 
-    pub accepted-name : all (may-name s) (name (row table i)) ≡ true
-    accepted-name = and-left _ _ accepted-rest
+    pub right-name : all (may-name s) (name (row table i)) ≡ true
+    right-name = and-left _ _ right-rest
 
-    pub accepted-unnamed : named table (name (row table i)) i ≡ false
-    accepted-unnamed =
+    pub right-unnamed : named table (name (row table i)) i ≡ false
+    right-unnamed =
         not-true (named table (name (row table i)) i)
-        (and-left _ (in-range (product (row table i))) (and-right (all (may-name s) (name (row table i))) _ accepted-rest))
+        (and-left _ (in-range (product (row table i))) (and-right (all (may-name s) (name (row table i))) _ right-rest))
 
-    pub accepted-in-range : in-range (product (row table i)) ≡ true
-    accepted-in-range =
-        and-right (not (named table (name (row table i)) i)) _ (and-right (all (may-name s) (name (row table i))) _ accepted-rest)
+    pub right-in-range : in-range (product (row table i)) ≡ true
+    right-in-range =
+        and-right (not (named table (name (row table i)) i)) _ (and-right (all (may-name s) (name (row table i))) _ right-rest)

@@ -11,7 +11,7 @@ use lib.Pow.{shr-shr, mod-pow-add}
 use borrow.Author.Tests.{ne-eqb, not-true}
 use Rattle.rules.specs.declared.ByteSet.{ByteSet}
 use Rattle.rules.specs.Common.{if_then_else_, between}
-use Rattle.rules.specs.SettingsAndUnitTable.{LETTER, class, is, word, holds, may-delimit, delimits}
+use Rattle.rules.specs.SettingsAndUnitTable.{LETTER, class, is, word, holds, may-delimit, delimits, holds-none, empty}
 use Rattle.rules.specs.Laws.Choices.{and-left, and-right}
 use Rattle.rules.specs.Laws.Tests.{and-assoc, or-true, or-false, eqb-iff}
 use Rattle.settings.specs.Sets.{either}
@@ -45,14 +45,13 @@ module _ (set : ByteSet) where
   delimits-any b (suc n) e =
       rw (and-left (may-delimit b) (runs may-delimit (suc b) n) e, or-true, delimits-any (suc b) n (and-right (may-delimit b) (runs may-delimit (suc b) n) e))
 
-  pub delimits-none : (b n : ℕ) → b % 64 + n ≤ 64 → runs (λ k. not (may-delimit k)) b n ≡ true → delimits set b n ≡ eqb (word set (b / 64) / 2 ^ (b % 64) % 2 ^ n) 0
-  unfolding delimits runs holds
-  delimits-none b zero h e = rw mod-one
-  delimits-none b (suc n) h e =
-      let here : may-delimit b ≡ false = not-true (may-delimit b) (and-left (not (may-delimit b)) (runs (λ k. not (may-delimit k)) (suc b) n) e) in
-      rw (here, or-false, bit-more (word set (b / 64) / 2 ^ (b % 64)) n)
-      (ap (λ t. not (eqb (word set (b / 64) / 2 ^ (b % 64) % 2) 1) && t)
-      (delimits-none (suc b) n (omega arith) (and-right (not (may-delimit b)) (runs (λ k. not (may-delimit k)) (suc b) n) e) ∙ next n h))
+  -- of a run of bytes within a word none is held exactly if its bits are zero
+  none-bits : (b n : ℕ) → b % 64 + n ≤ 64 → holds-none set b n ≡ eqb (word set (b / 64) / 2 ^ (b % 64) % 2 ^ n) 0
+  unfolding holds-none holds
+  none-bits b zero h = rw mod-one
+  none-bits b (suc n) h =
+      rw (bit-more (word set (b / 64) / 2 ^ (b % 64)) n)
+      (ap (λ t. not (eqb (word set (b / 64) / 2 ^ (b % 64) % 2) 1) && t) (none-bits (suc b) n (omega arith) ∙ next n h))
     where
       -- the next byte has the next bit of the same word, unless no byte is left
       next : (m : ℕ) → b % 64 + suc m ≤ 64 → eqb (word set (suc b / 64) / 2 ^ (suc b % 64) % 2 ^ m) 0 ≡ eqb (word set (b / 64) / 2 ^ (b % 64) / 2 % 2 ^ m) 0
@@ -62,11 +61,48 @@ module _ (set : ByteSet) where
           let next-bit : suc b % 64 ≡ b % 64 + 1 = omega arith in
           rw (same-word, next-bit, shr-shr (word set (b / 64)) (b % 64) 1)
 
+  -- and bytes of which none may delimit are right if none is held
+  delimits-none : (b n : ℕ) → runs (λ k. not (may-delimit k)) b n ≡ true → delimits set b n ≡ holds-none set b n
+  unfolding delimits runs holds-none
+  delimits-none b zero e = refl
+  delimits-none b (suc n) e =
+      let here : may-delimit b ≡ false = not-true (may-delimit b) (and-left (not (may-delimit b)) (runs (λ k. not (may-delimit k)) (suc b) n) e) in
+      rw (here, or-false)
+      (ap (λ t. not (holds set b) && t) (delimits-none (suc b) n (and-right (not (may-delimit b)) (runs (λ k. not (may-delimit k)) (suc b) n) e)))
+
+  none-add : (b m n : ℕ) → holds-none set b (m + n) ≡ (holds-none set b m && holds-none set (b + m) n)
+  unfolding holds-none
+  none-add b zero n = rw (zero-add, add-zero)
+  none-add b (suc m) n = rw (suc-add m n, and-assoc, add-suc b m, ← (suc-add b m)) (ap (λ t. not (holds set b) && t) (none-add (suc b) m n))
+
+  -- a set is empty exactly if its words are zero
+  pub empty-words :
+      set .word0 < 2 ^ 64
+      → set .word1 < 2 ^ 64
+      → set .word2 < 2 ^ 64
+      → set .word3 < 2 ^ 64
+      → empty set ≡ (eqb (set .word0) 0 && (eqb (set .word1) 0 && (eqb (set .word2) 0 && eqb (set .word3) 0)))
+  unfolding empty word
+  empty-words fits₀ fits₁ fits₂ fits₃ =
+      rw (
+        none-add 0 64 192,
+        none-add 64 64 128,
+        none-add 128 64 64,
+        none-bits 0 64 (lit≤ tt),
+        none-bits 64 64 (lit≤ tt),
+        none-bits 128 64 (lit≤ tt),
+        none-bits 192 64 (lit≤ tt),
+        whole-word (set .word0) fits₀,
+        whole-word (set .word1) fits₁,
+        whole-word (set .word2) fits₂,
+        whole-word (set .word3) fits₃,
+      )
+
   any-then : (b m n : ℕ) → runs may-delimit b m ≡ true → delimits set b (m + n) ≡ delimits set (b + m) n
   any-then b m n e = rw (delimits-add b m n, delimits-any b m e)
 
   none-then : (b m n : ℕ) → b % 64 + m ≤ 64 → runs (λ k. not (may-delimit k)) b m ≡ true → delimits set b (m + n) ≡ (eqb (word set (b / 64) / 2 ^ (b % 64) % 2 ^ m) 0 && delimits set (b + m) n)
-  none-then b m n h e = rw (delimits-add b m n, delimits-none b m h e)
+  none-then b m n h e = rw (delimits-add b m n, delimits-none b m e, none-bits b m h)
 
   -- the runs of bytes that may not delimit, each within a word
   pub delimits-runs :
@@ -94,7 +130,8 @@ module _ (set : ByteSet) where
         none-then 97 26 133 (lit≤ tt) refl,
         any-then 123 5 128 refl,
         none-then 128 64 64 (lit≤ tt) refl,
-        delimits-none 192 64 (lit≤ tt) refl,
+        delimits-none 192 64 refl,
+        none-bits 192 64 (lit≤ tt),
         whole-word (set .word2) fits₂,
         whole-word (set .word3) fits₃,
       )

@@ -6,30 +6,33 @@ use Prim.Native.Nat.{ℕ, _-_, _≤_, _<_}
 use native.Mathlib.Omega.{arith}
 use borrow.Author.Tests.{not-true, not-false}
 use borrow.Author.Count.{below-none, below-more}
-use Rattle.rules.specs.SettingsAndUnitTable.{rows, row, row-accepted, rows-check}
-use Rattle.card.specs.Laws.Table.{rest-of-check, check-start, check-end, check-bad, check-next, accepted-padded}
+use Rattle.rules.specs.SettingsAndUnitTable.{rows, row, e-may-lead, row-accepted, rows-check}
+use Rattle.card.specs.Laws.Table.{rest-of-check, check-start, check-end, check-bad, check-next, row-both, right-padded}
 use Rattle.card.specs.Fields.{padded, unnameable}
 use Rattle.settings.specs.Outcomes.{outcome}
 use Rattle.card.proofs.table.rows_check.Statement.{statement}
 use Rattle.card.proofs.table.rows_check.Tie as tie
 
 abbrev Inv-loop : tie.InvT-loop
-Inv-loop s table set count i₀ i =
-    (set ≡ unnameable s)
+Inv-loop s table set leads count i₀ i =
+    ((set ≡ unnameable s) × (leads ≡ e-may-lead s))
     × (count ≡ rows table)
     × (i ≤ count)
     × ((j : ℕ) → j < i → padded (row table j) ≡ true)
     × (rest-of-check s table i ≡ rows-check s table 0 (rows table))
 
 abbrev μ-loop : tie.MeasureT-loop
-μ-loop s table set count i₀ i = count - i
+μ-loop s table set leads count i₀ i = count - i
 
 unnameable-requires : tie.Need-unnameable-requires Inv-loop μ-loop
 unnameable-requires c κs = tt
 
+e-may-lead-requires : tie.Need-e-may-lead-requires Inv-loop μ-loop
+e-may-lead-requires c κs = tt
+
 loop-holds : tie.Need-loop-holds Inv-loop μ-loop
 unfolding rows
-loop-holds c = (c .unnameable .ensures, refl, omega arith, below-none _, check-start _ _)
+loop-holds c = ((c .before .unnameable .ensures, c .e-may-lead .ensures), refl, omega arith, below-none _, check-start _ _)
 
 row-accepted-requires : tie.Need-row-accepted-requires Inv-loop μ-loop
 row-accepted-requires c κs = (omega arith, (c .before .loop .inv .3, c .before .loop .inv .0))
@@ -37,7 +40,7 @@ row-accepted-requires c κs = (omega arith, (c .before .loop .inv .3, c .before 
 returns : tie.Need-returns Inv-loop μ-loop
 unfolding outcome
 returns c =
-    let args = c .before .before .before .before .before .before .args in
+    let args = c .before .before .before .before .before .before .before .args in
     let loop = c .before .before .before .loop in
     sym (check-bad (args .s) (args .table .now) (loop .i) (omega arith) (sym (c .before .row-accepted .ensures) ∙ not-true _ (c .if1 .taken))) ∙ loop .inv .4
 
@@ -49,20 +52,20 @@ loop-less c = omega arith
 
 loop-again : tie.Need-loop-again Inv-loop μ-loop
 loop-again c =
-    let args = c .before .before .before .before .before .before .args in
+    let args = c .before .before .before .before .before .before .before .args in
     let loop = c .before .before .before .loop in
     let good : row-accepted (args .s) (args .table .now) (loop .i) ≡ true = sym (c .before .row-accepted .ensures) ∙ not-false _ (c .if1 .left) in (
       loop .inv .0,
       loop .inv .1,
       omega arith,
-      below-more _ (loop .i) (loop .inv .3) (accepted-padded (args .s) (args .table .now) (loop .i) good),
+      below-more _ (loop .i) (loop .inv .3) (right-padded (args .s) (args .table .now) (loop .i) (row-both (args .s) (args .table .now) (loop .i) good .0)),
       sym (check-next (args .s) (args .table .now) (loop .i) (omega arith) good) ∙ loop .inv .4,
     )
 
 returns-2 : tie.Need-returns-2 Inv-loop μ-loop
 unfolding outcome
 returns-2 c =
-    let args = c .before .before .before .before .args in
+    let args = c .before .before .before .before .before .args in
     let loop = c .before .loop in
     sym (check-end (args .s) (args .table .now) (loop .i) (omega arith)) ∙ loop .inv .4
 
@@ -73,6 +76,7 @@ rows-check-spec =
     Inv-loop
     μ-loop
     unnameable-requires
+    e-may-lead-requires
     loop-holds
     row-accepted-requires
     returns
