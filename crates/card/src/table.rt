@@ -162,8 +162,8 @@ fn e_may_lead(s: Settings) -> bool
     if !s.before_unit {
         return false;
     }
-    let inner = s.inner;
-    !empty(inner)
+    let between = s.inner;
+    !empty(between)
 }
 
 fn led_by_e(row: &[u8]) -> bool

@@ -26,7 +26,7 @@ use Rattle.rules.specs.Laws.Written.{written-sign}
 use Rattle.writing.specs.Laid.{laid, laid-then, laid-length, laid-nothing}
 use Rattle.writing.specs.Forms.{write-done, write-no-room}
 use Rattle.readback.specs.ExactSum.{all-plus, all-minus, difference, stays, sum-all-difference}
-use Rattle.readback.specs.Layout.{behind}
+use Rattle.rules.specs.Laws.Layout.{behind}
 use Rattle.readback.specs.OnePart.{Follows, part-reads}
 
 -- the written forms, one after another

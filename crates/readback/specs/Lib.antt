@@ -1,6 +1,5 @@
 -- Demand 3, and the laws that it needs.
 pub mod Spelled
-pub mod Layout
 pub mod OnePart
 pub mod ExactSum
 pub mod Demand3

@@ -31,7 +31,7 @@ use Rattle.value.specs.Digits.{ten-pos, ten-sum, digit-high}
 use Rattle.card.specs.Laws.Accepted.{card-settings, card-table, delimiter-class, inner-delimits, outer-delimits, lookup-empty}
 use Rattle.rules.specs.Laws.Tests.{and-false}
 use Rattle.writing.specs.Forms.{no-decimals}
-use Rattle.readback.specs.Layout.{sees-of, behind, run-over, spelled-stretch, goes-on, stretch}
+use Rattle.rules.specs.Laws.Layout.{sees-of, behind, run-over, spelled-stretch, goes-on, stretch, starts-other, gap-none, exponent-none, connection-none}
 use Rattle.readback.specs.Spelled.{spelled-whole, fraction-few, spelled-fraction, spelled-append}
 
 -- ---- from the digits to the length
@@ -97,11 +97,6 @@ a-sign b e = go (between 48 57 b) (eqb b 43) (eqb b 45) (eqb b 46) (between 65 9
     go false false false false false p m e = absurd (false≢true e)
 
 -- where a byte of one kind stands, there is none of another, and the text goes on
-starts-other : (f g : ℕ → Bool) (rest : List ℕ) → ((b : ℕ) → f b ≡ true → g b ≡ false) → starts f rest ≡ true → starts g rest ≡ false
-unfolding starts
-starts-other f g [] other e = refl
-starts-other f g (b ∷ rest) other e = other b e
-
 sees-other : (f g : ℕ → Bool) (text : List ℕ) (place : ℕ) → ((b : ℕ) → f b ≡ true → g b ≡ false) → sees f text place ≡ true → sees g text place ≡ false
 unfolding sees
 sees-other f g text place other e = starts-other f g (drop place text) other e
@@ -179,30 +174,22 @@ module _ (s : Settings) (table : List ℕ) (good : card-check s table ≡ got tt
     sign-not-e e = of-signs (λ x. same-letter 101 x ≡ false) refl refl b e
 
   module _ (text : List ℕ) (place : ℕ) where
-    -- no inner delimiter at the place: nothing is skipped
-    gap-none : (on : Bool) → sees (holds (s .inner)) text place ≡ false → gap on s text place ≡ got place
-    unfolding gap delimiters if_then_else_
-    gap-none true none = rw (none, run-stop (holds (s .inner)) text place none)
-    gap-none false none = refl
-
     module _ {rest : List ℕ} (here : drop place text ≡ rest) (follows : Follows rest) where
       no : (test : ℕ → Bool) → ((b : ℕ) → is SIGN b ≡ true → test b ≡ false) → sees test text place ≡ false
       no test fails = sees-of text place test here ∙ follows test fails
 
       no-exponent : exponent-step s text place ≡ got (record { exponent = record { negative = false; power = 0 }; next = place })
-      unfolding exponent-step if_then_else_
-      no-exponent = rw (no (same-letter 101) sign-not-e)
+      no-exponent = exponent-none s text place (no (same-letter 101) sign-not-e)
 
       no-gap : (on : Bool) → gap on s text place ≡ got place
-      no-gap on = gap-none on (no (holds (s .inner)) sign-not-inner)
+      no-gap on = gap-none s text place on (no (holds (s .inner)) sign-not-inner)
 
       no-unit : unit-step s table text place ≡ got (record { multiplier = kind-multiplier (s .«default_kind»); next = place })
       unfolding unit-step unit-found
       no-unit = rw (run-stop (in-stretch s) text place (no (in-stretch s) sign-not-stretch), slice-empty place text, lookup-empty s table (card-table s table good))
 
       no-connection : connection s text place ≡ got place
-      unfolding connection if_then_else_
-      no-connection = rw (no (holds (s .outer)) sign-not-outer)
+      no-connection = connection-none s text place (no (holds (s .outer)) sign-not-outer)
 
   -- ---- the part
 
@@ -266,7 +253,7 @@ module _ (s : Settings) (table : List ℕ) (good : card-check s table ≡ got tt
           rw (
             a-sign-here,
             sees-goes-on (is DIGIT) text (place + 1) begins,
-            gap-none text (place + 1) (s .«after_sign») (sees-other (is DIGIT) (holds (s .inner)) text (place + 1) digit-not-inner begins),
+            gap-none s text (place + 1) (s .«after_sign») (sees-other (is DIGIT) (holds (s .inner)) text (place + 1) digit-not-inner begins),
             the-sign,
           )
 

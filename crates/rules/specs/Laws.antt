@@ -6,6 +6,7 @@ pub mod Outcomes
 pub mod Answers
 pub mod Tables
 pub mod Texts
+pub mod Layout
 pub mod Ahead
 pub mod FromAPlace
 pub mod Lengths

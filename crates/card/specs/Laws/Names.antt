@@ -54,11 +54,11 @@ zeros-only (x ∷ l) e =
     cc
 
 module _ (r : List ℕ) (long : length r ≡ row-size) (p : padded r ≡ true) where
-  size-most : name-size r ≤ name-room
+  pub size-most : name-size r ≤ name-room
   unfolding padded between
   size-most = leb-true (name-size r) name-room (and-right (leb 1 (name-size r)) (leb (name-size r) name-room) (and-left (between 1 name-room (name-size r)) (all (eqb 0) (after-name r)) p))
 
-  name-length : length (name r) ≡ name-size r
+  pub name-length : length (name r) ≡ name-size r
   unfolding name
   name-length = simp (length-take, length-drop) (omega (arith, size-most))
 

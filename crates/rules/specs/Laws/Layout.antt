@@ -1,4 +1,5 @@
--- What stands at a place of a text: runs, stretches and the place after them, from what the rest of the text begins with. Assumes nothing.
+-- What stands at a place of a text: runs, stretches and the place after them, from what the rest of the text begins with; and steps
+-- that find nothing there. Assumes nothing.
 use mathlib.Core.Path.{_≡_, refl, sym, ap, _∙_}
 use mathlib.Core.Bool.{Bool, true, false}
 use mathlib.Core.List.{List, [], _∷_, _++_}
@@ -9,10 +10,14 @@ use lib.ListN.{length, take, drop, length-drop}
 use lib.Seq.{slice, drop-append-seam, take-append-seam}
 use borrow.Author.Tests.{lt-leb, eqb-true}
 use lib.Dec.{eqb}
+use Rattle.rules.specs.declared.Settings.{Settings}
 use Rattle.rules.specs.Common.{if_then_else_, all, ends, starts, sees, front, run}
+use Rattle.rules.specs.NumbersHandedBack.{got}
+use Rattle.rules.specs.SettingsAndUnitTable.{holds}
+use Rattle.rules.specs.ReadingOnePart.{same-letter, delimiters, gap, exponent-step, connection}
 use Rattle.rules.specs.Evaluation.{spelled}
 use Rattle.rules.specs.Laws.Choices.{all-first, all-others, if-either}
-use Rattle.rules.specs.Laws.Texts.{drop-shift, slice-shift}
+use Rattle.rules.specs.Laws.Texts.{run-stop, drop-shift, slice-shift}
 
 -- a test that fails at the byte after them ends the run of bytes that pass it
 front-over : (test : ℕ → Bool) (mid post : List ℕ) → all test mid ≡ true → starts test post ≡ false → front test (mid ++ post) ≡ length mid
@@ -77,3 +82,26 @@ module _ (text : List ℕ) (place : ℕ) where
         ∙ sym (slice-shift text place 0 (length mid))
         ∙ ap (take (length mid)) here
         ∙ take-append-seam mid post
+
+-- where a byte of one kind stands, there is none of another
+pub starts-other : (f g : ℕ → Bool) (rest : List ℕ) → ((b : ℕ) → f b ≡ true → g b ≡ false) → starts f rest ≡ true → starts g rest ≡ false
+unfolding starts
+starts-other f g [] other e = refl
+starts-other f g (b ∷ rest) other e = other b e
+
+-- ---- steps that find nothing
+
+module _ (s : Settings) (text : List ℕ) (place : ℕ) where
+  -- no inner delimiter at the place: nothing is skipped
+  pub gap-none : (on : Bool) → sees (holds (s .inner)) text place ≡ false → gap on s text place ≡ got place
+  unfolding gap delimiters if_then_else_
+  gap-none true none = rw (none, run-stop (holds (s .inner)) text place none)
+  gap-none false none = refl
+
+  pub exponent-none : sees (same-letter 101) text place ≡ false → exponent-step s text place ≡ got (record { exponent = record { negative = false; power = 0 }; next = place })
+  unfolding exponent-step if_then_else_
+  exponent-none none = rw none
+
+  pub connection-none : sees (holds (s .outer)) text place ≡ false → connection s text place ≡ got place
+  unfolding connection if_then_else_
+  connection-none none = rw none

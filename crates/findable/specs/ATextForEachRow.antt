@@ -1,0 +1,349 @@
+-- For each row of an accepted table there is a text that finds it: zero of the unit, so that it comes to zero whatever the row's
+-- coefficient, and is accepted with negatives off too. Assumes nothing.
+use mathlib.Core.Path.{_≡_, refl, sym, ap, _∙_}
+use mathlib.Core.Bool.{Bool, true, false, not, xor, _&&_, _||_, false≢true}
+use mathlib.Core.List.{List, [], _∷_, _++_, append-nil}
+use Prim.Native.Nat.{ℕ, zero, suc, _+_, _*_, _-_, _/_, _^_, _≤_, _<_}
+use native.Mathlib.Nat.{add-zero, zero-add, add-suc, suc-add, zero-div, zero-mul, mul-zero}
+use native.Mathlib.Omega.{arith}
+use lib.Dec.{eqb, leb, lit<, lit≤}
+use lib.ListN.{length, take, drop, length-drop}
+use lib.Seq.{slice, slice-empty}
+use borrow.Author.Tests.{le-leb, lt-leb, eqb-true, eq-eqb, ne-eqb, not-true, not-false}
+use Rattle.rules.specs.declared.ByteSet.{ByteSet}
+use Rattle.rules.specs.declared.Settings.{Settings}
+use Rattle.rules.specs.declared.Length.{Length}
+use Rattle.rules.specs.declared.Number.{Number}
+use Rattle.rules.specs.declared.Scaled.{Scaled}
+use Rattle.rules.specs.declared.DurationRepr.{DurationRepr}
+use Rattle.rules.specs.declared.Found.{Found}
+use Rattle.rules.specs.declared.Found.the-variants.{Row, Nowhere}
+use Rattle.rules.specs.Common.{if_then_else_, ascii, between, all, ends, starts, sees, front, run}
+use Rattle.rules.specs.ThePartOfTheCrateWeTake.{zero-length, longest-text, size}
+use Rattle.rules.specs.NumbersHandedBack.{Outcome, got, refused, _>>=_, _>>_, unless}
+use Rattle.rules.specs.SettingsAndUnitTable.{DIGIT, SIGN, POINT, OTHER, class, is, is-next-duration, lower, holds, holds-none, empty, may-delimit, may-name, settings-check, card-check, row-size, rows, row, name, product, led-by-e, e-may-lead, can-be-typed, row-right, lookup}
+use Rattle.rules.specs.ReadingOnePart.{same-letter, delimiters, gap, sign-step, fraction-step, number-step, exponent-limit, exponent-digits, exponent-number, exponent-step, in-stretch, ago-step, unit-found, unit-step, connection, finite-part, unsigned-part, part}
+use Rattle.rules.specs.Evaluation.{spelled, digits-of, attos, nanos, length-of, evaluate, allowed, part-reading, sum, sum-all, parts, total}
+use Rattle.rules.specs.WhatEveryEntryOwes.{read-total}
+use Rattle.rules.specs.Laws.Choices.{if-either, and-both, and-left, and-right, all-first, all-weaken}
+use Rattle.rules.specs.Laws.Tests.{and-false}
+use Rattle.rules.specs.Laws.Outcomes.{bind-got}
+use Rattle.rules.specs.Laws.Texts.{ends-le, sees-end}
+use Rattle.rules.specs.Laws.Layout.{sees-of, run-over, stretch, goes-on, gap-none, exponent-none, connection-none}
+use Rattle.card.specs.Fields.{padded}
+use Rattle.card.specs.Laws.Table.{right-padded, right-name}
+use Rattle.card.specs.Laws.Accepted.{card-settings, card-table, rows-right, row-good, delimiter-class, inner-delimits, lookup-only}
+use Rattle.rows.specs.Laws.Rows.{length-row}
+use Rattle.card.specs.Laws.Names.{led-byte, name-some, size-most, name-length}
+use Rattle.findable.specs.WhereAPartFindsItsUnit.{number-unit, unsigned-unit, unit-of, units, among, among-got, finds}
+
+-- the first byte of the n from b on that the set holds
+unfoldable pub first-held : ByteSet → ℕ → ℕ → ℕ
+first-held set b zero = b
+first-held set b (suc n) = let more = first-held set (suc b) n in if holds set b then b else more
+
+-- what stands between the number and the name: nothing, unless an `e` leads the name; then an exponent or else a delimiter
+unfoldable pub joint : Settings → List ℕ → List ℕ
+joint s n = if not (led-by-e n) then [] else if s .exponents then ascii "e0" else first-held (s .inner) 0 256 ∷ []
+
+-- the text: `0eon`, `0e0eon` or `0 eon`
+unfoldable pub text-for : Settings → List ℕ → List ℕ
+text-for s n = 48 ∷ joint s n ++ n
+
+-- the text can be read, comes to zero, and finds row i
+abbrev pub Reads : Settings → List ℕ → ℕ → List ℕ → Type 0
+Reads s table i text = (total s table text ≡ got zero-length) × (finds s table text i ≡ true)
+
+-- ---- bytes of a name
+
+neither : (a b c d e : Bool) → not (a || b || c || d || e) ≡ true → (a ≡ false) × (b ≡ false) × (c ≡ false) × (d ≡ false) × (e ≡ false)
+neither true b c d e h = absurd (false≢true h)
+neither false true c d e h = absurd (false≢true h)
+neither false false true d e h = absurd (false≢true h)
+neither false false false true e h = absurd (false≢true h)
+neither false false false false true h = absurd (false≢true h)
+neither false false false false false h = (refl, refl, refl, refl, refl)
+
+module _ (s : Settings) (b : ℕ) (may : may-name s b ≡ true) where
+  name-byte : (holds (s .inner) b ≡ false) × (holds (s .outer) b ≡ false) × (is DIGIT b ≡ false) × (is SIGN b ≡ false) × (is POINT b ≡ false)
+  unfolding may-name
+  name-byte = neither (holds (s .inner) b) (holds (s .outer) b) (is DIGIT b) (is SIGN b) (is POINT b) may
+
+  name-in-stretch : in-stretch s b ≡ true
+  unfolding in-stretch is-next-duration
+  name-in-stretch = rw (name-byte .0, name-byte .1, name-byte .2, name-byte .3, and-false (s .ago))
+
+-- ---- zero times whatever is zero
+
+no-attos : (f up down : ℕ) → attos 0 f up down ≡ 0
+unfolding attos
+no-attos f up down = rw (zero-mul (10 ^ (18 + up)), zero-div (10 ^ (f + down)))
+
+no-nanos : (c : ℕ) → nanos c 0 ≡ 0
+unfolding nanos
+no-nanos c = rw (mul-zero c)
+
+no-length : (negative : Bool) → length-of negative 0 ≡ zero-length
+unfolding length-of if_then_else_
+no-length negative = refl
+
+-- ---- a text of zero and a name: what stands after the zero is no digit and no point, and an exponent and a gap may come before the name
+
+zero-digit : is DIGIT 48 ≡ true
+unfolding is class between if_then_else_
+zero-digit = refl
+
+no-zero : (rest : List ℕ) → starts (is DIGIT) rest ≡ false → starts (eqb 48) rest ≡ false
+unfolding starts
+no-zero [] e = refl
+no-zero (b ∷ rest) e = go (eqb 48 b) refl
+  where
+    go : (z : Bool) → eqb 48 b ≡ z → z ≡ false
+    go true z = absurd (false≢true (sym e ∙ ap (is DIGIT) (sym (eqb-true 48 b z)) ∙ zero-digit))
+    go false z = refl
+
+module _ (s : Settings) (rest : List ℕ) (no-digit : starts (is DIGIT) rest ≡ false) (no-point : starts (is POINT) rest ≡ false) where
+  abbrev text : List ℕ
+  text = 48 ∷ rest
+
+  run-one : (test : ℕ → Bool) → all test (48 ∷ []) ≡ true → starts test rest ≡ false → run test text 0 ≡ 1
+  run-one test passes stops = run-over text 0 (48 ∷ []) rest refl test passes stops
+
+  no-sign : sign-step s text 0 ≡ got (record { negative = false; next = 0 })
+  unfolding sign-step sees starts is class between if_then_else_
+  no-sign = refl
+
+  a-digit : sees (λ b. is DIGIT b || is POINT b) text 0 ≡ true
+  unfolding sees starts is class between if_then_else_
+  a-digit = refl
+
+  the-zero : number-step s text 0 ≡ got (record { whole = record { start = 1; end = 1 }; fract = record { start = 1; end = 1 }; next = 1 })
+  unfolding number-step fraction-step sees all if_then_else_
+  the-zero = rw (run-one (eqb 48) refl (no-zero rest no-digit), run-one (is DIGIT) (and-both zero-digit refl) no-digit, no-point)
+
+  -- up to the name at the place nothing is refused, and the lookup finds the name at row i
+  module _
+      (table : List ℕ)
+      (i place : ℕ)
+      (scaled : Scaled)
+      (typed-exponent : exponent-step s text 1 ≡ got scaled)
+      (typed-gap : gap (s .«before_unit») s text (scaled .next) ≡ got place)
+      (named : List ℕ)
+      (here : drop place text ≡ named)
+      (stretches : all (in-stretch s) named ≡ true)
+      (found : lookup table named ≡ Row i)
+    where
+      abbrev end : ℕ
+      end = place + length named
+
+      at-place : drop place text ≡ named ++ []
+      at-place = here ∙ sym (append-nil named)
+
+      at-end : ends text end ≡ true
+      unfolding ends
+      at-end = le-leb (length text) end (omega (arith, sym (length-drop place text) ∙ ap length here))
+
+      no-more : (test : ℕ → Bool) → sees test text end ≡ false
+      no-more test = sees-end test text end (ends-le text end at-end)
+
+      to-end : run (in-stretch s) text place ≡ end
+      unfolding starts
+      to-end = run-over text place named [] at-place (in-stretch s) stretches refl
+
+      the-name : lookup table (slice place (run (in-stretch s) text place) text) ≡ Row i
+      the-name = rw (to-end, stretch text place named [] at-place, found)
+
+      the-unit : unit-step s table text place ≡ got (record { multiplier = product (row table i); next = end })
+      unfolding unit-step unit-found ago-step if_then_else_
+      the-unit = rw (the-name, to-end, no-more (holds (s .inner)), and-false (s .ago))
+
+      abbrev repr : DurationRepr
+      repr = record {
+        negative = false;
+        infinite = false;
+        whole = record { start = 1; end = 1 };
+        fract = record { start = 1; end = 1 };
+        exponent = scaled .exponent;
+        multiplier = product (row table i);
+      }
+
+      the-number : finite-part s table text false 0 ≡ got (record { repr = repr; next = end })
+      unfolding finite-part
+      the-number =
+          bind-got _ the-zero
+          ∙ bind-got _ typed-exponent
+          ∙ bind-got _ typed-gap
+          ∙ bind-got _ the-unit
+          ∙ bind-got _ (connection-none s text end (no-more (holds (s .outer))))
+
+      the-part : part s table text 0 ≡ got (record { repr = repr; next = end })
+      unfolding part unsigned-part if_then_else_
+      the-part = rw (goes-on text 0 refl) (bind-got _ no-sign ∙ rw a-digit the-number)
+
+      -- it comes to zero, whatever the row
+      nothing : evaluate text repr ≡ zero-length
+      unfolding evaluate digits-of spelled if_then_else_
+      nothing = rw (no-attos, no-nanos, no-length)
+
+      the-reading : part-reading s table text 0 ≡ got (record { length = zero-length; next = end })
+      unfolding part-reading allowed zero-length if_then_else_
+      the-reading = bind-got _ the-part ∙ rw nothing
+
+      finds-row : unit-of s table text 0 ≡ got (Row i)
+      unfolding unit-of unsigned-unit number-unit if_then_else_
+      finds-row = bind-got _ no-sign ∙ rw a-digit (bind-got _ the-zero ∙ bind-got _ typed-exponent ∙ bind-got _ typed-gap ∙ ap got the-name)
+
+      -- the text can be read, and it finds the row
+      is-read : total s table text ≡ got zero-length
+      unfolding total parts sum-all sum size length-of zero-length if_then_else_ _>>=_
+      is-read = rw (the-reading, at-end)
+
+      is-found : finds s table text i ≡ true
+      unfolding finds units among-got among if_then_else_ _>>=_
+      is-found = rw (the-reading, finds-row, at-end, eq-eqb i i refl)
+
+      reads : Reads s table i text
+      reads = (is-read, is-found)
+
+-- ---- the first byte that a set holds
+
+held-first : (set : ByteSet) (n b : ℕ) → holds-none set b n ≡ false → (holds set (first-held set b n) ≡ true) × (first-held set b n < b + n)
+unfolding holds-none first-held if_then_else_
+held-first set zero b e = absurd (false≢true (sym e))
+held-first set (suc n) b e = go (holds set b) refl e (held-first set n (suc b))
+  where
+    go :
+        (held : Bool) → holds set b ≡ held
+        → (not held && holds-none set (suc b) n) ≡ false
+        → (holds-none set (suc b) n ≡ false → (holds set (first-held set (suc b) n) ≡ true) × (first-held set (suc b) n < suc b + n))
+        → (holds set (if held then b else first-held set (suc b) n) ≡ true) × ((if held then b else first-held set (suc b) n) < b + suc n)
+    go true at e more = (at, omega arith)
+    go false at e more = (more e .0, omega (arith, more e .1))
+
+-- a delimiter begins no number and no exponent
+other-class : (c d : ℕ) → (c ≡ OTHER → ⊥) → class d ≡ OTHER → is c d ≡ false
+unfolding is
+other-class c d apart other = ne-eqb (class d) c (λ e. apart (sym e ∙ other))
+
+letter-101 : class 101 ≡ OTHER → ⊥
+unfolding class between if_then_else_
+letter-101 e = omega (arith, e)
+
+letter-69 : class 69 ≡ OTHER → ⊥
+unfolding class between if_then_else_
+letter-69 e = omega (arith, e)
+
+other-not-e : (d : ℕ) → d < 256 → class d ≡ OTHER → same-letter 101 d ≡ false
+unfolding same-letter lower between if_then_else_
+other-not-e d below other = led-byte d below ∙ go (eqb d 101) (eqb d 69) refl refl
+  where
+    go : (small capital : Bool) → eqb d 101 ≡ small → eqb d 69 ≡ capital → (small || capital) ≡ false
+    go true capital e f = absurd (letter-101 (ap class (sym (eqb-true d 101 e)) ∙ other))
+    go false true e f = absurd (letter-69 (ap class (sym (eqb-true d 69 f)) ∙ other))
+    go false false e f = refl
+
+-- ---- the three texts
+
+e-no-digit : is DIGIT 101 ≡ false
+unfolding is class between if_then_else_
+e-no-digit = refl
+
+e-no-point : is POINT 101 ≡ false
+unfolding is class between if_then_else_
+e-no-point = refl
+
+zero-no-sign : is SIGN 48 ≡ false
+unfolding is class between if_then_else_
+zero-no-sign = refl
+
+zero-exponent : (s : Settings) (b : ℕ) (m : List ℕ) → s .exponents ≡ true → is DIGIT b ≡ false → exponent-step s (48 ∷ 101 ∷ 48 ∷ b ∷ m) 1 ≡ got (record { exponent = record { negative = false; power = 0 }; next = 3 })
+unfolding exponent-step exponent-number exponent-digits exponent-limit sees starts same-letter lower between if_then_else_
+zero-exponent s b m on no-digit = rw (on, zero-no-sign, zero-digit, no-digit)
+
+one-delimiter : (s : Settings) (d b : ℕ) (m : List ℕ) → s .«before_unit» ≡ true → holds (s .inner) d ≡ true → holds (s .inner) b ≡ false → gap (s .«before_unit») s (48 ∷ d ∷ b ∷ m) 1 ≡ got 2
+unfolding gap delimiters sees starts all if_then_else_
+one-delimiter s d b m on held other =
+    rw (on, held, run-over (48 ∷ d ∷ b ∷ m) 1 (d ∷ []) (b ∷ m) refl (holds (s .inner)) (and-both held refl) other, goes-on (48 ∷ d ∷ b ∷ m) 2 refl)
+
+module _ (s : Settings) (b : ℕ) (m : List ℕ) (may : all (may-name s) (b ∷ m) ≡ true) (table : List ℕ) (i : ℕ) (found : lookup table (b ∷ m) ≡ Row i) where
+  abbrev named : List ℕ
+  named = b ∷ m
+
+  first : (holds (s .inner) b ≡ false) × (holds (s .outer) b ≡ false) × (is DIGIT b ≡ false) × (is SIGN b ≡ false) × (is POINT b ≡ false)
+  first = name-byte s b (all-first (may-name s) b m may)
+
+  stretches : all (in-stretch s) named ≡ true
+  stretches = all-weaken (may-name s) (in-stretch s) (name-in-stretch s) named may
+
+  no-gap : (text : List ℕ) (place : ℕ) → drop place text ≡ named → gap (s .«before_unit») s text place ≡ got place
+  unfolding starts
+  no-gap text place here = gap-none s text place (s .«before_unit») (sees-of text place (holds (s .inner)) here ∙ first .0)
+
+  -- `0s`
+  plain : led-by-e named ≡ false → Reads s table i (48 ∷ named)
+  unfolding led-by-e starts sees same-letter lower between if_then_else_
+  plain unled =
+      let exponent = exponent-none s (48 ∷ named) 1 unled in
+      reads s named (first .2) (first .4) table i 1 _ exponent (no-gap (48 ∷ named) 1 refl) named refl stretches found
+
+  -- `0e0eon`
+  with-exponent : s .exponents ≡ true → Reads s table i (48 ∷ 101 ∷ 48 ∷ named)
+  unfolding starts
+  with-exponent on = reads s (101 ∷ 48 ∷ named) e-no-digit e-no-point table i 3 _ exponent (no-gap (48 ∷ 101 ∷ 48 ∷ named) 3 refl) named refl stretches found
+    where
+      exponent : exponent-step s (48 ∷ 101 ∷ 48 ∷ named) 1 ≡ got (record { exponent = record { negative = false; power = 0 }; next = 3 })
+      exponent = zero-exponent s b m on (first .2)
+
+  -- `0 eon`
+  with-delimiter : (d : ℕ) → class d ≡ OTHER → d < 256 → holds (s .inner) d ≡ true → s .«before_unit» ≡ true → Reads s table i (48 ∷ d ∷ named)
+  unfolding starts sees
+  with-delimiter d other below held on =
+      reads s (d ∷ named) (other-class DIGIT d (λ e. omega (arith, e)) other) (other-class POINT d (λ e. omega (arith, e)) other) table i 2 _
+      (exponent-none s (48 ∷ d ∷ named) 1 (other-not-e d below other)) delimiter named refl stretches found
+    where
+      delimiter : gap (s .«before_unit») s (48 ∷ d ∷ named) 1 ≡ got 2
+      delimiter = one-delimiter s d b m on held (first .0)
+
+-- ---- every name that can be typed
+
+typed-text : (s : Settings) → settings-check s ≡ got tt → (n : List ℕ) → (n ≡ [] → ⊥) → all (may-name s) n ≡ true → can-be-typed s n ≡ true → (table : List ℕ) (i : ℕ) → lookup table n ≡ Row i → Reads s table i (text-for s n)
+unfolding text-for joint can-be-typed e-may-lead empty ascii if_then_else_
+typed-text s good [] some may typed table i found = absurd (some refl)
+typed-text s good (b ∷ m) some may typed table i found = go (led-by-e (b ∷ m)) (s .exponents) refl refl typed
+  where
+    d : ℕ
+    d = first-held (s .inner) 0 256
+
+    go :
+        (led on : Bool) → led-by-e (b ∷ m) ≡ led → s .exponents ≡ on
+        → (not led || (on || s .«before_unit» && not (empty (s .inner)))) ≡ true
+        → Reads s table i (48 ∷ (if not led then [] else if on then ascii "e0" else d ∷ []) ++ b ∷ m)
+    go false on e f may-lead = plain s b m may table i found e
+    go true true e f may-lead = with-exponent s b m may table i found f
+    go true false e f may-lead =
+        let held = held-first (s .inner) 256 0 (not-true (empty (s .inner)) (and-right (s .«before_unit») (not (empty (s .inner))) may-lead)) in
+        with-delimiter s b m may table i found d (delimiter-class d (inner-delimits s good d (held .1) (held .0))) (held .1) (held .0) (and-left (s .«before_unit») (not (empty (s .inner))) may-lead)
+
+-- ---- for each row of a table that passes document 01's tests: if its name can be typed, there is a text that finds it
+
+module _ (s : Settings) (table : List ℕ) (right : (i : ℕ) → i < rows table → row-right s table i ≡ true) (i : ℕ) (below : i < rows table) where
+  long : length (row table i) ≡ row-size
+  long = length-row table i below
+
+  padded-row : padded (row table i) ≡ true
+  padded-row = right-padded s table i (right i below)
+
+  pub row-typed : settings-check s ≡ got tt → can-be-typed s (name (row table i)) ≡ true → Reads s table i (text-for s (name (row table i)))
+  row-typed good typed =
+      typed-text s good (name (row table i)) (name-some (row table i) long padded-row) (right-name s table i (right i below)) typed table i (lookup-only s table right i below)
+
+  -- at most 19 bytes
+  pub text-short : length (text-for s (name (row table i))) ≤ 19
+  unfolding text-for joint ascii
+  text-short =
+      let at-most = size-most (row table i) long padded-row in
+      if-either (λ l. suc (length (l ++ name (row table i))) ≤ 19) (not (led-by-e (name (row table i)))) {x = []} {y = _}
+      (λ _. omega (arith, at-most, name-length (row table i) long padded-row))
+      (λ _.
+      if-either (λ l. suc (length (l ++ name (row table i))) ≤ 19) (s .exponents) {x = 101 ∷ 48 ∷ []} {y = first-held (s .inner) 0 256 ∷ []}
+      (λ _. omega (arith, at-most, name-length (row table i) long padded-row)) (λ _. omega (arith, at-most, name-length (row table i) long padded-row)))

@@ -1,0 +1,7 @@
+-- Request two: which rows of a table a text can find.
+pub mod WhereAPartFindsItsUnit
+pub mod TheReadersOwn
+pub mod NobodyCouldType
+pub mod ATextForEachRow
+pub mod Examples
+pub mod ExactlyIf

@@ -1,0 +1,194 @@
+-- Under no settings does a part find its unit at a row of which the name cannot be typed. Assumes nothing.
+use mathlib.Core.Path.{_≡_, refl, sym, ap, _∙_}
+use mathlib.Core.Bool.{Bool, true, false, not, _&&_, _||_, false≢true}
+use mathlib.Core.List.{List, [], _∷_}
+use Prim.Native.Nat.{ℕ, zero, suc, _+_, _/_, _%_, _<_}
+use native.Mathlib.Nat.{add-zero, zero-add, add-suc, suc-add, le-of-suc-le-suc}
+use native.Mathlib.Omega.{arith}
+use lib.Dec.{eqb, lit<}
+use lib.ListN.{length, drop, take}
+use lib.Seq.{slice, drop-nil}
+use borrow.Author.Tests.{not-true, not-false, eqb-true}
+use Rattle.rules.specs.declared.ByteSet.{ByteSet}
+use Rattle.rules.specs.declared.Settings.{Settings}
+use Rattle.rules.specs.declared.Refusal.{Refusal}
+use Rattle.rules.specs.declared.Found.{Found}
+use Rattle.rules.specs.declared.Found.the-variants.{Row, Nowhere}
+use Rattle.rules.specs.Common.{if_then_else_, between, ends, starts, sees, run}
+use Rattle.rules.specs.NumbersHandedBack.{Outcome, got, refused, _>>=_}
+use Rattle.rules.specs.SettingsAndUnitTable.{lower, word, holds, holds-none, empty, row, name, led-by-e, e-may-lead, can-be-typed, lookup}
+use Rattle.rules.specs.ReadingOnePart.{same-letter, gap, sign-step, number-step, exponent-step, in-stretch}
+use Rattle.rules.specs.Evaluation.{part-reading}
+use Rattle.rules.specs.Laws.Choices.{and-left, and-right}
+use Rattle.rules.specs.Laws.Tests.{or-true}
+use Rattle.rules.specs.Laws.Outcomes.{All, all-got, all-refused, of-got, all-of, all-if, all-bind, all-map, always, bind-got}
+use Rattle.rules.specs.Laws.Layout.{gap-none}
+use Rattle.card.specs.Laws.Accepted.{lookup-found}
+use Rattle.findable.specs.TheReadersOwn.{refused-among}
+use Rattle.findable.specs.WhereAPartFindsItsUnit.{number-unit, unsigned-unit, unit-of, units, among, among-got, finds}
+
+-- ---- an empty set holds nothing
+
+none-at : (set : ByteSet) (n b k : ℕ) → k < n → holds-none set b n ≡ true → holds set (b + k) ≡ false
+unfolding holds-none
+none-at set zero b k below e = absurd (omega arith)
+none-at set (suc n) b zero below e = rw add-zero (not-true (holds set b) (and-left (not (holds set b)) (holds-none set (suc b) n) e))
+none-at set (suc n) b (suc k) below e =
+    rw (add-suc b k, ← (suc-add b k)) (none-at set n (suc b) k (le-of-suc-le-suc below) (and-right (not (holds set b)) (holds-none set (suc b) n) e))
+
+-- the last word stands for all bytes beyond the third
+last-word : (set : ByteSet) (b i : ℕ) → b / 64 ≡ suc (suc (suc i)) → holds set b ≡ holds set (192 + b % 64)
+unfolding holds word
+last-word set b i e =
+    let fourth : (192 + b % 64) / 64 ≡ 3 = omega arith in
+    let same-bit : (192 + b % 64) % 64 ≡ b % 64 = omega arith in
+    rw (e, fourth, same-bit)
+
+none-held : (set : ByteSet) → empty set ≡ true → (b : ℕ) → holds set b ≡ false
+unfolding empty
+none-held set none b = go (b / 64) refl
+  where
+    below : (k : ℕ) → k < 256 → holds set k ≡ false
+    below k h = rw (zero-add k) at (none-at set 256 0 k h none)
+
+    go : (i : ℕ) → b / 64 ≡ i → holds set b ≡ false
+    go zero e = below b (omega arith)
+    go (suc zero) e = below b (omega arith)
+    go (suc (suc zero)) e = below b (omega arith)
+    go (suc (suc (suc i))) e = last-word set b i e ∙ below (192 + b % 64) (omega arith)
+
+starts-none : (test : ℕ → Bool) → ((b : ℕ) → test b ≡ false) → (rest : List ℕ) → starts test rest ≡ false
+unfolding starts
+starts-none test none [] = refl
+starts-none test none (b ∷ rest) = none b
+
+gap-off : (s : Settings) (text : List ℕ) (place : ℕ) → gap false s text place ≡ got place
+unfolding gap if_then_else_
+gap-off s text place = refl
+
+-- ---- where no `e` can lead a name, none stands at the place where a unit is looked up
+
+module _ (s : Settings) (text : List ℕ) (place : ℕ) where
+  no-exponent : s .exponents ≡ false → All (λ scaled. sees (same-letter 101) text (scaled .next) ≡ false) (exponent-step s text place)
+  unfolding exponent-step
+  no-exponent off =
+      all-if (λ none. all-got (not-true (sees (same-letter 101) text place) none))
+      (λ _. all-if (λ _. all-refused) (λ on. absurd (false≢true (sym off ∙ not-false (s .exponents) on))))
+
+  no-delimiter : (s .«before_unit» && not (empty (s .inner))) ≡ false → gap (s .«before_unit») s text place ≡ got place
+  unfolding sees
+  no-delimiter e = go (s .«before_unit») e
+    where
+      go : (on : Bool) → (on && not (empty (s .inner))) ≡ false → gap on s text place ≡ got place
+      go true e = gap-none s text place true (starts-none (holds (s .inner)) (none-held (s .inner) (not-false (empty (s .inner)) e)) (drop place text))
+      go false e = gap-off s text place
+
+-- ---- a name begins as the text does where it stands
+
+slice-starts : (test : ℕ → Bool) (from to : ℕ) (text : List ℕ) → starts test (drop from text) ≡ false → starts test (slice from to text) ≡ false
+unfolding starts
+slice-starts test from zero text e = rw (drop-nil from)
+slice-starts test zero (suc to) [] e = refl
+slice-starts test zero (suc to) (b ∷ text) e = e
+slice-starts test (suc from) (suc to) [] e = refl
+slice-starts test (suc from) (suc to) (b ∷ text) e = slice-starts test from to text e
+
+not-led : (from to : ℕ) (text : List ℕ) → sees (same-letter 101) text from ≡ false → led-by-e (slice from to text) ≡ false
+unfolding sees led-by-e same-letter lower between if_then_else_
+not-led from to text e = slice-starts (same-letter 101) from to text e
+
+-- ---- a part
+
+is-row : Found → Bool
+is-row (Row i) = true
+is-row Nowhere = false
+
+not-a-row : (i : ℕ) → Nowhere ≡ Row i → ⊥
+unfolding is-row
+not-a-row i e = false≢true (ap is-row e)
+
+got-among : (i : ℕ) (found : List Found) → among-got i (got found) ≡ true → among i found ≡ true
+unfolding among-got
+got-among i found e = e
+
+or-neither : (a b : Bool) → (a || b) ≡ false → (a ≡ false) × (b ≡ false)
+or-neither true b e = absurd (false≢true (sym e))
+or-neither false b e = (refl, e)
+
+module _ (s : Settings) (table text : List ℕ) where
+  -- whatever was found, an `e` does not lead its name
+  abbrev Unled : Found → Type 0
+  Unled found = (i : ℕ) → found ≡ Row i → led-by-e (name (row table i)) ≡ false
+
+  module _ (none : e-may-lead s ≡ false) where
+    off : (s .exponents ≡ false) × ((s .«before_unit» && not (empty (s .inner))) ≡ false)
+    unfolding e-may-lead
+    off = or-neither (s .exponents) (s .«before_unit» && not (empty (s .inner))) none
+
+    looked-up : (place to : ℕ) → sees (same-letter 101) text place ≡ false → Unled (lookup table (slice place to text))
+    looked-up place to none i e = ap led-by-e (lookup-found table (slice place to text) i e .1) ∙ not-led place to text none
+
+    number-unled : (place : ℕ) → All Unled (number-unit s table text place)
+    unfolding number-unit
+    number-unled place =
+        all-bind (always (number-step s text place))
+        (λ number _.
+        all-bind (no-exponent s text (number .next) (off .0))
+        (λ scaled none. rw (bind-got _ (no-delimiter s text (scaled .next) (off .1))) (all-got (looked-up (scaled .next) (run (in-stretch s) text (scaled .next)) none))))
+
+    unled : (place : ℕ) → All Unled (unit-of s table text place)
+    unfolding unit-of unsigned-unit
+    unled place = all-bind (always (sign-step s text place)) (λ signed _. all-if (λ _. number-unled (signed .next)) (λ _. all-got nowhere))
+      where
+        nowhere : Unled Nowhere
+        nowhere i e = absurd (not-a-row i e)
+
+  -- a row at which a part finds its unit has a name that can be typed
+  abbrev Typed : Found → Type 0
+  Typed found = (i : ℕ) → found ≡ Row i → can-be-typed s (name (row table i)) ≡ true
+
+  typed : (place : ℕ) → All Typed (unit-of s table text place)
+  unfolding can-be-typed
+  typed place = go (e-may-lead s) refl
+    where
+      go : (may : Bool) → e-may-lead s ≡ may → All Typed (unit-of s table text place)
+      go true e = all-map (always (unit-of s table text place)) (λ found _ i at. rw (e, or-true))
+      go false e = all-map (unled e place) (λ found unled i at. rw (unled i at))
+
+  pub part-typed : (place i : ℕ) → unit-of s table text place ≡ got (Row i) → can-be-typed s (name (row table i)) ≡ true
+  part-typed place i e = all-of (typed place) e i refl
+
+  -- ---- the parts of a text
+
+  one-more : (i : ℕ) (unit : Found) (more : List Found) → Typed unit → (among i more ≡ true → can-be-typed s (name (row table i)) ≡ true) → among i (unit ∷ more) ≡ true → can-be-typed s (name (row table i)) ≡ true
+  unfolding among
+  one-more i (Row k) more here later e = go (eqb k i) refl e
+    where
+      go : (same : Bool) → eqb k i ≡ same → (same || among i more) ≡ true → can-be-typed s (name (row table i)) ≡ true
+      go true at e = here i (ap Row (eqb-true k i at))
+      go false at e = later e
+  one-more i Nowhere more here later e = later e
+
+  no-more : (i : ℕ) → among i [] ≡ true → can-be-typed s (name (row table i)) ≡ true
+  unfolding among
+  no-more i e = absurd (false≢true e)
+
+  units-typed : (i n place : ℕ) → All (λ found. among i found ≡ true → can-be-typed s (name (row table i)) ≡ true) (units s table text n place)
+  unfolding units
+  units-typed i zero place = all-refused
+  units-typed i (suc n) place =
+      all-bind (always (part-reading s table text place))
+      (λ r _.
+      all-bind (typed place)
+      (λ unit here.
+      all-if (λ _. all-got (one-more i unit [] here (no-more i)))
+      (λ _. all-bind (units-typed i n (r .next)) (λ more later. all-got (one-more i unit more here later)))))
+
+  -- no part of any text finds its unit at a row of which the name cannot be typed
+  pub found-typed : (i : ℕ) → finds s table text i ≡ true → can-be-typed s (name (row table i)) ≡ true
+  unfolding finds
+  found-typed i e = go (units s table text (suc (length text)) 0) (units-typed i (suc (length text)) 0) e
+    where
+      go : (m : Outcome (List Found)) → All (λ found. among i found ≡ true → can-be-typed s (name (row table i)) ≡ true) m → among-got i m ≡ true → can-be-typed s (name (row table i)) ≡ true
+      go (got found) h e = of-got h (got-among i found e)
+      go (refused cause) h e = absurd (refused-among i cause e)
