@@ -1,38 +1,34 @@
 -- For each row of an accepted table there is a text that finds it: zero of the unit, so that it comes to zero whatever the row's
 -- coefficient, and is accepted with negatives off too. Assumes nothing.
 use mathlib.Core.Path.{_≡_, refl, sym, ap, _∙_}
-use mathlib.Core.Bool.{Bool, true, false, not, xor, _&&_, _||_, false≢true}
+use mathlib.Core.Bool.{Bool, true, false, not, _&&_, _||_, false≢true}
 use mathlib.Core.List.{List, [], _∷_, _++_, append-nil}
-use Prim.Native.Nat.{ℕ, zero, suc, _+_, _*_, _-_, _/_, _^_, _≤_, _<_}
-use native.Mathlib.Nat.{add-zero, zero-add, add-suc, suc-add, zero-div, zero-mul, mul-zero}
+use Prim.Native.Nat.{ℕ, zero, suc, _+_, _^_, _≤_, _<_}
+use native.Mathlib.Nat.{zero-div, zero-mul, mul-zero}
 use native.Mathlib.Omega.{arith}
-use lib.Dec.{eqb, leb, lit<, lit≤}
-use lib.ListN.{length, take, drop, length-drop}
-use lib.Seq.{slice, slice-empty}
-use borrow.Author.Tests.{le-leb, lt-leb, eqb-true, eq-eqb, ne-eqb, not-true, not-false}
+use lib.Dec.{eqb}
+use lib.ListN.{length, drop, length-drop}
+use lib.Seq.{slice}
+use borrow.Author.Tests.{le-leb, eqb-true, eq-eqb, ne-eqb, not-true}
 use Rattle.rules.specs.declared.ByteSet.{ByteSet}
 use Rattle.rules.specs.declared.Settings.{Settings}
-use Rattle.rules.specs.declared.Length.{Length}
-use Rattle.rules.specs.declared.Number.{Number}
 use Rattle.rules.specs.declared.Scaled.{Scaled}
 use Rattle.rules.specs.declared.DurationRepr.{DurationRepr}
-use Rattle.rules.specs.declared.Found.{Found}
-use Rattle.rules.specs.declared.Found.the-variants.{Row, Nowhere}
-use Rattle.rules.specs.Common.{if_then_else_, ascii, between, all, ends, starts, sees, front, run}
-use Rattle.rules.specs.ThePartOfTheCrateWeTake.{zero-length, longest-text, size}
-use Rattle.rules.specs.NumbersHandedBack.{Outcome, got, refused, _>>=_, _>>_, unless}
-use Rattle.rules.specs.SettingsAndUnitTable.{DIGIT, SIGN, POINT, OTHER, class, is, is-next-duration, lower, holds, holds-none, empty, may-delimit, may-name, settings-check, card-check, row-size, rows, row, name, product, led-by-e, e-may-lead, can-be-typed, row-right, lookup}
-use Rattle.rules.specs.ReadingOnePart.{same-letter, delimiters, gap, sign-step, fraction-step, number-step, exponent-limit, exponent-digits, exponent-number, exponent-step, in-stretch, ago-step, unit-found, unit-step, connection, finite-part, unsigned-part, part}
+use Rattle.rules.specs.declared.Found.the-variants.{Row}
+use Rattle.rules.specs.Common.{if_then_else_, ascii, between, all, runs, ends, starts, sees, run}
+use Rattle.rules.specs.ThePartOfTheCrateWeTake.{zero-length, size}
+use Rattle.rules.specs.NumbersHandedBack.{got, _>>=_}
+use Rattle.rules.specs.SettingsAndUnitTable.{DIGIT, SIGN, POINT, OTHER, class, is, is-next-duration, lower, holds, empty, may-name, settings-check, row-size, rows, row, name, product, led-by-e, e-may-lead, can-be-typed, row-right, lookup}
+use Rattle.rules.specs.ReadingOnePart.{same-letter, delimiters, gap, sign-step, fraction-step, number-step, exponent-limit, exponent-digits, exponent-number, exponent-step, in-stretch, ago-step, unit-found, unit-step, finite-part, unsigned-part, part}
 use Rattle.rules.specs.Evaluation.{spelled, digits-of, attos, nanos, length-of, evaluate, allowed, part-reading, sum, sum-all, parts, total}
-use Rattle.rules.specs.WhatEveryEntryOwes.{read-total}
-use Rattle.rules.specs.Laws.Choices.{if-either, and-both, and-left, and-right, all-first, all-weaken}
+use Rattle.rules.specs.Laws.Choices.{or-neither, if-either, and-both, and-left, and-right, all-first, all-weaken}
 use Rattle.rules.specs.Laws.Tests.{and-false}
 use Rattle.rules.specs.Laws.Outcomes.{bind-got}
 use Rattle.rules.specs.Laws.Texts.{ends-le, sees-end}
 use Rattle.rules.specs.Laws.Layout.{sees-of, run-over, stretch, goes-on, gap-none, exponent-none, connection-none}
 use Rattle.card.specs.Fields.{padded}
 use Rattle.card.specs.Laws.Table.{right-padded, right-name}
-use Rattle.card.specs.Laws.Accepted.{card-settings, card-table, rows-right, row-good, delimiter-class, inner-delimits, lookup-only}
+use Rattle.card.specs.Laws.Accepted.{delimiter-class, inner-delimits, lookup-only}
 use Rattle.rows.specs.Laws.Rows.{length-row}
 use Rattle.card.specs.Laws.Names.{led-byte, name-some, size-most, name-length}
 use Rattle.findable.specs.WhereAPartFindsItsUnit.{number-unit, unsigned-unit, unit-of, units, among, among-got, finds}
@@ -56,18 +52,15 @@ Reads s table i text = (total s table text ≡ got zero-length) × (finds s tabl
 
 -- ---- bytes of a name
 
-neither : (a b c d e : Bool) → not (a || b || c || d || e) ≡ true → (a ≡ false) × (b ≡ false) × (c ≡ false) × (d ≡ false) × (e ≡ false)
-neither true b c d e h = absurd (false≢true h)
-neither false true c d e h = absurd (false≢true h)
-neither false false true d e h = absurd (false≢true h)
-neither false false false true e h = absurd (false≢true h)
-neither false false false false true h = absurd (false≢true h)
-neither false false false false false h = (refl, refl, refl, refl, refl)
-
 module _ (s : Settings) (b : ℕ) (may : may-name s b ≡ true) where
   name-byte : (holds (s .inner) b ≡ false) × (holds (s .outer) b ≡ false) × (is DIGIT b ≡ false) × (is SIGN b ≡ false) × (is POINT b ≡ false)
   unfolding may-name
-  name-byte = neither (holds (s .inner) b) (holds (s .outer) b) (is DIGIT b) (is SIGN b) (is POINT b) may
+  name-byte =
+      let point = or-neither _ (is POINT b) (not-true _ may) in
+      let sign = or-neither _ (is SIGN b) (point .0) in
+      let digit = or-neither _ (is DIGIT b) (sign .0) in
+      let delimiter = or-neither (holds (s .inner) b) (holds (s .outer) b) (digit .0) in
+      (delimiter .0, delimiter .1, digit .1, sign .1, point .1)
 
   name-in-stretch : in-stretch s b ≡ true
   unfolding in-stretch is-next-duration
@@ -207,15 +200,18 @@ module _ (s : Settings) (rest : List ℕ) (no-digit : starts (is DIGIT) rest ≡
 
 -- ---- the first byte that a set holds
 
-held-first : (set : ByteSet) (n b : ℕ) → holds-none set b n ≡ false → (holds set (first-held set b n) ≡ true) × (first-held set b n < b + n)
-unfolding holds-none first-held if_then_else_
+held-first : (set : ByteSet) (n b : ℕ) → runs (λ k. not (holds set k)) b n ≡ false → (holds set (first-held set b n) ≡ true) × (first-held set b n < b + n)
+unfolding runs first-held if_then_else_
 held-first set zero b e = absurd (false≢true (sym e))
 held-first set (suc n) b e = go (holds set b) refl e (held-first set n (suc b))
   where
+    others : Bool
+    others = runs (λ k. not (holds set k)) (suc b) n
+
     go :
         (held : Bool) → holds set b ≡ held
-        → (not held && holds-none set (suc b) n) ≡ false
-        → (holds-none set (suc b) n ≡ false → (holds set (first-held set (suc b) n) ≡ true) × (first-held set (suc b) n < suc b + n))
+        → (not held && others) ≡ false
+        → (others ≡ false → (holds set (first-held set (suc b) n) ≡ true) × (first-held set (suc b) n < suc b + n))
         → (holds set (if held then b else first-held set (suc b) n) ≡ true) × ((if held then b else first-held set (suc b) n) < b + suc n)
     go true at e more = (at, omega arith)
     go false at e more = (more e .0, omega (arith, more e .1))

@@ -13,15 +13,14 @@ use borrow.Author.Tests.{le-leb, eqb-true, eqb-false}
 use Rattle.rules.specs.declared.Settings.{Settings}
 use Rattle.rules.specs.declared.Length.{Length}
 use Rattle.rules.specs.declared.Found.the-variants.{Row}
-use Rattle.rules.specs.declared.Refusal.{Refusal}
-use Rattle.rules.specs.declared.Refusal.the-variants.{TableSize, BadRow}
+use Rattle.rules.specs.declared.Refusal.the-variants.{BadRow}
 use Rattle.rules.specs.Common.{if_then_else_}
 use Rattle.rules.specs.ThePartOfTheCrateWeTake.{zero-length, longest-text}
-use Rattle.rules.specs.NumbersHandedBack.{Outcome, got, refused, _>>_, unless, position}
+use Rattle.rules.specs.NumbersHandedBack.{_>>_, Outcome, got, refused, unless, position}
 use Rattle.rules.specs.SettingsAndUnitTable.{settings-check, most-rows, row-size, rows, row, name, can-be-typed, row-right, row-accepted, rows-check, table-check, card-check}
 use Rattle.rules.specs.Evaluation.{total}
 use Rattle.rules.specs.WhatEveryEntryOwes.{read-total}
-use Rattle.rules.specs.Laws.Choices.{and-both, and-right}
+use Rattle.rules.specs.Laws.Choices.{and-both}
 use Rattle.card.specs.Laws.Table.{rest-of-check, check-start, check-end, check-bad, check-next, row-both}
 use Rattle.card.specs.Laws.Accepted.{card-settings, card-table, rows-right, row-good}
 use Rattle.findable.specs.WhereAPartFindsItsUnit.{unit-of, finds}

@@ -1,12 +1,12 @@
 -- What texts find, computed: the request's own, a text of several parts, and the text for each row. Assumes nothing.
 use mathlib.Core.Bool.{Bool, true, false, not, _&&_}
-use mathlib.Core.List.{List, [], _∷_, _++_}
-use Prim.Native.Nat.{ℕ, suc, _-_, _^_}
+use mathlib.Core.List.{List, _++_}
+use Prim.Native.Nat.{ℕ, _-_, _^_}
 use Prim.Native.String.{String}
-use lib.Dec.{T, eqb}
+use lib.Dec.{T}
 use Rattle.rules.specs.declared.Settings.{Settings}
 use Rattle.rules.specs.declared.Length.{Length}
-use Rattle.rules.specs.Common.{ascii, all, same}
+use Rattle.rules.specs.Common.{ascii, same}
 use Rattle.rules.specs.ThePartOfTheCrateWeTake.{zero-length}
 use Rattle.rules.specs.NumbersHandedBack.{Outcome, got, refused}
 use Rattle.rules.specs.SettingsAndUnitTable.{row, name}

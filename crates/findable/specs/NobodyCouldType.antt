@@ -3,24 +3,23 @@ use mathlib.Core.Path.{_≡_, refl, sym, ap, _∙_}
 use mathlib.Core.Bool.{Bool, true, false, not, _&&_, _||_, false≢true}
 use mathlib.Core.List.{List, [], _∷_}
 use Prim.Native.Nat.{ℕ, zero, suc, _+_, _/_, _%_, _<_}
-use native.Mathlib.Nat.{add-zero, zero-add, add-suc, suc-add, le-of-suc-le-suc}
 use native.Mathlib.Omega.{arith}
-use lib.Dec.{eqb, lit<}
-use lib.ListN.{length, drop, take}
+use lib.Dec.{eqb}
+use lib.ListN.{length, drop}
 use lib.Seq.{slice, drop-nil}
 use borrow.Author.Tests.{not-true, not-false, eqb-true}
 use Rattle.rules.specs.declared.ByteSet.{ByteSet}
 use Rattle.rules.specs.declared.Settings.{Settings}
-use Rattle.rules.specs.declared.Refusal.{Refusal}
 use Rattle.rules.specs.declared.Found.{Found}
 use Rattle.rules.specs.declared.Found.the-variants.{Row, Nowhere}
-use Rattle.rules.specs.Common.{if_then_else_, between, ends, starts, sees, run}
-use Rattle.rules.specs.NumbersHandedBack.{Outcome, got, refused, _>>=_}
-use Rattle.rules.specs.SettingsAndUnitTable.{lower, word, holds, holds-none, empty, row, name, led-by-e, e-may-lead, can-be-typed, lookup}
+use Rattle.rules.specs.Common.{if_then_else_, between, starts, sees, run}
+use Rattle.rules.specs.NumbersHandedBack.{Outcome, got, refused}
+use Rattle.rules.specs.SettingsAndUnitTable.{lower, word, holds, empty, row, name, led-by-e, e-may-lead, can-be-typed, lookup}
 use Rattle.rules.specs.ReadingOnePart.{same-letter, gap, sign-step, number-step, exponent-step, in-stretch}
 use Rattle.rules.specs.Evaluation.{part-reading}
-use Rattle.rules.specs.Laws.Choices.{and-left, and-right}
+use Rattle.rules.specs.Laws.Choices.{or-neither}
 use Rattle.rules.specs.Laws.Tests.{or-true}
+use Rattle.rules.specs.Laws.Lists.{runs-below}
 use Rattle.rules.specs.Laws.Outcomes.{All, all-got, all-refused, of-got, all-of, all-if, all-bind, all-map, always, bind-got}
 use Rattle.rules.specs.Laws.Layout.{gap-none}
 use Rattle.card.specs.Laws.Accepted.{lookup-found}
@@ -28,13 +27,6 @@ use Rattle.findable.specs.TheReadersOwn.{refused-among}
 use Rattle.findable.specs.WhereAPartFindsItsUnit.{number-unit, unsigned-unit, unit-of, units, among, among-got, finds}
 
 -- ---- an empty set holds nothing
-
-none-at : (set : ByteSet) (n b k : ℕ) → k < n → holds-none set b n ≡ true → holds set (b + k) ≡ false
-unfolding holds-none
-none-at set zero b k below e = absurd (omega arith)
-none-at set (suc n) b zero below e = rw add-zero (not-true (holds set b) (and-left (not (holds set b)) (holds-none set (suc b) n) e))
-none-at set (suc n) b (suc k) below e =
-    rw (add-suc b k, ← (suc-add b k)) (none-at set n (suc b) k (le-of-suc-le-suc below) (and-right (not (holds set b)) (holds-none set (suc b) n) e))
 
 -- the last word stands for all bytes beyond the third
 last-word : (set : ByteSet) (b i : ℕ) → b / 64 ≡ suc (suc (suc i)) → holds set b ≡ holds set (192 + b % 64)
@@ -49,7 +41,7 @@ unfolding empty
 none-held set none b = go (b / 64) refl
   where
     below : (k : ℕ) → k < 256 → holds set k ≡ false
-    below k h = rw (zero-add k) at (none-at set 256 0 k h none)
+    below k h = not-true (holds set k) (runs-below (λ k. not (holds set k)) 256 k none h)
 
     go : (i : ℕ) → b / 64 ≡ i → holds set b ≡ false
     go zero e = below b (omega arith)
@@ -110,10 +102,6 @@ not-a-row i e = false≢true (ap is-row e)
 got-among : (i : ℕ) (found : List Found) → among-got i (got found) ≡ true → among i found ≡ true
 unfolding among-got
 got-among i found e = e
-
-or-neither : (a b : Bool) → (a || b) ≡ false → (a ≡ false) × (b ≡ false)
-or-neither true b e = absurd (false≢true (sym e))
-or-neither false b e = (refl, e)
 
 module _ (s : Settings) (table text : List ℕ) where
   -- whatever was found, an `e` does not lead its name

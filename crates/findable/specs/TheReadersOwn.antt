@@ -1,7 +1,7 @@
 -- `unit-of` follows the reader: the part that is read is multiplied by the row at which it finds its unit, or by the default kind; and
 -- the units of a text are those of the parts that its total reads. Assumes nothing.
-use mathlib.Core.Path.{_≡_, refl, sym, ap, _∙_}
-use mathlib.Core.Bool.{Bool, true, false, _||_, false≢true}
+use mathlib.Core.Path.{_≡_, refl, ap, _∙_}
+use mathlib.Core.Bool.{Bool, true, false≢true}
 use mathlib.Core.List.{List, [], _∷_}
 use mathlib.Core.Logic.{_⊎_, inl, inr}
 use Prim.Native.Nat.{ℕ, zero, suc}
@@ -13,27 +13,15 @@ use Rattle.rules.specs.declared.Multiplier.{Multiplier}
 use Rattle.rules.specs.declared.Found.{Found}
 use Rattle.rules.specs.declared.Found.the-variants.{Row, Nowhere}
 use Rattle.rules.specs.declared.Refusal.{Refusal}
-use Rattle.rules.specs.Common.{if_then_else_, ends, sees, run}
+use Rattle.rules.specs.Common.{run}
 use Rattle.rules.specs.ThePartOfTheCrateWeTake.{zero-length}
-use Rattle.rules.specs.NumbersHandedBack.{Outcome, got, refused, _>>=_}
-use Rattle.rules.specs.SettingsAndUnitTable.{DIGIT, POINT, is, kind-multiplier, lookup, row, product}
+use Rattle.rules.specs.NumbersHandedBack.{Outcome, got, refused}
+use Rattle.rules.specs.SettingsAndUnitTable.{kind-multiplier, lookup, row, product}
 use Rattle.rules.specs.ReadingOnePart.{delimiters, gap, sign-step, number-step, exponent-step, in-stretch, negated, ago-step, unit-found, unit-step, connection, infinity-step, infinite-part, finite-part, unsigned-part, part}
 use Rattle.rules.specs.Evaluation.{allowed, part-reading, sum-all, parts, total}
-use Rattle.rules.specs.Laws.Outcomes.{All, all-got, all-refused, of-got, all-of, all-if, all-bind, all-map, always, bind-got}
+use Rattle.rules.specs.Laws.Choices.{if-then, if-else}
+use Rattle.rules.specs.Laws.Outcomes.{itself, All, all-got, all-refused, of-got, all-of, all-if, all-bind, all-map, always, bind-got}
 use Rattle.findable.specs.WhereAPartFindsItsUnit.{number-unit, unsigned-unit, unit-of, units, among-got, finds}
-
--- whatever is got is what the outcome is
-itself : {A : Type 0} (m : Outcome A) → All (λ a. m ≡ got a) m
-itself (got a) = all-got refl
-itself (refused cause) = all-refused
-
-if-then : {A : Type 0} {b : Bool} (x y : A) → b ≡ true → (if b then x else y) ≡ x
-unfolding if_then_else_
-if-then x y e = rw e
-
-if-else : {A : Type 0} {b : Bool} (x y : A) → b ≡ false → (if b then x else y) ≡ y
-unfolding if_then_else_
-if-else x y e = rw e
 
 -- what was refused finds nothing
 pub refused-among : (i : ℕ) (cause : Refusal) → among-got i (refused cause) ≡ true → ⊥

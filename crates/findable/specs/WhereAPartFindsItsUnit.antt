@@ -1,6 +1,6 @@
 -- Request two: at which row a part finds its unit, by the reader's own steps, and the units of a text's parts in the sequence that its
 -- total reads. Assumes nothing.
-use mathlib.Core.Bool.{Bool, true, false, _||_}
+use mathlib.Core.Bool.{Bool, false, _||_}
 use mathlib.Core.List.{List, [], _∷_}
 use Prim.Native.Nat.{ℕ, zero, suc}
 use lib.Dec.{eqb}

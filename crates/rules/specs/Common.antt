@@ -28,6 +28,11 @@ unfoldable pub all {ℓ} : {A : Type ℓ} → (A → Bool) → List A → Bool
 all test [] = true
 all test (x ∷ xs) = test x && all test xs
 
+-- each of the n bytes from b on passes the test
+unfoldable pub runs : (ℕ → Bool) → ℕ → ℕ → Bool
+runs test b zero = true
+runs test b (suc n) = test b && runs test (suc b) n
+
 -- the same bytes
 unfoldable pub same : List ℕ → List ℕ → Bool
 same [] [] = true

@@ -12,7 +12,7 @@ use Rattle.rules.specs.declared.Multiplier.{Multiplier}
 use Rattle.rules.specs.declared.Found.{Found}
 use Rattle.rules.specs.declared.Found.the-variants.{Row, Nowhere}
 use Rattle.rules.specs.declared.Refusal.the-variants.{Delimiters, Conjunctions, DefaultKind, TableSize, BadRow}
-use Rattle.rules.specs.Common.{if_then_else_, between, all, same, starts}
+use Rattle.rules.specs.Common.{if_then_else_, between, all, runs, same, starts}
 use Rattle.rules.specs.NumbersHandedBack.{Outcome, got, refused, _>>_, unless}
 
 -- ---- byte classes
@@ -67,19 +67,13 @@ may-delimit b = ltb b 128 && is OTHER b
 
 -- so does each of the n bytes from b on that the set holds
 unfoldable pub delimits : ByteSet → ℕ → ℕ → Bool
-delimits set b zero = true
-delimits set b (suc n) = (not (holds set b) || may-delimit b) && delimits set (suc b) n
+delimits set b n = runs (λ k. not (holds set k) || may-delimit k) b n
 
 unfoldable pub delimiters-accepted : Settings → Bool
 delimiters-accepted s = delimits (s .inner) 0 256 && delimits (s .outer) 0 256
 
--- the set holds none of the n bytes from b on
-unfoldable pub holds-none : ByteSet → ℕ → ℕ → Bool
-holds-none set b zero = true
-holds-none set b (suc n) = not (holds set b) && holds-none set (suc b) n
-
 unfoldable pub empty : ByteSet → Bool
-empty set = holds-none set 0 256
+empty set = runs (λ k. not (holds set k)) 0 256
 
 -- ---- conjunctions
 

@@ -19,9 +19,9 @@ use Rattle.rules.specs.declared.Found.the-variants.{Row, Nowhere}
 use Rattle.rules.specs.Common.{if_then_else_, between, all, same}
 use Rattle.rules.specs.NumbersHandedBack.{Outcome, got, refused, _>>_, unless}
 use Rattle.rules.specs.SettingsAndUnitTable.{LETTER, OTHER, class, letters-of, is, holds, may-delimit, delimits, delimiters-accepted, conjunction-accepted, conjunctions-accepted, conjunctions-of, most-conjunctions, most-letters, last-kind, settings-check, most-rows, row-size, rows, row, name, product, in-range, named, row-right, row-accepted, rows-check, table-check, card-check, lookup-from, lookup}
-use Rattle.rules.specs.Laws.Choices.{if-either, and-left, and-right}
+use Rattle.rules.specs.Laws.Choices.{if-either, and-left, and-right, or-neither}
 use Rattle.rules.specs.Laws.Tests.{between-from, between-to}
-use Rattle.rules.specs.Laws.Lists.{all-index}
+use Rattle.rules.specs.Laws.Lists.{all-index, runs-below}
 use Rattle.rows.specs.Laws.Lookup.{same-refl, same-equal}
 use Rattle.rows.specs.Laws.Rows.{length-row}
 use Rattle.card.specs.Laws.Names.{name-some}
@@ -66,16 +66,9 @@ implied : (a b : Bool) → (not a || b) ≡ true → a ≡ true → b ≡ true
 implied true b e h = e
 implied false b e h = absurd (false≢true h)
 
-held : (set : ByteSet) (n b k : ℕ) → k < n → delimits set b n ≡ true → holds set (b + k) ≡ true → may-delimit (b + k) ≡ true
-unfolding delimits
-held set zero b k below e = absurd (omega arith)
-held set (suc n) b zero below e =
-    rw add-zero (implied (holds set b) (may-delimit b) (and-left (not (holds set b) || may-delimit b) (delimits set (suc b) n) e))
-held set (suc n) b (suc k) below e =
-    rw (add-suc b k, ← (suc-add b k)) (held set n (suc b) k (le-of-suc-le-suc below) (and-right (not (holds set b) || may-delimit b) (delimits set (suc b) n) e))
-
 delimits-only : (set : ByteSet) (b : ℕ) → b < 256 → delimits set 0 256 ≡ true → holds set b ≡ true → may-delimit b ≡ true
-delimits-only set b below e = rw (zero-add b) at (held set 256 0 b below e)
+unfolding delimits
+delimits-only set b below e = implied (holds set b) (may-delimit b) (runs-below (λ k. not (holds set k) || may-delimit k) 256 b e below)
 
 -- a byte that may delimit is of no class that the steps read
 pub delimiter-class : (b : ℕ) → may-delimit b ≡ true → class b ≡ OTHER
@@ -133,10 +126,6 @@ rows-good s table (suc n) i zero e below = rw add-zero (chosen i (row-accepted s
 rows-good s table (suc n) i (suc k) e below =
     rw (add-suc i k, ← (suc-add i k))
     (rows-good s table n (suc i) k (chosen i (row-accepted s table i) (rows-check s table (suc i) n) e .1) (le-of-suc-le-suc below))
-
-or-neither : (a b : Bool) → (a || b) ≡ false → (a ≡ false) × (b ≡ false)
-or-neither true b e = absurd (false≢true (sym e))
-or-neither false b e = (refl, e)
 
 -- the rows before a row have other names
 names-before : (table wanted : List ℕ) (n i : ℕ) → named table wanted n ≡ false → i < n → same (name (row table i)) wanted ≡ false

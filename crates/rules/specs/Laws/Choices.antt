@@ -1,6 +1,6 @@
 -- Laws of tests and of the choice between two cases. Assumes nothing.
-use mathlib.Core.Path.{_≡_, refl}
-use mathlib.Core.Bool.{Bool, true, false, _&&_, false≢true}
+use mathlib.Core.Path.{_≡_, refl, sym}
+use mathlib.Core.Bool.{Bool, true, false, _&&_, _||_, false≢true}
 use mathlib.Core.List.{List, [], _∷_, _++_}
 use Rattle.rules.specs.Common.{if_then_else_, all}
 
@@ -15,11 +15,23 @@ and-right false b e = absurd (false≢true e)
 pub and-both : {a b : Bool} → a ≡ true → b ≡ true → (a && b) ≡ true
 and-both p q = rw (p, q)
 
+pub or-neither : (a b : Bool) → (a || b) ≡ false → (a ≡ false) × (b ≡ false)
+or-neither true b e = absurd (false≢true (sym e))
+or-neither false b e = (refl, e)
+
 -- what holds of either case holds of the choice
 pub if-either : {A : Type 0} (P : A → Type 0) (b : Bool) {x y : A} → (b ≡ true → P x) → (b ≡ false → P y) → P (if b then x else y)
 unfolding if_then_else_
 if-either P true f g = f refl
 if-either P false f g = g refl
+
+pub if-then : {A : Type 0} {b : Bool} (x y : A) → b ≡ true → (if b then x else y) ≡ x
+unfolding if_then_else_
+if-then x y e = rw e
+
+pub if-else : {A : Type 0} {b : Bool} (x y : A) → b ≡ false → (if b then x else y) ≡ y
+unfolding if_then_else_
+if-else x y e = rw e
 
 pub all-first : {A : Type 0} (test : A → Bool) (x : A) (xs : List A) → all test (x ∷ xs) ≡ true → test x ≡ true
 unfolding all

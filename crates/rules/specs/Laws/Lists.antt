@@ -1,15 +1,15 @@
--- Laws of a test over a list: element by element, and at an index. Assumes nothing.
-use mathlib.Core.Path.{_≡_, refl}
+-- Laws of a test over a list: element by element, and at an index; and of a test over a run of bytes. Assumes nothing.
+use mathlib.Core.Path.{_≡_, refl, ap}
 use mathlib.Core.Bool.{Bool, true, _&&_}
 use mathlib.Core.List.{List, [], _∷_, _++_}
 use Prim.Native.Nat.{ℕ, zero, suc, _+_, _≤_, _<_}
-use native.Mathlib.Nat.{le-of-suc-le-suc}
+use native.Mathlib.Nat.{add-zero, zero-add, add-suc, suc-add, le-of-suc-le-suc}
 use native.Mathlib.Numerals.{add-one}
 use native.Mathlib.Omega.{arith}
 use lib.ListN.{length, getD, drop, drop-of-length-le}
 use lib.Seq.{drop-cons}
-use Rattle.rules.specs.Common.{all}
-use Rattle.rules.specs.Laws.Choices.{all-first, all-others}
+use Rattle.rules.specs.Common.{all, runs}
+use Rattle.rules.specs.Laws.Choices.{and-left, and-right, all-first, all-others}
 use Rattle.rules.specs.Laws.Tests.{and-assoc}
 
 module _ {A : Type 0} (test : A → Bool) where
@@ -47,3 +47,21 @@ all-alike f g (x ∷ l) h = rw (h 0, all-alike f g l (λ i. h (suc i)))
 -- a list of bytes
 abbrev pub Bytes : List ℕ → Type 0
 Bytes l = (k : ℕ) → getD l k 0 < 256
+
+-- ---- each of the n bytes from b on
+
+module _ (test : ℕ → Bool) where
+  pub runs-add : (b m n : ℕ) → runs test b (m + n) ≡ (runs test b m && runs test (b + m) n)
+  unfolding runs
+  runs-add b zero n = rw (zero-add, add-zero)
+  runs-add b (suc m) n = rw (suc-add m n, and-assoc, add-suc b m, ← (suc-add b m)) (ap (λ t. test b && t) (runs-add (suc b) m n))
+
+  pub runs-at : (n b k : ℕ) → runs test b n ≡ true → k < n → test (b + k) ≡ true
+  unfolding runs
+  runs-at zero b k e h = absurd (omega arith)
+  runs-at (suc n) b zero e h = rw (add-zero b) (and-left (test b) (runs test (suc b) n) e)
+  runs-at (suc n) b (suc k) e h = rw (add-suc b k, ← (suc-add b k)) (runs-at n (suc b) k (and-right (test b) (runs test (suc b) n) e) (le-of-suc-le-suc h))
+
+  -- at a byte below n, of those from 0 on
+  pub runs-below : (n k : ℕ) → runs test 0 n ≡ true → k < n → test k ≡ true
+  runs-below n k e h = rw (zero-add k) at (runs-at n 0 k e h)

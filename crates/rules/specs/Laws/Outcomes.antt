@@ -38,6 +38,11 @@ pub all-map : {A : Type 0} {P Q : A → Type 0} {m : Outcome A} → All P m → 
 all-map (all-got {a = a} p) f = all-got (f a p)
 all-map all-refused f = all-refused
 
+-- whatever is got is what the outcome is
+pub itself : {A : Type 0} (m : Outcome A) → All (λ a. m ≡ got a) m
+itself (got a) = all-got refl
+itself (refused cause) = all-refused
+
 -- of whatever is got, nothing is asked
 pub always : {A : Type 0} (m : Outcome A) → All (λ _. Unit {0}) m
 always (got a) = all-got tt

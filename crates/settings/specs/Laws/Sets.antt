@@ -2,7 +2,7 @@
 use mathlib.Core.Path.{_≡_, refl, sym, ap, _∙_}
 use mathlib.Core.Bool.{Bool, true, false, not, _&&_, _||_, Bool·beq}
 use Prim.Native.Nat.{ℕ, zero, suc, _+_, _*_, _-_, _/_, _%_, _^_, _≤_, _<_}
-use native.Mathlib.Nat.{add-zero, zero-add, add-suc, suc-add, mod-one, mod-lt, le-of-suc-le-suc, zero-div}
+use native.Mathlib.Nat.{mod-one, mod-lt, zero-div}
 use native.Mathlib.Numerals.{add-one}
 use native.Mathlib.Omega.{arith}
 use lib.Dec.{eqb, lit<, lit≤}
@@ -11,15 +11,12 @@ use lib.Pow.{shr-shr, mod-pow-add}
 use borrow.Author.Tests.{ne-eqb, not-true}
 use Rattle.rules.specs.declared.ByteSet.{ByteSet}
 use Rattle.rules.specs.Common.{if_then_else_, between}
-use Rattle.rules.specs.SettingsAndUnitTable.{LETTER, class, is, word, holds, may-delimit, delimits, holds-none, empty}
+unfoldable pub use Rattle.rules.specs.Common.{runs}
+use Rattle.rules.specs.SettingsAndUnitTable.{LETTER, class, is, word, holds, may-delimit, delimits, empty}
 use Rattle.rules.specs.Laws.Choices.{and-left, and-right}
-use Rattle.rules.specs.Laws.Tests.{and-assoc, or-true, or-false, eqb-iff}
+use Rattle.rules.specs.Laws.Lists.{runs-add, runs-at}
+use Rattle.rules.specs.Laws.Tests.{or-true, or-false, eqb-iff}
 use Rattle.settings.specs.Sets.{either}
-
--- each of the n bytes from b on passes
-unfoldable pub runs : (ℕ → Bool) → ℕ → ℕ → Bool
-runs test b zero = true
-runs test b (suc n) = test b && runs test (suc b) n
 
 -- one more bit is zero
 bit-more : (x n : ℕ) → eqb (x % 2 ^ suc n) 0 ≡ (not (eqb (x % 2) 1) && eqb (x / 2 % 2 ^ n) 0)
@@ -34,10 +31,8 @@ whole-word : (w : ℕ) → w < 2 ^ 64 → w / 2 ^ 0 % 2 ^ 64 ≡ w
 whole-word w h = omega arith
 
 module _ (set : ByteSet) where
-  pub delimits-add : (b m n : ℕ) → delimits set b (m + n) ≡ (delimits set b m && delimits set (b + m) n)
-  unfolding delimits
-  delimits-add b zero n = rw (zero-add, add-zero)
-  delimits-add b (suc m) n = rw (suc-add m n, and-assoc, add-suc b m, ← (suc-add b m)) (ap (λ t. (not (holds set b) || may-delimit b) && t) (delimits-add (suc b) m n))
+  abbrev right : ℕ → Bool
+  right k = not (holds set k) || may-delimit k
 
   pub delimits-any : (b n : ℕ) → runs may-delimit b n ≡ true → delimits set b n ≡ true
   unfolding delimits runs
@@ -45,9 +40,12 @@ module _ (set : ByteSet) where
   delimits-any b (suc n) e =
       rw (and-left (may-delimit b) (runs may-delimit (suc b) n) e, or-true, delimits-any (suc b) n (and-right (may-delimit b) (runs may-delimit (suc b) n) e))
 
+  abbrev none-held : ℕ → ℕ → Bool
+  none-held = runs (λ k. not (holds set k))
+
   -- of a run of bytes within a word none is held exactly if its bits are zero
-  none-bits : (b n : ℕ) → b % 64 + n ≤ 64 → holds-none set b n ≡ eqb (word set (b / 64) / 2 ^ (b % 64) % 2 ^ n) 0
-  unfolding holds-none holds
+  none-bits : (b n : ℕ) → b % 64 + n ≤ 64 → none-held b n ≡ eqb (word set (b / 64) / 2 ^ (b % 64) % 2 ^ n) 0
+  unfolding runs holds
   none-bits b zero h = rw mod-one
   none-bits b (suc n) h =
       rw (bit-more (word set (b / 64) / 2 ^ (b % 64)) n)
@@ -62,18 +60,13 @@ module _ (set : ByteSet) where
           rw (same-word, next-bit, shr-shr (word set (b / 64)) (b % 64) 1)
 
   -- and bytes of which none may delimit are right if none is held
-  delimits-none : (b n : ℕ) → runs (λ k. not (may-delimit k)) b n ≡ true → delimits set b n ≡ holds-none set b n
-  unfolding delimits runs holds-none
+  delimits-none : (b n : ℕ) → runs (λ k. not (may-delimit k)) b n ≡ true → delimits set b n ≡ none-held b n
+  unfolding delimits runs
   delimits-none b zero e = refl
   delimits-none b (suc n) e =
       let here : may-delimit b ≡ false = not-true (may-delimit b) (and-left (not (may-delimit b)) (runs (λ k. not (may-delimit k)) (suc b) n) e) in
       rw (here, or-false)
       (ap (λ t. not (holds set b) && t) (delimits-none (suc b) n (and-right (not (may-delimit b)) (runs (λ k. not (may-delimit k)) (suc b) n) e)))
-
-  none-add : (b m n : ℕ) → holds-none set b (m + n) ≡ (holds-none set b m && holds-none set (b + m) n)
-  unfolding holds-none
-  none-add b zero n = rw (zero-add, add-zero)
-  none-add b (suc m) n = rw (suc-add m n, and-assoc, add-suc b m, ← (suc-add b m)) (ap (λ t. not (holds set b) && t) (none-add (suc b) m n))
 
   -- a set is empty exactly if its words are zero
   pub empty-words :
@@ -85,9 +78,9 @@ module _ (set : ByteSet) where
   unfolding empty word
   empty-words fits₀ fits₁ fits₂ fits₃ =
       rw (
-        none-add 0 64 192,
-        none-add 64 64 128,
-        none-add 128 64 64,
+        runs-add (λ k. not (holds set k)) 0 64 192,
+        runs-add (λ k. not (holds set k)) 64 64 128,
+        runs-add (λ k. not (holds set k)) 128 64 64,
         none-bits 0 64 (lit≤ tt),
         none-bits 64 64 (lit≤ tt),
         none-bits 128 64 (lit≤ tt),
@@ -99,10 +92,12 @@ module _ (set : ByteSet) where
       )
 
   any-then : (b m n : ℕ) → runs may-delimit b m ≡ true → delimits set b (m + n) ≡ delimits set (b + m) n
-  any-then b m n e = rw (delimits-add b m n, delimits-any b m e)
+  unfolding delimits
+  any-then b m n e = rw (runs-add right b m n, delimits-any b m e)
 
   none-then : (b m n : ℕ) → b % 64 + m ≤ 64 → runs (λ k. not (may-delimit k)) b m ≡ true → delimits set b (m + n) ≡ (eqb (word set (b / 64) / 2 ^ (b % 64) % 2 ^ m) 0 && delimits set (b + m) n)
-  none-then b m n h e = rw (delimits-add b m n, delimits-none b m e, none-bits b m h)
+  unfolding delimits
+  none-then b m n h e = rw (runs-add right b m n, delimits-none b m e, none-bits b m h)
 
   -- the runs of bytes that may not delimit, each within a word
   pub delimits-runs :
@@ -137,13 +132,6 @@ module _ (set : ByteSet) where
       )
 
 -- ---- two tests that agree at each byte of a run agree at a byte of it: one computation for the run
-
-runs-at : (test : ℕ → Bool) (n b k : ℕ) → runs test b n ≡ true → k < n → test (b + k) ≡ true
-unfolding runs
-runs-at test zero b k e h = absurd (omega arith)
-runs-at test (suc n) b zero e h = rw (add-zero b) (and-left (test b) (runs test (suc b) n) e)
-runs-at test (suc n) b (suc k) e h =
-    rw (add-suc b k, ← (suc-add b k)) (runs-at test n (suc b) k (and-right (test b) (runs test (suc b) n) e) (le-of-suc-le-suc h))
 
 alike : (a b : Bool) → Bool·beq a b ≡ true → a ≡ b
 alike true true e = refl

@@ -1,5 +1,4 @@
 -- `card::table::e_may_lead` meets its contract: the definition's tests, one after another. Assumes nothing.
-use mathlib.Core.Path.{refl}
 use borrow.Author.Tests.{not-true, not-false}
 use Rattle.rules.specs.SettingsAndUnitTable.{e-may-lead}
 use Rattle.card.proofs.table.e_may_lead.Statement.{statement}

@@ -6,7 +6,6 @@ use lib.Dec.{eqb}
 use lib.ListN.{getD}
 use borrow.Author.Tests.{eq-eqb, ne-eqb}
 use Rattle.rules.specs.SettingsAndUnitTable.{name-at, name, led-by-e}
-use Rattle.rules.specs.Laws.Tests.{or-true}
 use Rattle.card.specs.Laws.Names.{led-first}
 use Rattle.card.proofs.table.led_by_e.Statement.{statement}
 use Rattle.card.proofs.table.led_by_e.Tie as tie

@@ -4,7 +4,7 @@ use mathlib.Core.Bool.{true}
 use lib.ListN.{length}
 use borrow.Author.Tests.{not-true, not-false}
 use borrow.Author.Needs.{needs}
-use Rattle.rules.specs.SettingsAndUnitTable.{row-size, row, can-be-typed, row-right, row-accepted}
+use Rattle.rules.specs.SettingsAndUnitTable.{can-be-typed, row-right, row-accepted}
 use Rattle.rules.specs.Laws.Tests.{or-true, or-false}
 use Rattle.rows.specs.Laws.Rows.{length-row}
 use Rattle.card.specs.Laws.Table.{right-padded}
