@@ -151,8 +151,9 @@ typedef struct herovinga_settings {
  *     row[HEROVINGA_POWER_AT + 1] = 0xff;
  *
  * A name holds no delimiter of either set, no digit, no '+', '-' or '.', and no two rows have the same. Names are compared byte for byte,
- * so "S" is not "s". Kind times row, coefficients multiplied and powers added, lies within plus or minus 9223372036854775807 and -32768 to
- * 32767.
+ * so "S" is not "s". A name led by 'e' or 'E' needs exponents on ("3e0eon"), or before_unit on and an inner set that is not empty ("3 eon"):
+ * straight after a number such a letter begins an exponent, and nobody could type the unit. Kind times row, coefficients multiplied and
+ * powers added, lies within plus or minus 9223372036854775807 and -32768 to 32767.
  *
  * Every call checks the card, and a wrong one is 7 whatever the text is. examples/c/read_line.c makes a whole card.
  */

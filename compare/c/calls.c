@@ -287,6 +287,37 @@ static void cards(const card *a)
     fails(&c, "1s", HEROVINGA_CARD, 0);
 }
 
+/* Card A with a name led by 'e' or 'E' in its third row, and with the switches and the inner set that such a name depends on. */
+static card with_e(const card *a, const char *name, uint64_t exponents, uint64_t before_unit, uint64_t inner)
+{
+    card c = *a;
+    put_row(c.table + 2 * HEROVINGA_ROW_SIZE, name, HEROVINGA_SECOND, 5, 0);
+    c.settings.exponents = exponents;
+    c.settings.before_unit = before_unit;
+    memset(c.settings.inner, 0, sizeof c.settings.inner);
+    c.settings.inner[1] = inner;
+    return c;
+}
+
+/* Such a name needs exponents on, or delimiters before a unit; else nobody could type it, and its row is refused. */
+static void names_led_by_e(const card *a)
+{
+    const uint64_t underscore = (uint64_t)1 << ('_' % 64);
+    card c = with_e(a, "eon", 0, 0, underscore);
+    fails(&c, "3ms", HEROVINGA_CARD, 2);
+    c = with_e(a, "Eon", 0, 0, underscore);
+    fails(&c, "3ms", HEROVINGA_CARD, 2);
+    c = with_e(a, "E", 0, 1, 0);
+    fails(&c, "3ms", HEROVINGA_CARD, 2);
+    c = with_e(a, "eon", 0, 1, underscore);
+    reads(&c, "3_eon", 0, 15, 0);
+    fails(&c, "3eon", HEROVINGA_SYNTAX, 1);
+    c = with_e(a, "Eon", 1, 0, 0);
+    reads(&c, "3e0Eon", 0, 15, 0);
+    c = with_e(a, "neon", 0, 0, 0);
+    reads(&c, "3neon", 0, 15, 0);
+}
+
 static void tables(const card *a)
 {
     static uint8_t table[(HEROVINGA_MOST_ROWS + 1) * HEROVINGA_ROW_SIZE];
@@ -523,6 +554,7 @@ int main(void)
     counts(&a);
     too_large(&a);
     cards(&a);
+    names_led_by_e(&a);
     tables(&a);
     writings();
     shift_totals(&a);

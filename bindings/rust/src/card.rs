@@ -234,6 +234,10 @@ impl CardBuilder {
     }
 
     /// One more unit: so many of its kind, coefficient times ten to the power.
+    ///
+    /// A name led by `e` or `E` needs exponents on (`3e0eon`), or the delimiters
+    /// of the inner set before units (`3 eon`), or else the card is refused:
+    /// straight after a number such a letter begins an exponent.
     pub fn unit(
         mut self,
         name: impl AsRef<[u8]>,

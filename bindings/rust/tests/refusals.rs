@@ -111,6 +111,32 @@ fn rows() {
     assert_eq!(build(lowest), refusal(7, 1));
 }
 
+/// A name led by `e` needs exponents, or a delimiter before units; else nobody could type it.
+#[test]
+fn names_led_by_e() {
+    for name in ["eon", "Eon", "e", "E"] {
+        let card = || {
+            Card::builder()
+                .unit("s", Kind::Second, 1, 0)
+                .unit(name, Kind::Second, 5, 0)
+        };
+        let fifteen = |card: CardBuilder, between: &str| {
+            let card = card.build().expect("the card is accepted");
+            let text = format!("3{between}{name}");
+            assert_eq!(
+                card.read_total(&text).map(Length::seconds),
+                Ok(15),
+                "`{text}`"
+            );
+        };
+        assert_eq!(build(card()), refusal(7, 1), "`{name}`");
+        assert_eq!(build(card().inner(" ")), refusal(7, 1), "`{name}`");
+        assert_eq!(build(card().before_unit(true)), refusal(7, 1), "`{name}`");
+        fifteen(card().exponents(true), "e0");
+        fifteen(card().before_unit(true).inner(" "), " ");
+    }
+}
+
 #[test]
 fn places_and_room_of_a_buffer() {
     let mut buffer = *b"........";

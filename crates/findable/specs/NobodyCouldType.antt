@@ -28,7 +28,7 @@ use Rattle.findable.specs.WhereAPartFindsItsUnit.{number-unit, unsigned-
 
 -- ---- an empty set holds nothing
 
--- the last word stands for all bytes beyond the third
+-- from 192 on each byte has its bit in the last word
 last-word : (set : ByteSet) (b i : ℕ) → b / 64 ≡ suc (suc (suc i)) → holds set b ≡ holds set (192 + b % 64)
 unfolding holds word
 last-word set b i e =
