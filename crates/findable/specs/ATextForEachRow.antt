@@ -31,20 +31,8 @@ use Rattle.card.specs.Laws.Table.{right-padded, right-name}
 use Rattle.card.specs.Laws.Accepted.{delimiter-class, inner-delimits, lookup-only}
 use Rattle.rows.specs.Laws.Rows.{length-row}
 use Rattle.card.specs.Laws.Names.{led-byte, name-some, size-most, name-length}
+use Rattle.findable.specs.TheTextForARow.{first-held, joint, text-for}
 use Rattle.findable.specs.WhereAPartFindsItsUnit.{number-unit, unsigned-unit, unit-of, units, among, among-got, finds}
-
--- the first byte of the n from b on that the set holds
-unfoldable pub first-held : ByteSet → ℕ → ℕ → ℕ
-first-held set b zero = b
-first-held set b (suc n) = let more = first-held set (suc b) n in if holds set b then b else more
-
--- what stands between the number and the name: nothing, unless an `e` leads the name; then an exponent or else a delimiter
-unfoldable pub joint : Settings → List ℕ → List ℕ
-joint s n = if not (led-by-e n) then [] else if s .exponents then ascii "e0" else first-held (s .inner) 0 256 ∷ []
-
--- the text: `0eon`, `0e0eon` or `0 eon`
-unfoldable pub text-for : Settings → List ℕ → List ℕ
-text-for s n = 48 ∷ joint s n ++ n
 
 -- the text can be read, comes to zero, and finds row i
 abbrev pub Reads : Settings → List ℕ → ℕ → List ℕ → Type 0

@@ -25,7 +25,8 @@ use Rattle.card.specs.Laws.Table.{rest-of-check, check-start, check-end, check-
 use Rattle.card.specs.Laws.Accepted.{card-settings, card-table, rows-right, row-good}
 use Rattle.findable.specs.WhereAPartFindsItsUnit.{unit-of, finds}
 use Rattle.findable.specs.NobodyCouldType.{part-typed, found-typed}
-use Rattle.findable.specs.ATextForEachRow.{text-for, row-typed, text-short}
+use Rattle.findable.specs.TheTextForARow.{text-for}
+use Rattle.findable.specs.ATextForEachRow.{row-typed, text-short}
 
 -- ---- each row of an accepted table is found
 

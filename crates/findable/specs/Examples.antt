@@ -15,7 +15,7 @@ use Rattle.rules.specs.Computing.{computing}
 use Rattle.rules.specs.CardAAndItsReadings.{space, conjunction, card, card-A, card-A-without-negatives, row-of, same-length}
 use Rattle.rules.specs.AUnitNobodyCouldType.{none, asked, seconds}
 use Rattle.findable.specs.WhereAPartFindsItsUnit.{number-unit, unsigned-unit, unit-of, units, among, among-got, finds}
-use Rattle.findable.specs.ATextForEachRow.{first-held, joint, text-for}
+use Rattle.findable.specs.TheTextForARow.{first-held, joint, text-for}
 
 -- `eon`, `s` and a row of minus five seconds
 unfoldable pub table : List ℕ
