@@ -1,8 +1,8 @@
-//! Making cards and tables that document 01 accepts.
+//! Making cards and tables that document 01 accepts, request two counted in.
 
 use crate::request::{ByteSet, Card, Conjunctions, Switches};
 use crate::rng::Random;
-use crate::table::{KINDS, MOST_ROWS, NAME_BYTES, Row, table_bytes};
+use crate::table::{KINDS, MOST_ROWS, NAME_BYTES, Row, is_led_by_e, table_bytes};
 
 /// Delimiters that people use, and a few that they do not: NUL and delete.
 const COMMON_DELIMITERS: &[u8] = b" \t\n\0,;:_/|&\x7f";
@@ -62,15 +62,17 @@ const NAME_ODDITIES: &[char] = &['/', ' ', '_', '\0', ',', '%', '\u{7f}', '€']
 pub fn make_card(random: &mut Random) -> Card {
     let (inner, outer) = make_delimiters(random);
     let words = make_words(random);
-    let rows = make_rows(random, &inner, &outer, &words);
-    Card {
+    let mut card = Card {
         switches: make_switches(random),
         inner,
         outer,
         conjunctions: Conjunctions::of(&words),
         kind: make_kind(random),
-        table: table_bytes(&rows),
-    }
+        table: Vec::new(),
+    };
+    // Which names are allowed depends on all the rest.
+    card.table = table_bytes(&make_rows(random, &card, &words));
+    card
 }
 
 /// A card whose words and names are single letters, so that texts of three or
@@ -84,7 +86,7 @@ pub fn make_small_card(random: &mut Random) -> Card {
     let mut rows: Vec<Row> = Vec::new();
     for _ in 0..random.below(3) {
         let name = random.pick(&letters).as_bytes().to_vec();
-        if rows.iter().all(|row| row.name != name) {
+        if name_is_allowed(&name, &card) && rows.iter().all(|row| row.name != name) {
             rows.push(make_row(random, name));
         }
     }
@@ -200,7 +202,7 @@ fn random_letters(random: &mut Random, most: u64) -> Vec<u8> {
         .collect()
 }
 
-fn make_rows(random: &mut Random, inner: &ByteSet, outer: &ByteSet, words: &[Vec<u8>]) -> Vec<Row> {
+fn make_rows(random: &mut Random, card: &Card, words: &[Vec<u8>]) -> Vec<Row> {
     let wanted = match random.below(100) {
         0..=9 => 0,
         10..=69 => 1 + random.below(4),
@@ -211,8 +213,7 @@ fn make_rows(random: &mut Random, inner: &ByteSet, outer: &ByteSet, words: &[Vec
     let mut rows: Vec<Row> = Vec::new();
     while (rows.len() as u64) < wanted {
         let name = make_name(random, words);
-        let allowed = name_is_allowed(&name, inner, outer);
-        if allowed && rows.iter().all(|row| row.name != name) {
+        if name_is_allowed(&name, card) && rows.iter().all(|row| row.name != name) {
             rows.push(make_row(random, name));
         }
     }
@@ -242,14 +243,23 @@ fn make_name(random: &mut Random, words: &[Vec<u8>]) -> Vec<u8> {
     }
 }
 
-fn name_is_allowed(name: &[u8], inner: &ByteSet, outer: &ByteSet) -> bool {
+fn name_is_allowed(name: &[u8], card: &Card) -> bool {
+    let all_allowed = name.iter().all(|byte| {
+        !card.inner.holds(*byte)
+            && !card.outer.holds(*byte)
+            && !byte.is_ascii_digit()
+            && !matches!(byte, b'+' | b'-' | b'.')
+    });
     (1..=NAME_BYTES).contains(&name.len())
-        && name.iter().all(|byte| {
-            !inner.holds(*byte)
-                && !outer.holds(*byte)
-                && !byte.is_ascii_digit()
-                && !matches!(byte, b'+' | b'-' | b'.')
-        })
+        && all_allowed
+        && (!is_led_by_e(name) || e_can_lead(card))
+}
+
+/// Whether a text of the card can have something between a number's digits and
+/// a name: an exponent, or a delimiter.
+fn e_can_lead(card: &Card) -> bool {
+    let delimiter = card.switches.unit_delimiter && !card.inner.bytes().is_empty();
+    card.switches.exponents || delimiter
 }
 
 fn make_row(random: &mut Random, name: Vec<u8>) -> Row {

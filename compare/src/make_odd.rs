@@ -2,6 +2,7 @@
 //! those that it can: wrong cards, places beyond the text, bytes that are no
 //! UTF-8, and texts about the largest size.
 
+use crate::card_a::row;
 use crate::make::Maker;
 use crate::plain::MOST_TEXT_BYTES;
 use crate::request::{ByteSet, Card, Request};
@@ -53,7 +54,7 @@ impl Iterator for OddMaker {
 fn spoil(random: &mut Random, card: &mut Card) {
     let byte = random.below(256) as u8;
     let slot = random.below(4) as usize;
-    match random.below(10) {
+    match random.below(12) {
         0 => card.inner = with_byte(&card.inner, byte),
         1 => card.outer = with_byte(&card.outer, byte),
         2 => card.conjunctions.count = *random.pick(&[1, 2, 3, 4, 5, 6, byte]),
@@ -66,6 +67,7 @@ fn spoil(random: &mut Random, card: &mut Card) {
             let size = random.below(rows as u64 + 1) as usize * ROW_BYTES;
             card.table.extend_from_within(..size);
         }
+        8..=9 => put_in_led_by_e(random, card),
         _ => {
             if !card.table.is_empty() {
                 let place = random.below(card.table.len() as u64) as usize;
@@ -73,6 +75,22 @@ fn spoil(random: &mut Random, card: &mut Card) {
             }
         }
     }
+}
+
+/// Switches exponents off, mostly takes the delimiter before units away too,
+/// and puts a row led by `e` or `E` in anywhere: a unit that nobody could type.
+fn put_in_led_by_e(random: &mut Random, card: &mut Card) {
+    card.switches.exponents = false;
+    match random.below(5) {
+        0..=1 => card.switches.unit_delimiter = false,
+        2..=3 => card.inner = ByteSet::EMPTY,
+        _ => {}
+    }
+    let name = random.pick(&["e", "E", "eon", "Eon", "es", "EE"]);
+    let rows = card.table.len() / ROW_BYTES;
+    let place = random.below(rows as u64 + 1) as usize * ROW_BYTES;
+    card.table
+        .splice(place..place, row(name, 3, 1, 0).to_bytes());
 }
 
 fn with_byte(set: &ByteSet, byte: u8) -> ByteSet {

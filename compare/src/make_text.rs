@@ -5,7 +5,7 @@
 
 use crate::request::Card;
 use crate::rng::Random;
-use crate::table::{KINDS, ROW_BYTES, Row};
+use crate::table::{KINDS, ROW_BYTES, Row, is_led_by_e};
 
 /// Longer texts are not made; the long end is for hand-written requests.
 pub const MOST_TEXT_BYTES: usize = 200;
@@ -196,9 +196,7 @@ impl TextMaker<'_> {
         let ago = unit.is_some() && self.wants_ago();
         let (coefficient, power) = self.product(unit.as_ref());
         self.sign(beginning, (coefficient < 0) != ago);
-        let led_by_e = unit
-            .as_ref()
-            .is_some_and(|unit| matches!(unit.name[0], b'e' | b'E'));
+        let led_by_e = unit.as_ref().is_some_and(|unit| is_led_by_e(&unit.name));
         self.number(coefficient, power, beginning, led_by_e);
         let Some(unit) = unit else {
             if !self.careful && self.random.chance(10) {
@@ -209,7 +207,10 @@ impl TextMaker<'_> {
             }
             return Ending::Number;
         };
-        if self.may_do(self.offer.card.switches.unit_delimiter) && self.random.chance(40) {
+        // Without exponents a name led by `e` can only follow a delimiter.
+        let needs_delimiter = led_by_e && !self.offer.card.switches.exponents;
+        let percent = if needs_delimiter { 80 } else { 40 };
+        if self.may_do(self.offer.card.switches.unit_delimiter) && self.random.chance(percent) {
             self.inner_run();
         }
         self.bytes.extend_from_slice(&unit.name);

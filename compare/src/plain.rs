@@ -1,10 +1,11 @@
 //! A plain reading of document 01, written from its words: the acceptance of
 //! settings and table, the steps of a part, the evaluation, the total, the
-//! writer and the shift total.
+//! writer and the shift total. Request two's words are among them: a unit that
+//! nobody could type is not accepted.
 
 use crate::natural::Natural;
 use crate::request::{Answer, ByteSet, Card, Length, Request, bytes_field};
-use crate::table::{KINDS, MOST_ROWS, ROW_BYTES, Row};
+use crate::table::{KINDS, MOST_ROWS, ROW_BYTES, Row, is_led_by_e};
 
 pub const MOST_TEXT_BYTES: usize = 4_096;
 const MOST_CONJUNCTIONS: usize = 4;
@@ -203,6 +204,16 @@ fn row_is_right(row: &Row, card: &Card, earlier: &[Row]) -> bool {
         && earlier.iter().all(|other| other.name != row.name)
         && product <= Natural::of(9_223_372_036_854_775_807)
         && (-32_768..=32_767).contains(&power)
+        && name_can_be_typed(&row.name, card)
+}
+
+/// Directly after a number `e` and `E` begin an exponent, so a name led by one
+/// of them has to stand behind an exponent or behind inner delimiters. Where a
+/// card has neither, no text comes to the row (request two).
+fn name_can_be_typed(name: &[u8], card: &Card) -> bool {
+    let behind_an_exponent = card.switches.exponents;
+    let behind_delimiters = card.switches.unit_delimiter && card.inner != ByteSet::EMPTY;
+    !is_led_by_e(name) || behind_an_exponent || behind_delimiters
 }
 
 fn is_digit_or_sign(byte: u8) -> bool {

@@ -67,6 +67,11 @@ impl Row {
     }
 }
 
+/// Whether a name begins as an exponent does.
+pub fn is_led_by_e(name: &[u8]) -> bool {
+    matches!(name.first(), Some(b'e' | b'E'))
+}
+
 /// The table's bytes of a list of rows.
 pub fn table_bytes(rows: &[Row]) -> Vec<u8> {
     rows.iter().flat_map(Row::to_bytes).collect()
