@@ -208,6 +208,28 @@ pub fn under<Answered>(
     if !plain::accepts(card) {
         return Err("the settings or the table are not accepted".to_string());
     }
+    set_up(card, questions)
+}
+
+/// The same under a card that may also have units that nobody could type, which
+/// the crate takes. Exponents let every name be typed and change nothing else
+/// of what is accepted.
+pub fn under_untypable<Answered>(
+    card: &Card,
+    questions: impl FnOnce(&SetUp) -> Answered,
+) -> Result<Answered, String> {
+    let mut with_exponents = card.clone();
+    with_exponents.switches.exponents = true;
+    if !plain::accepts(&with_exponents) {
+        return Err("more is wrong with the card than names".to_string());
+    }
+    set_up(card, questions)
+}
+
+fn set_up<Answered>(
+    card: &Card,
+    questions: impl FnOnce(&SetUp) -> Answered,
+) -> Result<Answered, String> {
     INNER.set(card.inner.clone());
     OUTER.set(card.outer.clone());
     let units = Units::from_table(&card.table)?;

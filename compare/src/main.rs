@@ -34,6 +34,7 @@ mod round;
 mod stored;
 mod table;
 mod tally;
+mod untypable;
 
 use std::io::{self, BufRead, BufWriter, Write};
 use std::path::Path;
@@ -49,6 +50,7 @@ usage: compare make SEED COUNT          make requests
        compare agree SEED COUNT         make requests and compare the two
        compare check                    document 01's readings of card A, asked of the crate
        compare points                   the points document 01 reads, crate against plain
+       compare untypable                all short texts with a unit that nobody could type, of the crate alone
        compare evaluations              numbers and multipliers with the crate's lengths
        compare tally REQUESTS ANSWERS   count the lines of two files
        compare limits                   the hand-written cases at the limits, against plain
@@ -76,7 +78,8 @@ fn main() -> ExitCode {
         ["plain"] => answer_lines(plain::answer_line),
         ["agree", seed, count] => agree_on(seed, count),
         ["check"] => Ok(card_a::check()),
-        ["points"] => Ok(points::ask_points()),
+        ["points"] => points::ask_points(),
+        ["untypable"] => untypable::search(),
         ["tally", requests, answers] => tally::tally(requests, answers),
         ["limits"] => limits::check(),
         ["limits", requests, answers] => limits::write_files(requests, answers),

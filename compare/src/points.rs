@@ -8,9 +8,11 @@ use crate::crate_side::{CrateAnswer, ask};
 use crate::plain;
 use crate::request::{ByteSet, Card, Conjunctions, Request};
 use crate::table::{Row, table_bytes};
+use crate::untypable;
 
-/// Asks every point; true if the crate agrees wherever it is compared.
-pub fn ask_points() -> bool {
+/// Asks every point; true if the crate agrees wherever it is compared, and
+/// answers as is written where there is nothing to compare.
+pub fn ask_points() -> Result<bool, String> {
     let mut asking = Asking { all_agree: true };
     asking.about_the_driver();
     asking.about_connections();
@@ -19,7 +21,8 @@ pub fn ask_points() -> bool {
     asking.about_durations();
     asking.about_multipliers();
     asking.about_settings();
-    asking.all_agree
+    let as_written = untypable::ask_points()?;
+    Ok(asking.all_agree && as_written)
 }
 
 struct Asking {
@@ -147,6 +150,17 @@ impl Asking {
                 "1ago agO1ago",
                 "ago",
             ],
+        );
+        let led_by_e = with_rows(&[row("eon", 3, 5, 0), row("E", 3, 7, 0)]);
+        self.ask(
+            "main driver, units `eon` and `E`, no delimiter between number and unit",
+            &also(&led_by_e, |card| card.switches.unit_delimiter = false),
+            &["3eon", "3E", "3e0eon", "3e0E", "3E0Eon", "3 eon"],
+        );
+        self.ask(
+            "main driver, units `eon` and `E`, exponents off",
+            &also(&led_by_e, |card| card.switches.exponents = false),
+            &["3eon", "3E", "3 eon", "3 E", "3 eon ago", "3e0eon", "3 e0"],
         );
         self.ask(
             "main driver, ago off, inner delimiter `,` and outer ` `",
@@ -330,7 +344,11 @@ impl Asking {
 }
 
 fn changed(change: impl FnOnce(&mut Card)) -> Card {
-    let mut card = card_a();
+    also(&card_a(), change)
+}
+
+fn also(card: &Card, change: impl FnOnce(&mut Card)) -> Card {
+    let mut card = card.clone();
     change(&mut card);
     card
 }
