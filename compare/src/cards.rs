@@ -11,7 +11,7 @@ use crate::limits;
 use crate::plain;
 use crate::request::{ByteSet, Card};
 use crate::stored::{self, ONCE, card_lines};
-use crate::table::{KINDS, table_bytes};
+use crate::table::{KINDS, Row, table_bytes};
 
 /// Writes the cards into one file and what is found of them into another.
 pub fn write_files(cards_path: &str, found_path: &str) -> Result<bool, String> {
@@ -27,22 +27,26 @@ pub fn write_files(cards_path: &str, found_path: &str) -> Result<bool, String> {
     Ok(true)
 }
 
-/// The hand-written limits, every byte as a delimiter of either set and in a
-/// name, and every kind at both ends of its coefficients and powers.
+/// The hand-written limits, every byte as a delimiter of either set, in a name
+/// and at its front, and every kind at both ends of its coefficients and
+/// powers.
 fn cards() -> Vec<Card> {
     let mut cards = limits::cards();
     for byte in 0..=255 {
         cards.push(Card {
             inner: ByteSet::of(&[byte]),
-            table: Vec::new(),
-            ..card_a()
+            ..without_exponents(b"eon")
         });
         cards.push(Card {
             outer: ByteSet::of(&[byte]),
             table: Vec::new(),
             ..card_a()
         });
-        cards.push(named_with(byte));
+        cards.push(Card {
+            table: one_second(&[b'm', byte]),
+            ..card_a()
+        });
+        cards.push(led_by(byte));
     }
     for kind in 0..KINDS.len() {
         cards.extend(ends_of_kind(kind));
@@ -50,14 +54,27 @@ fn cards() -> Vec<Card> {
     cards
 }
 
-/// Card A with one row, of which the name holds the byte.
-fn named_with(byte: u8) -> Card {
-    let mut named = row("mm", 3, 1, 0);
-    named.name[1] = byte;
-    Card {
-        table: table_bytes(&[named]),
-        ..card_a()
-    }
+/// Card A without exponents and with one row; its name may be led by `e` only
+/// where an inner delimiter can stand before it.
+fn without_exponents(name: &[u8]) -> Card {
+    let mut card = card_a();
+    card.switches.exponents = false;
+    card.table = one_second(name);
+    card
+}
+
+/// The same without the delimiter before units, and the name led by the byte.
+fn led_by(byte: u8) -> Card {
+    let mut card = without_exponents(&[byte, b'm']);
+    card.switches.unit_delimiter = false;
+    card
+}
+
+fn one_second(name: &[u8]) -> Vec<u8> {
+    table_bytes(&[Row {
+        name: name.to_vec(),
+        ..row("", 3, 1, 0)
+    }])
 }
 
 /// The largest coefficient that fits the kind and one more, of both signs; the

@@ -1,6 +1,7 @@
-//! Cases at the limits, with answers written by hand from document 01: for the
-//! numbers the crate does not have, 7 to 11, and for what a lent record or
-//! buffer holds afterwards. Each limit is tried from both sides.
+//! Cases at the limits, with answers written by hand from document 01 and
+//! request two: for the numbers the crate does not have, 7 to 11, and for what
+//! a lent record or buffer holds afterwards. Each limit is tried from both
+//! sides.
 
 use std::fmt::Write as _;
 use std::fs;
@@ -43,6 +44,9 @@ fn cases() -> Vec<Case> {
         ("table size", table_size()),
         ("row layout", row_layout()),
         ("row name", row_names()),
+        ("name led by e", names_led_by_e()),
+        ("name not led by e", names_not_led_by_e()),
+        ("row led by e", rows_led_by_e()),
         ("equal names", equal_names()),
         ("coefficient", coefficients()),
         ("power", powers()),
@@ -278,6 +282,26 @@ impl Card {
         self.switches.negatives = false;
         self
     }
+
+    fn without_exponents(mut self) -> Self {
+        self.switches.exponents = false;
+        self
+    }
+
+    fn without_unit_delimiter(mut self) -> Self {
+        self.switches.unit_delimiter = false;
+        self
+    }
+
+    fn with_sign_delimiter(mut self) -> Self {
+        self.switches.sign_delimiter = true;
+        self
+    }
+
+    /// Nothing that could stand between a number's digits and a unit.
+    fn without_both(self) -> Self {
+        self.without_exponents().without_unit_delimiter()
+    }
 }
 
 /// A row called `x`.
@@ -288,6 +312,11 @@ fn unit(kind: u8, coefficient: i64, power: i16) -> [u8; ROW_BYTES] {
 /// A second by another name, of 1 to 16 bytes.
 fn named(name: &str) -> [u8; ROW_BYTES] {
     row(name, 3, 1, 0).to_bytes()
+}
+
+/// Five seconds by a name, so that a text shows whether it was found.
+fn five(name: &str) -> [u8; ROW_BYTES] {
+    row(name, 3, 5, 0).to_bytes()
 }
 
 /// The row with some bytes changed, each given by its place.
@@ -490,6 +519,117 @@ fn row_names() -> Vec<Case> {
         case("beside them", total(one("*,/:"), "1*,/:"), "0 5 + 1 0"),
         case("over 127", total(one("µs"), "1µs"), "0 4 + 1 0"),
         case("byte 0", total(one("\0"), "1\0"), "0 2 + 1 0"),
+    ]
+}
+
+// 7 at a row: a name led by `e` or `E` under each switch, with inner delimiters and without, and the texts that find it.
+#[rustfmt::skip]
+fn names_led_by_e() -> Vec<Case> {
+    let one = |name| card().with_rows(&[five(name)]);
+    let no_exponents = |name| one(name).without_exponents();
+    let neither = |name| one(name).without_both();
+    let mut cases = vec![
+        // The outer set is not asked.
+        case("no inner, outer comma", total(no_exponents("eon").with_inner(b"").with_outer(b","), "1"), "7 0 + 0 0"),
+        case("no inner, no outer", total(no_exponents("eon").with_inner(b"").with_outer(b""), "1"), "7 0 + 0 0"),
+        case("inner, no outer", total(no_exponents("eon").with_outer(b""), "3 eon"), "0 5 + 15 0"),
+        case("unused inner, no outer", total(neither("eon").with_outer(b""), "1"), "7 0 + 0 0"),
+        case("inner after a sign only", total(neither("eon").with_sign_delimiter(), "1"), "7 0 + 0 0"),
+        case("all bytes of 16", total(neither("eEeEeEeEeEeEeEeE"), "1"), "7 0 + 0 0"),
+
+        // What else is read of an accepted one: a number's own `e` comes first.
+        case("exponents off, no delimiter typed", total(no_exponents("eon"), "3eon"), "2 1 + 0 0"),
+        case("exponents off, E, no delimiter typed", total(no_exponents("Eon"), "3Eon"), "2 1 + 0 0"),
+        case("exponents off, point", total(no_exponents("eon"), "3.eon"), "2 2 + 0 0"),
+        case("exponents off, fraction and delimiter", total(no_exponents("eon"), "3.5 eon"), "0 7 + 17 500000000"),
+        case("exponents off, exponent", total(no_exponents("eon"), "3e0eon"), "2 1 + 0 0"),
+        case("exponents off, exponent behind a unit", total(no_exponents("e"), "3 e0e"), "2 4 + 0 0"),
+        case("exponents off, other case", total(no_exponents("eon"), "3 Eon"), "6 2 + 0 0"),
+        case("exponents off, ago", total(no_exponents("eon"), "3 eon ago"), "0 9 - 15 0"),
+        case("exponents off, two parts", total(no_exponents("eon"), "3 eon and 1 eon"), "0 15 + 20 0"),
+        case("exponents on, no exponent typed", total(one("eon"), "3eon"), "2 2 + 0 0"),
+        case("exponents on, delimiter typed", total(one("eon"), "3 eon"), "0 5 + 15 0"),
+        case("exponents on, both typed", total(one("eon"), "3e1 eon"), "0 7 + 150 0"),
+        case("exponents on, outer delimiter typed", total(one("eon").without_unit_delimiter(), "3 eon"), "6 2 + 0 0"),
+        case("exponents on, outer delimiter behind it", total(one("E").without_unit_delimiter(), "3e0 E"), "6 4 + 0 0"),
+
+        case("part", part(0, neither("eon"), "1"), "7 0 + 0 0"),
+        case("part, found", part(1, no_exponents("eon"), "1+3 eon"), "0 7 + 15 0"),
+        case("shift", shift(minus(7, 5), neither("E"), "1"), "7 0 + 0 0 - 7 5"),
+        case("shift, found", shift(plus(1, 0), no_exponents("E"), "3 E"), "0 3 + 16 0 + 16 0"),
+    ];
+    for name in ["e", "E", "eon", "Eon"] {
+        let behind = |typed: &str| format!("{typed}{name}");
+        let found = |typed: &str| format!("0 {} + 15 0", typed.len() + name.len());
+        let with = |what: &str| format!("{name}, {what}");
+        cases.extend([
+            case(with("exponents and delimiter"), total(one(name), behind("3e0")), found("3e0")),
+            case(with("exponents and no inner"), total(one(name).with_inner(b""), behind("3e0")), found("3e0")),
+            case(with("exponents alone"), total(one(name).without_unit_delimiter(), behind("3E0")), found("3E0")),
+            case(with("exponents alone, no inner"),
+                total(one(name).without_unit_delimiter().with_inner(b""), behind("3e+0")), found("3e+0")),
+            case(with("delimiter alone"), total(no_exponents(name), behind("3 ")), found("3 ")),
+            case(with("delimiter alone, no inner"), total(no_exponents(name).with_inner(b""), "1"), "7 0 + 0 0"),
+            case(with("neither"), total(neither(name), "1"), "7 0 + 0 0"),
+            case(with("neither, no inner"), total(neither(name).with_inner(b""), "1"), "7 0 + 0 0"),
+        ]);
+    }
+    // One inner delimiter is enough: the lowest and the highest of either word of a set, and some between.
+    for byte in [0, b' ', b'?', b'@', b'_', b'|', 127] {
+        let text = [b"3".as_slice(), &[byte], b"eon"].concat();
+        cases.push(case(format!("inner {byte}"), total(no_exponents("eon").with_inner(&[byte]), text), "0 5 + 15 0"));
+    }
+    cases
+}
+
+// Names that are not led by `e` or `E` need nothing: an `e` further on, and bytes that are nearly one of the two.
+#[rustfmt::skip]
+fn names_not_led_by_e() -> Vec<Case> {
+    let neither = |name| card().without_both().with_rows(&[five(name)]);
+    let mut cases = vec![
+        case("second", total(neither("neon").with_inner(b""), "3neon"), "0 5 + 15 0"),
+        case("last", total(neither("sE"), "3sE"), "0 3 + 15 0"),
+        case("another row", total(card().without_both().with_rows(&[five("se"), five("s")]), "3s"), "0 2 + 15 0"),
+        // 229 and 197 are `e` and `E` with 128 more.
+        case("first byte 229", total(neither("剑"), "3剑"), "0 4 + 15 0"),
+        case("first byte 197", total(neither("Ő"), "3Ő"), "0 3 + 15 0"),
+    ];
+    for name in ["de", "fe", "De", "Fe", "%e", "\x05e"] {
+        cases.push(case(format!("{name:?}"), total(neither(name), format!("3{name}")), "0 3 + 15 0"));
+    }
+    cases
+}
+
+// 7 at a row that nobody could type: which row is named, and what comes before it.
+#[rustfmt::skip]
+fn rows_led_by_e() -> Vec<Case> {
+    let rows_of = |rows: &[[u8; ROW_BYTES]]| card().with_rows(rows);
+    let (s, t, eon, upper) = (five("s"), five("t"), five("eon"), five("Eon"));
+    let kind = unit(8, 1, 0);
+    let last_of_64 = rows_of(&[rows(63), vec![eon]].concat());
+    let first_of_65 = rows_of(&[vec![eon], rows(64)].concat());
+    vec![
+        case("first of two", total(rows_of(&[eon, s]).without_both(), "1s"), "7 0 + 0 0"),
+        case("second", total(rows_of(&[s, eon]).without_both(), "1s"), "7 1 + 0 0"),
+        case("second of three", total(rows_of(&[s, upper, t]).without_both(), "1s"), "7 1 + 0 0"),
+        case("third, part", part(0, rows_of(&[s, t, upper]).without_both(), "1s"), "7 2 + 0 0"),
+        case("both letters", total(rows_of(&[s, upper, eon]).without_both(), "1s"), "7 1 + 0 0"),
+        case("both letters, typed", total(rows_of(&[s, upper, eon]).without_exponents(), "3 Eon 3 eon"), "0 11 + 30 0"),
+        case("row 63", total(last_of_64.clone().without_both(), "1aa"), "7 63 + 0 0"),
+        case("row 63, typed", total(last_of_64.without_exponents(), "3 eon"), "0 5 + 15 0"),
+        case("twice", total(rows_of(&[eon, eon]).without_both(), "1"), "7 0 + 0 0"),
+        case("twice, typed", total(rows_of(&[eon, eon]), "1"), "7 1 + 0 0"),
+        case("before a kind", total(rows_of(&[s, eon, kind]).without_both(), "1"), "7 1 + 0 0"),
+        case("behind a kind", total(rows_of(&[s, kind, eon]).without_both(), "1"), "7 1 + 0 0"),
+        case("typed, before a kind", total(rows_of(&[s, eon, kind]), "1"), "7 2 + 0 0"),
+        case("before equal names", total(rows_of(&[s, eon, s]).without_both(), "1"), "7 1 + 0 0"),
+        case("65 rows", total(first_of_65.without_both(), "1"), "7 64 + 0 0"),
+        case("default kind", total(rows_of(&[eon]).without_both().with_kind(8), "1"), "7 67 + 0 0"),
+        case("wrong inner", total(rows_of(&[eon]).without_exponents().with_inner(&[200]), "1"), "7 65 + 0 0"),
+        case("long text", total(rows_of(&[eon]).without_both(), text(4097)), "7 0 + 0 0"),
+        case("empty text", total(rows_of(&[s, eon]).without_both(), ""), "7 1 + 0 0"),
+        case("place", part(2, rows_of(&[s, eon]).without_both(), "1"), "7 1 + 0 0"),
+        case("record", shift(minus(0, 0), rows_of(&[s, eon]).without_both(), "1"), "7 1 + 0 0 - 0 0"),
     ]
 }
 
