@@ -174,7 +174,8 @@ fn led_by_e(row: &[u8]) -> bool
     first == b'e' || first == b'E'
 }
 
-// Document 01's tests, and the name can be typed.
+// Document 01's tests, and the name can be typed. What depends on the settings alone is made once for a table: `set`, the bytes that
+// no name holds, and `leads`, whether an `e` may lead one.
 fn row_accepted(s: Settings, set: ByteSet, leads: bool, table: &[u8], i: usize) -> bool
     requires { ⌜ i < rows (now table) ⌝ }
     requires { ⌜ ((j : ℕ) → j < i → padded (row (now table) j) ≡ true) ⌝ }

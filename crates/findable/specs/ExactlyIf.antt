@@ -1,5 +1,5 @@
--- Request two's "exactly if": of settings and a table that pass document 01's tests, a row is refused exactly if no text that can be
--- read has a part whose unit is found there. Assumes nothing.
+-- Request two's "exactly if": of settings and a table that pass document 01's tests, a row is refused exactly if no accepted text has a
+-- part whose unit is found there. Assumes nothing.
 use mathlib.Core.Path.{_≡_, refl, sym, ap, _∙_}
 use mathlib.Core.Bool.{Bool, true, false, _&&_, false≢true}
 use mathlib.Core.List.{List}
@@ -66,9 +66,9 @@ Passes s table =
     × ((eqb (length table % row-size) 0 && leb (rows table) most-rows) ≡ true)
     × ((i : ℕ) → i < rows table → row-right s table i ≡ true)
 
--- the table taken as accepted, some text that can be read has a part whose unit is found at row i
+-- the table taken as accepted, some text that is accepted has a part whose unit is found at row i
 abbrev pub Findable : Settings → List ℕ → ℕ → Type 0
-Findable s table i = (text : List ℕ) × (l : Length) × (total s table text ≡ got l) × (finds s table text i ≡ true)
+Findable s table i = (text : List ℕ) × (length text ≤ longest-text) × (l : Length) × (total s table text ≡ got l) × (finds s table text i ≡ true)
 
 is-refused : Outcome (Unit {0}) → Bool
 is-refused (got x) = false
@@ -87,10 +87,10 @@ module _ (s : Settings) (table : List ℕ) (passes : Passes s table) where
       found : row-accepted s table i ≡ true → Findable s table i
       found good =
           let reads = row-typed s table (passes .2) i below (passes .0) (row-both s table i good .1) in
-          (text-for s (name (row table i)), zero-length, reads .0, reads .1)
+          (text-for s (name (row table i)), omega (arith, text-short s table (passes .2) i below), zero-length, reads .0, reads .1)
 
       typed : Findable s table i → row-accepted s table i ≡ true
-      typed (text, l, read, at) = and-both (passes .2 i below) (found-typed s table text i at)
+      typed (text, short, l, read, at) = and-both (passes .2 i below) (found-typed s table text i at)
 
   -- ---- the first row that is not
 

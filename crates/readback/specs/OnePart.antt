@@ -31,7 +31,7 @@ use Rattle.value.specs.Digits.{ten-pos, ten-sum, digit-high}
 use Rattle.card.specs.Laws.Accepted.{card-settings, card-table, delimiter-class, inner-delimits, outer-delimits, lookup-empty}
 use Rattle.rules.specs.Laws.Tests.{and-false}
 use Rattle.writing.specs.Forms.{no-decimals}
-use Rattle.rules.specs.Laws.Layout.{sees-of, behind, run-over, spelled-stretch, goes-on, stretch, starts-other, gap-none, exponent-none, connection-none}
+use Rattle.rules.specs.Laws.Layout.{sees-of, behind, run-over, spelled-stretch, goes-on, stretch, gap-none, exponent-none, connection-none}
 use Rattle.readback.specs.Spelled.{spelled-whole, fraction-few, spelled-fraction, spelled-append}
 
 -- ---- from the digits to the length
@@ -97,6 +97,11 @@ a-sign b e = go (between 48 57 b) (eqb b 43) (eqb b 45) (eqb b 46) (between 65 9
     go false false false false false p m e = absurd (false≢true e)
 
 -- where a byte of one kind stands, there is none of another, and the text goes on
+starts-other : (f g : ℕ → Bool) (rest : List ℕ) → ((b : ℕ) → f b ≡ true → g b ≡ false) → starts f rest ≡ true → starts g rest ≡ false
+unfolding starts
+starts-other f g [] other e = refl
+starts-other f g (b ∷ rest) other e = other b e
+
 sees-other : (f g : ℕ → Bool) (text : List ℕ) (place : ℕ) → ((b : ℕ) → f b ≡ true → g b ≡ false) → sees f text place ≡ true → sees g text place ≡ false
 unfolding sees
 sees-other f g text place other e = starts-other f g (drop place text) other e

@@ -83,12 +83,6 @@ module _ (text : List ℕ) (place : ℕ) where
         ∙ ap (take (length mid)) here
         ∙ take-append-seam mid post
 
--- where a byte of one kind stands, there is none of another
-pub starts-other : (f g : ℕ → Bool) (rest : List ℕ) → ((b : ℕ) → f b ≡ true → g b ≡ false) → starts f rest ≡ true → starts g rest ≡ false
-unfolding starts
-starts-other f g [] other e = refl
-starts-other f g (b ∷ rest) other e = other b e
-
 -- ---- steps that find nothing
 
 module _ (s : Settings) (text : List ℕ) (place : ℕ) where
