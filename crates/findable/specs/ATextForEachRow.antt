@@ -25,6 +25,7 @@ use Rattle.rules.specs.Laws.Choices.{or-neither, if-either, and-both, and-left,
 use Rattle.rules.specs.Laws.Tests.{and-false}
 use Rattle.rules.specs.Laws.Outcomes.{bind-got}
 use Rattle.rules.specs.Laws.Texts.{ends-le, sees-end}
+use Rattle.rules.specs.Laws.Apart.{none as no-length}
 use Rattle.rules.specs.Laws.Layout.{sees-of, run-over, stretch, goes-on, gap-none, exponent-none, connection-none}
 use Rattle.card.specs.Fields.{padded}
 use Rattle.card.specs.Laws.Table.{right-padded, right-name}
@@ -63,10 +64,6 @@ no-attos f up down = rw (zero-mul (10 ^ (18 + up)), zero-div (10 ^ (f + down)))
 no-nanos : (c : ℕ) → nanos c 0 ≡ 0
 unfolding nanos
 no-nanos c = rw (mul-zero c)
-
-no-length : (negative : Bool) → length-of negative 0 ≡ zero-length
-unfolding length-of if_then_else_
-no-length negative = refl
 
 -- ---- a text of zero and a name: what stands after the zero is no digit and no point, and an exponent and a gap may come before the name
 

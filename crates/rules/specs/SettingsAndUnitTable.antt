@@ -72,6 +72,7 @@ delimits set b n = runs (λ k. not (holds set k) || may-delimit k) b n
 unfoldable pub delimiters-accepted : Settings → Bool
 delimiters-accepted s = delimits (s .inner) 0 256 && delimits (s .outer) 0 256
 
+-- it holds none of the 256 bytes
 unfoldable pub empty : ByteSet → Bool
 empty set = runs (λ k. not (holds set k)) 0 256
 
@@ -224,7 +225,7 @@ unfoldable pub named : List ℕ → List ℕ → ℕ → Bool
 named table wanted zero = false
 named table wanted (suc n) = same (name (row table n)) wanted || named table wanted n
 
--- straight after a number `e` and `E` begin an exponent
+-- "A unit nobody could type" (request two): straight after a number `e` and `E` begin an exponent
 unfoldable pub led-by-e : List ℕ → Bool
 led-by-e n = starts (λ b. eqb 101 (lower b)) n
 
