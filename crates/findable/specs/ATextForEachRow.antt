@@ -23,6 +23,7 @@ use Rattle.rules.specs.ReadingOnePart.{same-letter, delimiters, gap, sign-step,
 use Rattle.rules.specs.Evaluation.{spelled, digits-of, attos, nanos, length-of, evaluate, allowed, part-reading, sum, sum-all, parts, total}
 use Rattle.rules.specs.Laws.Choices.{or-neither, if-either, and-both, and-left, and-right, all-first, all-weaken}
 use Rattle.rules.specs.Laws.Tests.{and-false}
+use Rattle.rules.specs.Laws.Lists.{runs-below}
 use Rattle.rules.specs.Laws.Outcomes.{bind-got}
 use Rattle.rules.specs.Laws.Texts.{ends-le, sees-end}
 use Rattle.rules.specs.Laws.Apart.{none as no-length}
@@ -31,7 +32,7 @@ use Rattle.card.specs.Fields.{padded}
 use Rattle.card.specs.Laws.Table.{right-padded, right-name}
 use Rattle.card.specs.Laws.Accepted.{delimiter-class, inner-delimits, lookup-only}
 use Rattle.rows.specs.Laws.Rows.{length-row}
-use Rattle.card.specs.Laws.Names.{led-byte, name-some, size-most, name-length}
+use Rattle.card.specs.Laws.Names.{name-some, size-most, name-length}
 use Rattle.findable.specs.TheTextForARow.{first-held, joint, text-for}
 use Rattle.findable.specs.WhereAPartFindsItsUnit.{number-unit, unsigned-unit, unit-of, units, among, among-got, finds}
 
@@ -67,9 +68,10 @@ no-nanos c = rw (mul-zero c)
 
 -- ---- a text of zero and a name: what stands after the zero is no digit and no point, and an exponent and a gap may come before the name
 
-zero-digit : is DIGIT 48 ≡ true
+-- `0` and `e`
+fixed : (is DIGIT 48 ≡ true) × (is SIGN 48 ≡ false) × (is DIGIT 101 ≡ false) × (is POINT 101 ≡ false)
 unfolding is class between if_then_else_
-zero-digit = refl
+fixed = (refl, refl, refl, refl)
 
 no-zero : (rest : List ℕ) → starts (is DIGIT) rest ≡ false → starts (eqb 48) rest ≡ false
 unfolding starts
@@ -77,7 +79,7 @@ no-zero [] e = refl
 no-zero (b ∷ rest) e = go (eqb 48 b) refl
   where
     go : (z : Bool) → eqb 48 b ≡ z → z ≡ false
-    go true z = absurd (false≢true (sym e ∙ ap (is DIGIT) (sym (eqb-true 48 b z)) ∙ zero-digit))
+    go true z = absurd (false≢true (sym e ∙ ap (is DIGIT) (sym (eqb-true 48 b z)) ∙ fixed .0))
     go false z = refl
 
 module _ (s : Settings) (rest : List ℕ) (no-digit : starts (is DIGIT) rest ≡ false) (no-point : starts (is POINT) rest ≡ false) where
@@ -97,7 +99,7 @@ module _ (s : Settings) (rest : List ℕ) (no-digit : starts (is DIGIT) rest ≡
 
   the-zero : number-step s text 0 ≡ got (record { whole = record { start = 1; end = 1 }; fract = record { start = 1; end = 1 }; next = 1 })
   unfolding number-step fraction-step sees all if_then_else_
-  the-zero = rw (run-one (eqb 48) refl (no-zero rest no-digit), run-one (is DIGIT) (and-both zero-digit refl) no-digit, no-point)
+  the-zero = rw (run-one (eqb 48) refl (no-zero rest no-digit), run-one (is DIGIT) (and-both (fixed .0) refl) no-digit, no-point)
 
   -- up to the name at the place nothing is refused, and the lookup finds the name at row i
   module _
@@ -206,40 +208,17 @@ other-class : (c d : ℕ) → (c ≡ OTHER → ⊥) → class d ≡ OTHER → is
 unfolding is
 other-class c d apart other = ne-eqb (class d) c (λ e. apart (sym e ∙ other))
 
-letter-101 : class 101 ≡ OTHER → ⊥
-unfolding class between if_then_else_
-letter-101 e = omega (arith, e)
-
-letter-69 : class 69 ≡ OTHER → ⊥
-unfolding class between if_then_else_
-letter-69 e = omega (arith, e)
-
 other-not-e : (d : ℕ) → d < 256 → class d ≡ OTHER → same-letter 101 d ≡ false
-unfolding same-letter lower between if_then_else_
-other-not-e d below other = led-byte d below ∙ go (eqb d 101) (eqb d 69) refl refl
-  where
-    go : (small capital : Bool) → eqb d 101 ≡ small → eqb d 69 ≡ capital → (small || capital) ≡ false
-    go true capital e f = absurd (letter-101 (ap class (sym (eqb-true d 101 e)) ∙ other))
-    go false true e f = absurd (letter-69 (ap class (sym (eqb-true d 69 f)) ∙ other))
-    go false false e f = refl
+unfolding runs is class same-letter lower between if_then_else_
+other-not-e d below other =
+    let apart : (not (is OTHER d) || not (same-letter 101 d)) ≡ true = runs-below (λ k. not (is OTHER k) || not (same-letter 101 k)) 256 d refl below in
+    not-true (same-letter 101 d) (rw (eq-eqb (class d) OTHER other) at apart)
 
 -- ---- the three texts
 
-e-no-digit : is DIGIT 101 ≡ false
-unfolding is class between if_then_else_
-e-no-digit = refl
-
-e-no-point : is POINT 101 ≡ false
-unfolding is class between if_then_else_
-e-no-point = refl
-
-zero-no-sign : is SIGN 48 ≡ false
-unfolding is class between if_then_else_
-zero-no-sign = refl
-
 zero-exponent : (s : Settings) (b : ℕ) (m : List ℕ) → s .exponents ≡ true → is DIGIT b ≡ false → exponent-step s (48 ∷ 101 ∷ 48 ∷ b ∷ m) 1 ≡ got (record { exponent = record { negative = false; power = 0 }; next = 3 })
 unfolding exponent-step exponent-number exponent-digits exponent-limit sees starts same-letter lower between if_then_else_
-zero-exponent s b m on no-digit = rw (on, zero-no-sign, zero-digit, no-digit)
+zero-exponent s b m on no-digit = rw (on, fixed .1, fixed .0, no-digit)
 
 one-delimiter : (s : Settings) (d b : ℕ) (m : List ℕ) → s .«before_unit» ≡ true → holds (s .inner) d ≡ true → holds (s .inner) b ≡ false → gap (s .«before_unit») s (48 ∷ d ∷ b ∷ m) 1 ≡ got 2
 unfolding gap delimiters sees starts all if_then_else_
@@ -270,7 +249,7 @@ module _ (s : Settings) (b : ℕ) (m : List ℕ) (may : all (may-name s) (b ∷ 
   -- `0e0eon`
   with-exponent : s .exponents ≡ true → Reads s table i (48 ∷ 101 ∷ 48 ∷ named)
   unfolding starts
-  with-exponent on = reads s (101 ∷ 48 ∷ named) e-no-digit e-no-point table i 3 _ exponent (no-gap (48 ∷ 101 ∷ 48 ∷ named) 3 refl) named refl stretches found
+  with-exponent on = reads s (101 ∷ 48 ∷ named) (fixed .2) (fixed .3) table i 3 _ exponent (no-gap (48 ∷ 101 ∷ 48 ∷ named) 3 refl) named refl stretches found
     where
       exponent : exponent-step s (48 ∷ 101 ∷ 48 ∷ named) 1 ≡ got (record { exponent = record { negative = false; power = 0 }; next = 3 })
       exponent = zero-exponent s b m on (first .2)
