@@ -19,7 +19,7 @@ pub fn done(position: usize, length: Length) -> Answer
 // A number that is handed back, and its position.
 struct Numbered(u8, usize);
 
-// An exponent out of range and a forbidden negative hold a place too, and are handed back with 0.
+// A forbidden negative holds a place too, and is handed back with 0.
 fn number_and_position(cause: Refusal) -> Numbered
     ensures { λ r. ⌜ (r .0 ≡ number cause) × (r .1 ≡ position cause) ⌝ }
 {
@@ -32,8 +32,8 @@ fn number_and_position(cause: Refusal) -> Numbered
         Refusal::ExponentOff(place) => Numbered(2, place),
         Refusal::ExponentByte(place) => Numbered(2, place),
         Refusal::ExponentEnds(place) => Numbered(2, place),
-        Refusal::ExponentAbove(_) => Numbered(3, 0),
-        Refusal::ExponentBelow(_) => Numbered(4, 0),
+        Refusal::ExponentAbove(place) => Numbered(3, place),
+        Refusal::ExponentBelow(place) => Numbered(4, place),
         Refusal::InfinityByte(place) => Numbered(2, place),
         Refusal::InfinityEnds(place) => Numbered(2, place),
         Refusal::InfinityGoesOn(place) => Numbered(2, place),

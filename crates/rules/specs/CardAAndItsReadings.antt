@@ -102,7 +102,7 @@ starred =
     ∷ fails "" 1 0
     ∷ fails "." 2 0
     ∷ reads "1." (plus 1 0)
-    ∷ fails "1e32768" 3 0
+    ∷ fails "1e32768" 3 6
     ∷ reads "18446744073709551615s" (plus 18446744073709551615 0)
     ∷ reads "18446744073709551616s" (largest false)
     ∷ reads "1.9e-18block" (plus 0 10)
