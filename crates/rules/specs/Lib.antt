@@ -10,4 +10,5 @@ pub mod WhatEveryEntryOwes
 pub mod Computing
 pub mod CardAAndItsReadings
 pub mod AUnitNobodyCouldType
+pub mod WhichExponentDigitIsWrong
 pub mod Laws

@@ -47,7 +47,7 @@ sees-or f g text place = go (drop place text)
 
 -- ---- a run: the answer from here is the answer from the next place, where the byte passes
 
-front-pass : (test : ℕ → Bool) (b : ℕ) (rest : List ℕ) → test b ≡ true → front test (b ∷ rest) ≡ suc (front test rest)
+pub front-pass : (test : ℕ → Bool) (b : ℕ) (rest : List ℕ) → test b ≡ true → front test (b ∷ rest) ≡ suc (front test rest)
 unfolding front if_then_else_
 front-pass test b rest e = rw e
 

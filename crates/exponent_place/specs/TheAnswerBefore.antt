@@ -1,0 +1,131 @@
+-- What was handed back before request three, by document 01's table: 3 and 4 at position 0. Folding the place back to 0 gives just that,
+-- of every entry, whatever its arguments. Assumes nothing.
+use mathlib.Core.Path.{_≡_, refl, ap}
+use mathlib.Core.List.{List}
+use Prim.Native.Nat.{ℕ}
+use lib.ListN.{length}
+use Rattle.rules.specs.declared.Answer.{Answer}
+use Rattle.rules.specs.declared.Length.{Length}
+use Rattle.rules.specs.declared.Settings.{Settings}
+use Rattle.rules.specs.declared.Refusal.{Refusal}
+use Rattle.rules.specs.declared.Refusal.the-variants.{Nothing, SignEnds, DelimiterEnds, FractionOff, FractionEmpty, ExponentOff, ExponentByte, ExponentEnds, ExponentAbove, ExponentBelow, InfinityByte, InfinityEnds, InfinityGoesOn, ConjunctionEnds, ConjunctionGoesOn, NegativeForbidden, NoNumber, Delimiters, Conjunctions, DefaultKind, TableSize, BadRow, TextTooLong, NoRoom, Beyond, Malformed, NotIso, YearOrMonth, TooLarge}
+use Rattle.rules.specs.Common.{if_then_else_}
+use Rattle.rules.specs.ThePartOfTheCrateWeTake.{longest-text, zero-length}
+use Rattle.rules.specs.NumbersHandedBack.{Outcome, got, refused, number, position, done, refusal, answered}
+use Rattle.rules.specs.WriterAndShiftTotal.{writing}
+use Rattle.rules.specs.WhatEveryEntryOwes.{read-part, part-answer, read-total, total-answer, write-answer, add-total, shift-answer}
+use Rattle.exponent_place.specs.TheWrongDigit.{out-of-range}
+
+-- ---- as it was
+
+-- written out, so that it does not follow what is handed back now
+unfoldable pub position-before : Refusal → ℕ
+position-before (Nothing p) = p
+position-before (SignEnds p) = p
+position-before (DelimiterEnds p) = p
+position-before (FractionOff p) = p
+position-before (FractionEmpty p) = p
+position-before (ExponentOff p) = p
+position-before (ExponentByte p) = p
+position-before (ExponentEnds p) = p
+position-before (ExponentAbove p) = 0
+position-before (ExponentBelow p) = 0
+position-before (InfinityByte p) = p
+position-before (InfinityEnds p) = p
+position-before (InfinityGoesOn p) = p
+position-before (ConjunctionEnds p) = p
+position-before (ConjunctionGoesOn p) = p
+position-before (NegativeForbidden p) = 0
+position-before (NoNumber p) = p
+position-before Delimiters = 65
+position-before Conjunctions = 66
+position-before DefaultKind = 67
+position-before TableSize = 64
+position-before (BadRow i) = i
+position-before TextTooLong = longest-text
+position-before (NoRoom p) = p
+position-before (Beyond p) = p
+position-before Malformed = 0
+position-before (NotIso p) = p
+position-before (YearOrMonth p) = p
+position-before TooLarge = 0
+
+unfoldable pub answered-before : {A : Type 0} → (A → Answer) → Outcome A → Answer
+answered-before show (got a) = show a
+answered-before show (refused cause) = record { number = number cause; position = position-before cause; length = zero-length }
+
+unfoldable pub part-before : Settings → List ℕ → List ℕ → ℕ → Answer
+part-before s table text place = answered-before (λ r. done (r .next) (r .length)) (read-part s table text place)
+
+unfoldable pub total-before : Settings → List ℕ → List ℕ → Answer
+total-before s table text = answered-before (done (length text)) (read-total s table text)
+
+unfoldable pub write-before : Length → List ℕ → ℕ → Answer
+write-before l buffer place = answered-before (λ r. done (r .next) (r .length)) (writing l buffer place)
+
+unfoldable pub shift-before : Length → Settings → List ℕ → List ℕ → Answer
+shift-before so-far s table text = answered-before (done (length text)) (add-total so-far s table text)
+
+-- ---- folded back: the place of 3 and 4 is 0 again, and nothing else is touched
+
+unfoldable pub fold-position : ℕ → ℕ → ℕ
+fold-position number position = if out-of-range number then 0 else position
+
+unfoldable pub folded : Answer → Answer
+folded a = record { number = a .number; position = fold-position (a .number) (a .position); length = a .length }
+
+position-folded : (cause : Refusal) → fold-position (number cause) (position cause) ≡ position-before cause
+unfolding fold-position out-of-range if_then_else_ number position position-before
+position-folded (Nothing p) = refl
+position-folded (SignEnds p) = refl
+position-folded (DelimiterEnds p) = refl
+position-folded (FractionOff p) = refl
+position-folded (FractionEmpty p) = refl
+position-folded (ExponentOff p) = refl
+position-folded (ExponentByte p) = refl
+position-folded (ExponentEnds p) = refl
+position-folded (ExponentAbove p) = refl
+position-folded (ExponentBelow p) = refl
+position-folded (InfinityByte p) = refl
+position-folded (InfinityEnds p) = refl
+position-folded (InfinityGoesOn p) = refl
+position-folded (ConjunctionEnds p) = refl
+position-folded (ConjunctionGoesOn p) = refl
+position-folded (NegativeForbidden p) = refl
+position-folded (NoNumber p) = refl
+position-folded Delimiters = refl
+position-folded Conjunctions = refl
+position-folded DefaultKind = refl
+position-folded TableSize = refl
+position-folded (BadRow i) = refl
+position-folded TextTooLong = refl
+position-folded (NoRoom p) = refl
+position-folded (Beyond p) = refl
+position-folded Malformed = refl
+position-folded (NotIso p) = refl
+position-folded (YearOrMonth p) = refl
+position-folded TooLarge = refl
+
+-- whatever is handed back
+pub folded-back : {A : Type 0} (show : A → Answer) (m : Outcome A) → ((a : A) → (show a) .number ≡ 0) → folded (answered show m) ≡ answered-before show m
+unfolding folded fold-position answered answered-before refusal out-of-range if_then_else_
+folded-back show (got a) read = rw (read a) refl
+folded-back show (refused cause) read = ap (λ place. record { number = number cause; position = place; length = zero-length }) (position-folded cause)
+
+-- ---- the entries
+
+pub part-folded : (s : Settings) (table text : List ℕ) (place : ℕ) → folded (part-answer s table text place) ≡ part-before s table text place
+unfolding part-answer part-before done
+part-folded s table text place = folded-back _ (read-part s table text place) (λ r. refl)
+
+pub total-folded : (s : Settings) (table text : List ℕ) → folded (total-answer s table text) ≡ total-before s table text
+unfolding total-answer total-before done
+total-folded s table text = folded-back _ (read-total s table text) (λ r. refl)
+
+pub write-folded : (l : Length) (buffer : List ℕ) (place : ℕ) → folded (write-answer l buffer place) ≡ write-before l buffer place
+unfolding write-answer write-before done
+write-folded l buffer place = folded-back _ (writing l buffer place) (λ r. refl)
+
+pub shift-folded : (so-far : Length) (s : Settings) (table text : List ℕ) → folded (shift-answer so-far s table text) ≡ shift-before so-far s table text
+unfolding shift-answer shift-before done
+shift-folded so-far s table text = folded-back _ (add-total so-far s table text) (λ r. refl)
