@@ -76,6 +76,9 @@ module _ (text : List ℕ) (e : ℕ) where
   unfolding power-before
   power-is k = rw (before k)
 
+  power-next : (k : ℕ) → power-before text e (suc (first-digit text e + k)) ≡ spelled 0 (take (suc k) (drop (first-digit text e) text))
+  power-next k = ap (power-before text e) (sym (add-suc (first-digit text e) k)) ∙ power-is (suc k)
+
   -- counted in the text, and from the first digit on
   passed-in-text : (k : ℕ) → sees (same-letter 101) text e ≡ true → PassedFrom (below-zero text e) (drop (first-digit text e) text) 0 k → Passed text e (first-digit text e + k)
   unfolding run
@@ -83,8 +86,8 @@ module _ (text : List ℕ) (e : ℕ) where
     letter = letter;
     from-first = omega arith;
     digit = omega (arith, below);
-    before = rw (power-is k) small;
-    with-it = rw (sym (add-suc (first-digit text e) k), power-is (suc k)) past;
+    before = omega (arith, power-is k, small);
+    with-it = omega (arith, power-next k, past);
   }
 
   passed-from-first : (q : ℕ) → Passed text e q → (k : ℕ) × (q ≡ first-digit text e + k) × PassedFrom (below-zero text e) (drop (first-digit text e) text) 0 k
@@ -92,9 +95,9 @@ module _ (text : List ℕ) (e : ℕ) where
   passed-from-first q h =
       let k : ℕ = q - first-digit text e in
       let at : q ≡ first-digit text e + k = omega (arith, h .from-first) in
-      let small = h .before in
-      let past = h .with-it in
-      (k, at, (omega (arith, h .from-first, h .digit), rw (at, power-is k) at small, rw (at, sym (add-suc (first-digit text e) k), power-is (suc k)) at past))
+      let same : power-before text e q ≡ power-before text e (first-digit text e + k) = ap (power-before text e) at in
+      let next : power-before text e (suc q) ≡ power-before text e (suc (first-digit text e + k)) = ap (λ n. power-before text e (suc n)) at in
+      (k, at, (omega (arith, h .from-first, h .digit), omega (arith, same, power-is k, h .before), omega (arith, next, power-next k, h .with-it)))
 
   -- what it is refused with, if it is out of range
   abbrev pub Told : Settings → Refusal → Type 0

@@ -1,19 +1,24 @@
 -- What was handed back before request three, by document 01's table: 3 and 4 at position 0. Folding the place back to 0 gives just that,
--- of every entry, whatever its arguments. Assumes nothing.
+-- of every entry that document 01 has, whatever its arguments. Assumes nothing.
 use mathlib.Core.Path.{_≡_, refl, ap}
+use mathlib.Core.Bool.{Bool, _&&_}
 use mathlib.Core.List.{List}
 use Prim.Native.Nat.{ℕ}
+use Prim.Native.String.{String}
+use lib.Dec.{T}
 use lib.ListN.{length}
 use Rattle.rules.specs.declared.Answer.{Answer}
 use Rattle.rules.specs.declared.Length.{Length}
 use Rattle.rules.specs.declared.Settings.{Settings}
 use Rattle.rules.specs.declared.Refusal.{Refusal}
 use Rattle.rules.specs.declared.Refusal.the-variants.{Nothing, SignEnds, DelimiterEnds, FractionOff, FractionEmpty, ExponentOff, ExponentByte, ExponentEnds, ExponentAbove, ExponentBelow, InfinityByte, InfinityEnds, InfinityGoesOn, ConjunctionEnds, ConjunctionGoesOn, NegativeForbidden, NoNumber, Delimiters, Conjunctions, DefaultKind, TableSize, BadRow, TextTooLong, NoRoom, Beyond, Malformed, NotIso, YearOrMonth, TooLarge}
-use Rattle.rules.specs.Common.{if_then_else_}
+use Rattle.rules.specs.Common.{if_then_else_, ascii}
 use Rattle.rules.specs.ThePartOfTheCrateWeTake.{longest-text, zero-length}
 use Rattle.rules.specs.NumbersHandedBack.{Outcome, got, refused, number, position, done, refusal, answered}
 use Rattle.rules.specs.WriterAndShiftTotal.{writing}
 use Rattle.rules.specs.WhatEveryEntryOwes.{read-part, part-answer, read-total, total-answer, write-answer, add-total, shift-answer}
+use Rattle.rules.specs.Computing.{computing}
+use Rattle.rules.specs.CardAAndItsReadings.{space, conjunction, card, card-A, row-of, table-A, same-length, same-answer, fails}
 use Rattle.exponent_place.specs.TheWrongDigit.{out-of-range}
 
 -- ---- as it was
@@ -129,3 +134,15 @@ write-folded l buffer place = folded-back _ (writing l buffer place) (λ r. refl
 pub shift-folded : (so-far : Length) (s : Settings) (table text : List ℕ) → folded (shift-answer so-far s table text) ≡ shift-before so-far s table text
 unfolding shift-answer shift-before done
 shift-folded so-far s table text = folded-back _ (add-total so-far s table text) (λ r. refl)
+
+-- ---- computed
+
+-- an exponent out of range was handed back with 0, and a wrong byte in one with its place, as now
+unfoldable pub was : String → ℕ → ℕ → Bool
+was text n p =
+    same-answer (total-before card-A table-A (ascii text)) (fails text n p .comes-to)
+    && same-answer (folded (total-answer card-A table-A (ascii text))) (fails text n p .comes-to)
+
+pub before : T (was "1e-0032769" 4 0 && was "1s 1e99999s" 3 0 && was "1s 1e-x" 2 6 && was "1s 1e9 x" 6 7)
+unfolding computing space conjunction card card-A row-of table-A same-length same-answer fails was position-before answered-before total-before fold-position folded out-of-range
+before = tt
