@@ -3,7 +3,7 @@
  * Six functions, over numbers and bytes: a part of a text, a text's total, a length written, a shift total added to, an ISO 8601 duration
  * read, and a length written as one. They keep nothing between calls, so any number of threads may call them. The library is
  * target/staticlib/libterminal.a (rt staticlib terminal), for Linux on x86-64; every function in it is proved to answer as document 01 and
- * request one say, whatever it is passed.
+ * the requests that followed it say, whatever it is passed.
  *
  * Each function returns a number of enum herovinga_number and writes the whole answer. On 0 the answer has the position and the length
  * that stand at the function below; on a refusal it has the position that stands at the number, and a length of zero with a plus, and
@@ -26,15 +26,15 @@
 extern "C" {
 #endif
 
-/* What is handed back, and the position that then stands in the answer. The first test that fails decides, in the order 7, 11, 8, 10 and
- * then left to right through the text; the writer's order is 11, 10, 9. For an ISO text it is 8, then 12 and 13 left to right, and 14 last;
- * for the ISO writer 11, 5, 10, 9. */
+/* What is handed back, and the position that then stands in the answer; places are counted from the start of the text, also where a part is
+ * read from further on. The first test that fails decides, in the order 7, 11, 8, 10 and then left to right through the text; the writer's
+ * order is 11, 10, 9. For an ISO text it is 8, then 12 and 13 left to right, and 14 last; for the ISO writer 11, 5, 10, 9. */
 enum herovinga_number {
     HEROVINGA_DONE = 0,           /* read or written: the next place, or the text's size for a total and for an ISO text */
     HEROVINGA_NOTHING = 1,        /* nothing at the place: the place */
     HEROVINGA_SYNTAX = 2,         /* the text is no timing: where that shows */
-    HEROVINGA_EXPONENT_ABOVE = 3, /* an exponent above 32767: 0 */
-    HEROVINGA_EXPONENT_BELOW = 4, /* an exponent below -32768: 0 */
+    HEROVINGA_EXPONENT_ABOVE = 3, /* an exponent above 32767: the digit with which it passes that */
+    HEROVINGA_EXPONENT_BELOW = 4, /* an exponent below -32768: the digit with which it passes that */
     HEROVINGA_NEGATIVE = 5,       /* a part is negative while negatives are off, or a length is that is to be written as ISO: 0 */
     HEROVINGA_NO_NUMBER = 6,      /* a part begins with no number: that byte */
     HEROVINGA_CARD = 7,           /* settings or table are wrong: one of enum herovinga_wrong, or the number of the first bad row */

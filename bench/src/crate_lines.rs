@@ -1,7 +1,7 @@
 //! A line program over fundu-core: texts from standard input, one a line, and
 //! for each a line with number, position, sign, seconds and nanoseconds under
-//! card A, the parser set up once. The crate gives no position for 1 and 6;
-//! there 0 is printed.
+//! card A, the parser set up once. The crate gives no position for 1, 3, 4 and
+//! 6; there 0 is printed.
 
 mod card_a;
 

@@ -113,8 +113,6 @@ static void readings(const card *a)
     fails(a, "", HEROVINGA_NOTHING, 0);
     fails(a, ".", HEROVINGA_SYNTAX, 0);
     fails(a, "1s and", HEROVINGA_SYNTAX, 3);
-    fails(a, "1e32768", HEROVINGA_EXPONENT_ABOVE, 0);
-    fails(a, "1e-32769", HEROVINGA_EXPONENT_BELOW, 0);
     fails(a, "1 and 2", HEROVINGA_NO_NUMBER, 2);
     forbidden.settings.negatives = 0;
     fails(&forbidden, "1s -1s", HEROVINGA_NEGATIVE, 0);
@@ -144,6 +142,34 @@ static void parts(const card *a)
     part(a, "1s and 2s", 3, HEROVINGA_NO_NUMBER, 3, 0);
     worse.settings.default_kind = 8;
     part(&worse, "1s and 2s", SIZE_MAX, HEROVINGA_CARD, HEROVINGA_WRONG_DEFAULT_KIND, 0);
+}
+
+/* An exponent out of range is refused at the digit that passes it, counted in the whole text: by a total, a shift total and a part. */
+static void exponents(const card *a)
+{
+    const size_t last = HEROVINGA_LONGEST_TEXT - 1;
+    char text[HEROVINGA_LONGEST_TEXT + 1] = "";
+
+    reads(a, "1e-32768", 0, 0, 0);
+    fails(a, "1e-32769", HEROVINGA_EXPONENT_BELOW, 7);
+    fails(a, "1e32768", HEROVINGA_EXPONENT_ABOVE, 6);
+    fails(a, "1e-0032769", HEROVINGA_EXPONENT_BELOW, 9);
+    fails(a, "1e99999s", HEROVINGA_EXPONENT_ABOVE, 6);
+    fails(a, "1s 1e32768", HEROVINGA_EXPONENT_ABOVE, 9);
+    part(a, "1e32768", 0, HEROVINGA_EXPONENT_ABOVE, 6, 0);
+    part(a, "1e-0032769", 0, HEROVINGA_EXPONENT_BELOW, 9, 0);
+    part(a, "1e99999s", 0, HEROVINGA_EXPONENT_ABOVE, 6, 0);
+    part(a, "1s 1e32768", 3, HEROVINGA_EXPONENT_ABOVE, 9, 0);
+    part(a, "1s 1e32768", 0, HEROVINGA_DONE, 3, 1);
+
+    /* The last byte of the longest text is that digit. */
+    memset(text, '0', HEROVINGA_LONGEST_TEXT);
+    memcpy(text, "1e-", 3);
+    memcpy(text + last - 4, "32768", 5);
+    reads(a, text, 0, 0, 0);
+    text[last] = '9';
+    fails(a, text, HEROVINGA_EXPONENT_BELOW, last);
+    part(a, text, 0, HEROVINGA_EXPONENT_BELOW, last, 0);
 }
 
 /* Null with size 0 is an empty table, text or buffer. */
@@ -549,6 +575,7 @@ int main(void)
     layout();
     readings(&a);
     parts(&a);
+    exponents(&a);
     nothing_there(&a);
     switches(&a);
     counts(&a);

@@ -1,8 +1,8 @@
 //! Answers for the lists that programs of the test make again.
 //!
 //! An answer is the crate's where it has one, and it must be the plain
-//! reading's as well; where it has none, and for the places of 1 and 6, it is
-//! the plain reading's.
+//! reading's as well; where it has none, and for the places of 1, 3, 4 and 6,
+//! it is the plain reading's.
 
 use crate::card_a::same_answer;
 use crate::crate_side::{CrateAnswer, ask};

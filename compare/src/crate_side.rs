@@ -154,13 +154,13 @@ fn said(answer: Answer) -> CrateAnswer {
 }
 
 /// The crate's error under document 01's number, places counted from `base`.
-/// For 1 and 6 the crate gives no place.
+/// For 1, 3, 4 and 6 the crate gives no place.
 fn refusal(error: ParseError, base: u64) -> CrateAnswer {
     let (number, position) = match error {
         ParseError::Empty => (1, None),
         ParseError::Syntax(place, _) => (2, Some(base + place as u64)),
-        ParseError::PositiveExponentOverflow => (3, Some(0)),
-        ParseError::NegativeExponentOverflow => (4, Some(0)),
+        ParseError::PositiveExponentOverflow => (3, None),
+        ParseError::NegativeExponentOverflow => (4, None),
         ParseError::NegativeNumber => (5, Some(0)),
         ParseError::InvalidInput(_) => (6, None),
         unexpected => return CrateAnswer::Loud(format!("said {unexpected:?}")),

@@ -25,6 +25,10 @@ pub struct Found {
     numbers: [u64; 12],
     /// The readings, counted from 0, in which port and crate differ.
     differing: Vec<u64>,
+    /// The port's places of 3 and 4, which the crate does not give, and those of
+    /// them that are not the plain reading's.
+    places: u64,
+    differing_places: u64,
     /// What the port was asked about itself: texts, their parts, and lengths
     /// written and read back.
     pub texts: u64,
@@ -47,6 +51,8 @@ impl Found {
             left_out: 0,
             numbers: [0; 12],
             differing: Vec::new(),
+            places: 0,
+            differing_places: 0,
             texts: 0,
             parts_of_texts: 0,
             written: 0,
@@ -82,13 +88,22 @@ impl Found {
         same
     }
 
+    /// Counts a place of 3 or 4 and compares the port's answer with the plain
+    /// reading's; true if they are the same.
+    pub fn compare_place(&mut self, plain: &Answer, port: &Answer) -> bool {
+        let same = plain == port;
+        self.places += 1;
+        self.differing_places += u64::from(!same);
+        same
+    }
+
     /// Counts something in which the port differs from itself.
     pub fn differs_from_itself(&mut self) {
         self.differing_itself += 1;
     }
 
     fn differing(&self) -> u64 {
-        self.differing.len() as u64 + self.differing_itself
+        self.differing.len() as u64 + self.differing_places + self.differing_itself
     }
 
     /// Shows a request that was just counted as differing, with the answers.
@@ -135,6 +150,10 @@ impl Found {
             .collect();
         println!("by number: {}", counted.join("; "));
         println!(
+            "places of 3 and 4: {} held against the plain reading, {} differ",
+            self.places, self.differing_places
+        );
+        println!(
             "by the port alone: {} texts read in parts and added to a total, {} parts, {} lengths written and read back; {} differ",
             self.texts, self.parts_of_texts, self.written, self.differing_itself
         );
@@ -143,7 +162,7 @@ impl Found {
             self.a_second(),
             self.progress.seconds()
         );
-        self.only_what_was_spoiled() && self.differing_itself == 0
+        self.only_what_was_spoiled() && self.differing_places == 0 && self.differing_itself == 0
     }
 
     /// Whether exactly the spoiled answers differ; a run that is to spoil some

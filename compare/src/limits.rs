@@ -1,7 +1,7 @@
 //! Cases at the limits, with answers written by hand from document 01 and
-//! request two: for the numbers the crate does not have, 7 to 11, and for what
-//! a lent record or buffer holds afterwards. Each limit is tried from both
-//! sides.
+//! requests two and three: for the numbers the crate does not have, 7 to 11,
+//! for the places of 3 and 4, which it does not have either, and for what a
+//! lent record or buffer holds afterwards. Each limit is tried from both sides.
 
 use std::fmt::Write as _;
 use std::fs;
@@ -58,6 +58,11 @@ fn cases() -> Vec<Case> {
         ("buffer", buffers()),
         ("shift", shifts()),
         ("refused shift", shifts_refused()),
+        ("exponent", exponents_at_the_range()),
+        ("passing digit", digits_that_pass()),
+        ("before and behind", before_and_behind_exponents()),
+        ("place of an exponent", places_of_exponents()),
+        ("long exponent", long_exponents()),
     ];
     let mut list = Vec::new();
     for (group, cases) in groups {
@@ -961,11 +966,99 @@ fn shifts_refused() -> Vec<Case> {
         case("1", shift(so_far, card(), ""), "1 0 + 0 0 - 7 5"),
         case("2", shift(so_far, card(), "1s "), "2 2 + 0 0 - 7 5"),
         case("2, second part", shift(so_far, card(), "1s 2s "), "2 5 + 0 0 - 7 5"),
-        case("3", shift(so_far, card(), "1s 1e32768"), "3 0 + 0 0 - 7 5"),
-        case("4", shift(so_far, card(), "1s 1e-32769"), "4 0 + 0 0 - 7 5"),
+        case("3", shift(so_far, card(), "1s 1e32768"), "3 9 + 0 0 - 7 5"),
+        case("4", shift(so_far, card(), "1s 1e-32769"), "4 10 + 0 0 - 7 5"),
         case("5", shift(so_far, card().without_negatives(), "1s -1s"), "5 0 + 0 0 - 7 5"),
         case("6", shift(so_far, card(), "1s x"), "6 3 + 0 0 - 7 5"),
         // Only a part is forbidden to be negative, not the record.
         case("minus record, no negatives", shift(so_far, card().without_negatives(), "1s"), "0 2 - 6 5 - 6 5"),
+    ]
+}
+
+// 3 and 4: an exponent at either end of its range and one beyond it, whatever number it belongs to.
+#[rustfmt::skip]
+fn exponents_at_the_range() -> Vec<Case> {
+    vec![
+        case("most", total(card(), "1e32767"), "0 7 + 18446744073709551615 999999999"),
+        case("one more", part(0, card(), "1e32768"), "3 6 + 0 0"),
+        case("one more, plus, E", total(card(), "1E+32768"), "3 7 + 0 0"),
+        case("least", total(card(), "1e-32768"), "0 8 + 0 0"),
+        case("least, E, shift", shift(minus(7, 5), card(), "1E-32768"), "0 8 - 7 5 - 7 5"),
+        case("one less", total(card(), "1e-32769"), "4 7 + 0 0"),
+        case("one less, E, shift", shift(minus(7, 5), card(), "1E-32769"), "4 7 + 0 0 - 7 5"),
+        case("of zero", total(card(), "0e32768"), "3 6 + 0 0"),
+        case("behind a fraction", total(card(), "-1.5e32768"), "3 9 + 0 0"),
+    ]
+}
+
+// 3 and 4 at the first digit with which those typed so far pass the range: behind zeros that is the fifth or the sixth.
+#[rustfmt::skip]
+fn digits_that_pass() -> Vec<Case> {
+    vec![
+        case("fifth of ten", total(card(), "1e-9999999999"), "4 7 + 0 0"),
+        case("fifth, more than the least", total(card(), "1e327680"), "3 6 + 0 0"),
+        case("sixth, behind the most", total(card(), "1e327670"), "3 7 + 0 0"),
+        case("sixth, behind the least", total(card(), "1e-327680"), "4 8 + 0 0"),
+        case("sixth of nine", part(0, card(), "1e+123456789"), "3 8 + 0 0"),
+        case("sixth of 25", shift(plus(1, 0), card(), "1e-1000000000000000000000000"), "4 8 + 0 0 + 1 0"),
+        case("behind zeros", total(card(), "1e-0032769"), "4 9 + 0 0"),
+        case("behind zeros, in range", total(card(), "1e-0000032768"), "0 13 + 0 0"),
+        case("behind zeros, plus", part(0, card(), "1e+0000032768"), "3 12 + 0 0"),
+        // A run that ends before the range is passed.
+        case("a letter among them", total(card(), "1e3276x8"), "6 6 + 0 0"),
+        case("a point among them", total(card(), "1e3276.8"), "0 8 + 18446744073709551615 999999999"),
+        case("a letter instead", total(card(), "1e-x32769"), "2 3 + 0 0"),
+    ]
+}
+
+// 3 and 4 among other parts and other refusals: the first from the left is given, with a place of the whole text.
+#[rustfmt::skip]
+fn before_and_behind_exponents() -> Vec<Case> {
+    let no_exponents = card().with_rows(&[five("eon")]).without_exponents();
+    let no_negatives = || card().without_negatives();
+    vec![
+        case("unit behind", total(card(), "1e99999s"), "3 6 + 0 0"),
+        case("point behind", total(card(), "1e32768.5"), "3 6 + 0 0"),
+        case("delimiter behind, then the end", total(card(), "1e-32769 "), "4 7 + 0 0"),
+        case("part behind", total(card(), "1e32768 1e-32769"), "3 6 + 0 0"),
+        case("part before", total(card(), "1s 1e32768"), "3 9 + 0 0"),
+        case("parts before", shift(minus(7, 5), card(), "1s and 2ms 1e-32769"), "4 18 + 0 0 - 7 5"),
+        case("part in range before", total(card(), "1e-32768-1e-32769"), "4 16 + 0 0"),
+
+        case("exponents off", total(no_exponents.clone(), "1e32768"), "2 1 + 0 0"),
+        case("exponents off, second part", part(2, no_exponents, "1 1e-32769"), "2 3 + 0 0"),
+        case("negative, negatives off", total(no_negatives(), "-1e32768"), "3 7 + 0 0"),
+        case("negative before, negatives off", total(no_negatives(), "-1s 1e32768"), "5 0 + 0 0"),
+        case("minus zero before, negatives off", total(no_negatives(), "-0s 1e32768"), "3 10 + 0 0"),
+        case("negative behind, negatives off", total(no_negatives(), "1e-32769 -1s"), "4 7 + 0 0"),
+    ]
+}
+
+// 3 and 4 of a part from a place: they too have a place of the whole text, whatever stands before the part.
+#[rustfmt::skip]
+fn places_of_exponents() -> Vec<Case> {
+    vec![
+        case("second part", part(3, card(), "1s 1e32768"), "3 9 + 0 0"),
+        case("first part, second out of range", part(0, card(), "1s 1e32768"), "0 3 + 1 0"),
+        case("behind bytes that are no part", part(4, card(), "xyz 1E-0099999ns"), "4 13 + 0 0"),
+        case("behind bytes that are no letters", part(2, card(), b"\xff\xfe1e32768"), "3 8 + 0 0"),
+        case("within the exponent", part(2, card(), "1e32768"), "0 7 + 32768 0"),
+    ]
+}
+
+// 3 and 4 in texts of the largest size: the digit that passes the range is the last byte, or stands long before it.
+#[rustfmt::skip]
+fn long_exponents() -> Vec<Case> {
+    let filled = |start: &str, digit: &str, size: usize, end: &str| {
+        format!("{start}{}{end}", digit.repeat(size - start.len() - end.len()))
+    };
+    vec![
+        case("zeros", total(card(), filled("1e", "0", 4096, "")), "0 4096 + 1 0"),
+        case("last byte", total(card(), filled("1e", "0", 4096, "32768")), "3 4095 + 0 0"),
+        case("last byte, minus, part", part(0, card(), filled("1e-", "0", 4096, "32769")), "4 4095 + 0 0"),
+        case("last byte, zeros before the number", shift(plus(1, 0), card(), filled("", "0", 4096, "1e32768")),
+            "3 4095 + 0 0 + 1 0"),
+        case("nines", total(card(), filled("1e", "9", 4096, "")), "3 6 + 0 0"),
+        case("text too long", total(card(), filled("1e", "0", 4097, "32768")), "8 4096 + 0 0"),
     ]
 }

@@ -14,6 +14,14 @@ const NEWLINE: u8 = b'\n';
 /// The lines that document 01 gives for the program, in its order.
 const EXAMPLE: [&str; 4] = ["61.7ms", "1.", ".", "2s ago"];
 
+/// Exponents out of range, with number and place: behind zeros, before a unit and
+/// in a second part. Document 01's readings have one alone.
+const EXPONENTS: [(&str, u8, u64); 3] = [
+    ("1e-0032769", 4, 9),
+    ("1e99999s", 3, 6),
+    ("1s 1e32768", 3, 9),
+];
+
 /// Digits alone, about as many as a text may have, and more than the program
 /// reads at once.
 const DIGITS: [usize; 5] = [4_095, 4_096, 4_097, 5_000, 70_000];
@@ -54,8 +62,9 @@ impl Sheet {
     }
 }
 
-/// The sheet of the gate: document 01's lines, every byte as a line but the
-/// newline, lines about as long as a text may be, and empty ones.
+/// The sheet of the gate: document 01's lines, exponents out of range, every byte
+/// as a line but the newline, lines about as long as a text may be, and empty
+/// ones.
 pub fn write_files(lines_path: &str, printed_path: &str) -> Result<bool, String> {
     let mut sheet = Sheet::default();
     for text in EXAMPLE {
@@ -66,6 +75,9 @@ pub fn write_files(lines_path: &str, printed_path: &str) -> Result<bool, String>
             continue;
         };
         sheet.put(&text, Some(answer))?;
+    }
+    for (text, number, place) in EXPONENTS {
+        sheet.put(text.as_bytes(), Some(Answer::refusal(number, place)))?;
     }
     for byte in (0..=u8::MAX).filter(|byte| *byte != NEWLINE) {
         sheet.put(&[byte], None)?;

@@ -1,7 +1,8 @@
 //! A plain reading of document 01, written from its words: the acceptance of
 //! settings and table, the steps of a part, the evaluation, the total, the
-//! writer and the shift total. Request two's words are among them: a unit that
-//! nobody could type is not accepted.
+//! writer and the shift total. The words of requests two and three are among
+//! them: a unit that nobody could type is not accepted, and an exponent out of
+//! range is refused at the digit with which it is.
 
 use crate::natural::Natural;
 use crate::request::{Answer, ByteSet, Card, Length, Request, bytes_field};
@@ -220,6 +221,16 @@ fn is_digit_or_sign(byte: u8) -> bool {
     byte.is_ascii_digit() || byte == b'+' || byte == b'-'
 }
 
+/// The first of the typed digits with which they stand for more than `most`,
+/// counted from 0 (request three).
+fn digit_that_passes(digits: &[u8], most: u64) -> Option<usize> {
+    let most = Natural::of(most);
+    // Leading zeros pass nothing. Without them a beginning that has more digits
+    // than `most` is larger, so only a few are tried, however many digits follow.
+    let zeros = digits.iter().take_while(|digit| **digit == b'0').count();
+    (zeros..digits.len()).find(|last| Natural::typed(&digits[zeros..=*last]) > most)
+}
+
 // Reading one part.
 
 /// A part as typed, before it is evaluated.
@@ -354,15 +365,16 @@ impl<'a> Reader<'a> {
         if digits.is_empty() {
             return refuse(2, wanted);
         }
-        let size = Natural::typed(digits);
-        if minus && size > Natural::of(LOWEST_EXPONENT_SIZE) {
-            return refuse(4, 0);
-        }
-        if !minus && size > Natural::of(LARGEST_EXPONENT) {
-            return refuse(3, 0);
+        let (number, most) = if minus {
+            (4, LOWEST_EXPONENT_SIZE)
+        } else {
+            (3, LARGEST_EXPONENT)
+        };
+        if let Some(passing) = digit_that_passes(digits, most) {
+            return refuse(number, wanted + passing);
         }
         // A size of at most 32768 fits, so nothing is lost here.
-        let size = size.to_u64().unwrap_or_default() as i64;
+        let size = Natural::typed(digits).to_u64().unwrap_or_default() as i64;
         Ok((if minus { -size } else { size }, after))
     }
 

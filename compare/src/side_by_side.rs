@@ -1,9 +1,11 @@
-//! The port beside the crate under one card: both are asked about texts, and
-//! then the port about itself.
+//! The port beside the crate under one card: both are asked about texts, the
+//! plain reading too where the crate gives no place, and then the port about
+//! itself.
 
 use crate::crate_side::{self, CrateAnswer, SetUp};
 use crate::found::Found;
 use crate::nanoseconds::{clamped_sum, nanoseconds};
+use crate::plain;
 use crate::port_side::Port;
 use crate::request::{Answer, Card, Length, Request};
 use crate::there_and_back::{Line, Wrong};
@@ -73,6 +75,24 @@ impl SideBySide<'_> {
         if !self.found.compare(place.is_some(), &mut said, port) {
             let request = Request::reading(place, self.card.clone(), text.to_vec());
             let answers = [("port", port.to_string()), ("crate", said.to_string())];
+            self.found.show(&request, answers);
+        }
+        if matches!(port.number, 3 | 4) {
+            self.compare_place(place, text, port);
+        }
+    }
+
+    /// Of 3 and 4 the crate confirms the number alone, so the plain reading is
+    /// asked for the place. What is spoiled of the crate's answers is no matter
+    /// here.
+    fn compare_place(&mut self, place: Option<u64>, text: &[u8], port: &Answer) {
+        let plain = match place {
+            None => plain::total(self.card, text),
+            Some(place) => plain::part(self.card, text, place),
+        };
+        if !self.found.compare_place(&plain, port) {
+            let request = Request::reading(place, self.card.clone(), text.to_vec());
+            let answers = [("port", port.to_string()), ("plain", plain.to_string())];
             self.found.show(&request, answers);
         }
     }

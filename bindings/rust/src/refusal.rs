@@ -51,8 +51,8 @@ impl fmt::Display for Refusal {
         match self.number {
             1 => write!(out, "there is nothing to read at place {position}"),
             2 => write!(out, "the text cannot be read on at place {position}"),
-            3 => out.write_str("an exponent is above 32767"),
-            4 => out.write_str("an exponent is below -32768"),
+            3 => write!(out, "an exponent goes above 32767 at place {position}"),
+            4 => write!(out, "an exponent goes below -32768 at place {position}"),
             5 => out.write_str(
                 "a length is negative, which the card forbids or an ISO text cannot say",
             ),

@@ -18,8 +18,8 @@ fn refused(number: u8, position: usize) -> Result<Length, Refusal> {
     Err(Refusal { number, position })
 }
 
-/// The table "Card A and its readings", the texts of the line program and the
-/// text of one space.
+/// The table "Card A and its readings", with request three's place for its 3,
+/// the texts of the line program and the text of one space.
 fn readings() -> Vec<(&'static str, Result<Length, Refusal>)> {
     vec![
         ("61.7ms", plus(0, 61_700_000)),
@@ -27,7 +27,7 @@ fn readings() -> Vec<(&'static str, Result<Length, Refusal>)> {
         (".", refused(2, 0)),
         ("1.", plus(1, 0)),
         ("1e-32768", plus(0, 0)),
-        ("1e32768", refused(3, 0)),
+        ("1e32768", refused(3, 6)),
         ("18446744073709551615s", plus(u64::MAX, 0)),
         ("18446744073709551616s", Ok(Length::MAX)),
         ("1.9e-18block", plus(0, 10)),

@@ -20,14 +20,36 @@ fn texts() {
     assert_eq!(total(&card, ""), refusal(1, 0));
     assert_eq!(card.read_part("1s", 2), Err(refusal(1, 2)));
     assert_eq!(total(&card, "1s 2e"), refusal(2, 5));
-    assert_eq!(total(&card, "1s 1e32768"), refusal(3, 0));
-    assert_eq!(total(&card, "1s 1e-32769"), refusal(4, 0));
+    assert_eq!(total(&card, "1s 1e32768"), refusal(3, 9));
+    assert_eq!(total(&card, "1s 1e-32769"), refusal(4, 10));
     assert_eq!(total(&card, "1s hour"), refusal(6, 3));
     assert_eq!(card.read_part("1s", 3), Err(refusal(10, 3)));
     assert_eq!(
         card.read_part("1s", usize::MAX),
         Err(refusal(10, usize::MAX))
     );
+}
+
+/// The digit at which an exponent passes its range, counted in the whole text.
+#[test]
+fn exponents_out_of_range() {
+    let card = Card::a();
+    for (text, number, position, place) in [
+        ("1e32768", 3, 6, 0),
+        ("1e-0032769", 4, 9, 0),
+        ("1e99999s", 3, 6, 0),
+        ("1s 1e32768", 3, 9, 3),
+    ] {
+        let refused = refusal(number, position);
+        assert_eq!(total(&card, text), refused, "`{text}`");
+        assert_eq!(card.read_part(text, place), Err(refused), "`{text}`");
+        assert_eq!(card.parts(text).last(), Some(Err(refused)), "`{text}`");
+        let mut shift = Length::MIN;
+        assert_eq!(card.add_total(&mut shift, text), Err(refused), "`{text}`");
+        assert_eq!(shift, Length::MIN, "`{text}`");
+    }
+    assert_eq!(card.read_total("1e32767"), Ok(Length::MAX));
+    assert_eq!(card.read_total("1e-0032768"), Ok(Length::ZERO));
 }
 
 #[test]
@@ -189,8 +211,8 @@ fn sentences() {
     let sentences = [
         ((1, 0), "there is nothing to read at place 0"),
         ((2, 6), "the text cannot be read on at place 6"),
-        ((3, 0), "an exponent is above 32767"),
-        ((4, 0), "an exponent is below -32768"),
+        ((3, 6), "an exponent goes above 32767 at place 6"),
+        ((4, 9), "an exponent goes below -32768 at place 9"),
         (
             (5, 0),
             "a length is negative, which the card forbids or an ISO text cannot say",
