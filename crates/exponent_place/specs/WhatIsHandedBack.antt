@@ -13,7 +13,7 @@ use Rattle.rules.specs.declared.Refusal.{Refusal}
 use Rattle.rules.specs.declared.Refusal.the-variants.{Delimiters, Conjunctions, DefaultKind, TableSize, TextTooLong, Beyond, Malformed}
 use Rattle.rules.specs.Common.{if_then_else_}
 use Rattle.rules.specs.ThePartOfTheCrateWeTake.{longest-text, well-formed}
-use Rattle.rules.specs.NumbersHandedBack.{Outcome, got, refused, number, position, unless, done, refusal, answered}
+use Rattle.rules.specs.NumbersHandedBack.{_>>_, Outcome, got, refused, number, position, unless, done, refusal, answered}
 use Rattle.rules.specs.SettingsAndUnitTable.{settings-check, delimiters-accepted, conjunctions-accepted, rows, rows-check, table-check, card-check}
 use Rattle.rules.specs.ReadingOnePart.{exponent-passed}
 use Rattle.rules.specs.Evaluation.{total}
@@ -67,6 +67,14 @@ says s text from answer (negative, q, same, wrong) = rw (answer, same) (go negat
 -- ---- the entries
 
 module _ (s : Settings) (table text : List ℕ) where
+  -- each checks the card and the text's length first
+  card-then : {A : Type 0} (X : Refusal → Type 0) {next : Outcome A} → Refused (IfOutOfRange X) next → Refused (IfOutOfRange X) (card-check s table >> next)
+  card-then X h = refused-then (card-check s table) (card-other X s table) h
+
+  short-then : {A : Type 0} (X : Refusal → Type 0) {next : Outcome A} → Refused (IfOutOfRange X) next → Refused (IfOutOfRange X) (unless TextTooLong (leb (length text) longest-text) >> next)
+  unfolding out-of-range number
+  short-then X h = refused-then (unless TextTooLong (leb (length text) longest-text)) (test-other X TextTooLong _ refl) h
+
   pub part-says : (place : ℕ) → out-of-range ((part-answer s table text place) .number) ≡ true → Says s text place (part-answer s table text place)
   unfolding part-answer read-part done out-of-range number
   part-says place wrong =
@@ -75,34 +83,28 @@ module _ (s : Settings) (table text : List ℕ) where
     where
       checked : Refused (IfOutOfRange (PartTold s table text place)) (read-part s table text place)
       checked =
-          refused-then (card-check s table) (card-other (PartTold s table text place) s table)
-          (refused-then (unless TextTooLong (leb (length text) longest-text)) (test-other (PartTold s table text place) TextTooLong _ refl)
+          card-then (PartTold s table text place)
+          (short-then (PartTold s table text place)
           (refused-then (unless (Beyond place) (leb place (length text))) (test-other (PartTold s table text place) (Beyond place) _ refl)
           (part-told s table text place)))
 
-  pub total-says : out-of-range ((total-answer s table text) .number) ≡ true → (from : ℕ) × Reached s table text from × Says s text from (total-answer s table text)
-  unfolding total-answer read-total done out-of-range number
-  total-says wrong =
-      let (cause, m, answer, out) = named _ (read-total s table text) (λ r. refl) wrong in
-      let (from, reached, told) = the-cause checked m out in
+  -- 3 or 4 of a text's total, however it is handed back
+  total-tells : {A : Type 0} (show : A → Answer) (m : Outcome A) → ((a : A) → (show a) .number ≡ 0) → Refused (IfOutOfRange (TotalTold s table text)) m → out-of-range ((answered show m) .number) ≡ true → (from : ℕ) × Reached s table text from × Says s text from (answered show m)
+  total-tells show m read checked wrong =
+      let (cause, is, answer, out) = named show m read wrong in
+      let (from, reached, told) = the-cause checked is out in
       (from, reached, says s text from answer told)
-    where
-      checked : Refused (IfOutOfRange (TotalTold s table text)) (read-total s table text)
-      checked =
-          refused-then (card-check s table) (card-other (TotalTold s table text) s table)
-          (refused-then (unless TextTooLong (leb (length text) longest-text)) (test-other (TotalTold s table text) TextTooLong _ refl)
-          (total-told s table text))
+
+  pub total-says : out-of-range ((total-answer s table text) .number) ≡ true → (from : ℕ) × Reached s table text from × Says s text from (total-answer s table text)
+  unfolding total-answer read-total done
+  total-says wrong =
+      total-tells _ (read-total s table text) (λ r. refl)
+      (card-then (TotalTold s table text) (short-then (TotalTold s table text) (total-told s table text))) wrong
 
   pub shift-says : (so-far : Length) → out-of-range ((shift-answer so-far s table text) .number) ≡ true → (from : ℕ) × Reached s table text from × Says s text from (shift-answer so-far s table text)
   unfolding shift-answer add-total shifting done out-of-range number
   shift-says so-far wrong =
-      let (cause, m, answer, out) = named _ (add-total so-far s table text) (λ r. refl) wrong in
-      let (from, reached, told) = the-cause checked m out in
-      (from, reached, says s text from answer told)
-    where
-      checked : Refused (IfOutOfRange (TotalTold s table text)) (add-total so-far s table text)
-      checked =
-          refused-then (card-check s table) (card-other (TotalTold s table text) s table)
-          (refused-then (unless Malformed (well-formed so-far)) (test-other (TotalTold s table text) Malformed _ refl)
-          (refused-then (unless TextTooLong (leb (length text) longest-text)) (test-other (TotalTold s table text) TextTooLong _ refl)
-          (refused-bind (total s table text) (total-told s table text) (λ l _. not-refused))))
+      total-tells _ (add-total so-far s table text) (λ r. refl)
+      (card-then (TotalTold s table text)
+      (refused-then (unless Malformed (well-formed so-far)) (test-other (TotalTold s table text) Malformed _ refl)
+      (short-then (TotalTold s table text) (refused-bind (total s table text) (total-told s table text) (λ l _. not-refused))))) wrong
