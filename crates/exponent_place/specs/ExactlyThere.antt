@@ -4,7 +4,7 @@ use mathlib.Core.Path.{_≡_, refl, ap, _∙_}
 use mathlib.Core.Bool.{Bool, true, false}
 use mathlib.Core.List.{List}
 use mathlib.Core.Logic.{_↔_}
-use Prim.Native.Nat.{ℕ, zero, suc, _-_}
+use Prim.Native.Nat.{ℕ, zero, suc}
 use native.Mathlib.Omega.{arith}
 use lib.ListN.{length}
 use Rattle.rules.specs.declared.Length.{Length}
@@ -13,7 +13,6 @@ use Rattle.rules.specs.declared.Refusal.{Refusal}
 use Rattle.rules.specs.Common.{if_then_else_}
 use Rattle.rules.specs.ThePartOfTheCrateWeTake.{zero-length}
 use Rattle.rules.specs.NumbersHandedBack.{refused, number, position}
-use Rattle.rules.specs.SettingsAndUnitTable.{is}
 use Rattle.rules.specs.ReadingOnePart.{gap, sign-step, number-step, exponent-passed, exponent-step, unit-step, connection, infinity-step, infinite-part, finite-part, unsigned-part, part}
 use Rattle.rules.specs.Evaluation.{allowed, part-reading, sum, parts, total}
 use Rattle.rules.specs.Laws.Choices.{if-then, if-else}
