@@ -16,12 +16,11 @@ use Rattle.rules.specs.NumbersHandedBack.{refused, number, position}
 use Rattle.rules.specs.ReadingOnePart.{gap, sign-step, number-step, exponent-passed, exponent-step, unit-step, connection, infinity-step, infinite-part, finite-part, unsigned-part, part}
 use Rattle.rules.specs.Evaluation.{allowed, part-reading, sum, parts, total}
 use Rattle.rules.specs.Laws.Choices.{if-then, if-else}
-use Rattle.rules.specs.Laws.Outcomes.{All, all-got, all-refused, all-of, all-if, all-bind, itself, bind-got, bind-refused}
+use Rattle.rules.specs.Laws.Outcomes.{All, all-got, all-refused, all-of, all-if, all-bind, itself, bind-got, bind-refused, Refused, not-refused, refused-by, the-cause, refused-map, refused-if, refused-bind}
 use Rattle.rules.specs.Laws.Totals.{total-from, total-is, total-step}
-use Rattle.exponent_place.specs.TheWrongDigit.{below-zero, Passed, after-number, WrongDigit, Reached, at-first, behind, out-of-range}
-use Rattle.exponent_place.specs.Refusals.{IfOutOfRange, by-other, Refused, not-refused, refused-by, the-cause, refused-map, refused-if, refused-bind}
+use Rattle.exponent_place.specs.TheWrongDigit.{minus-behind, Passed, after-number, WrongDigit, Reached, at-first, behind, out-of-range}
 use Rattle.exponent_place.specs.StepFour.{step-told, step-refuses}
-use Rattle.exponent_place.specs.NoOtherStep.{sign-other, number-other, gap-other, unit-other, connection-other, infinity-other}
+use Rattle.exponent_place.specs.NoOtherStep.{IfOutOfRange, by-other, sign-other, number-other, gap-other, unit-other, connection-other, infinity-other}
 
 -- ---- what an exponent out of range is refused with
 
@@ -67,7 +66,7 @@ module _ (s : Settings) (table text : List ℕ) where
       (refused-map (step-told text (number .next) s)
       (λ cause told wrong.
       let (exponents-on, (q, is, passed)) = told wrong in (
-        below-zero text (number .next),
+        minus-behind text (number .next),
         q,
         is,
         record {
@@ -90,7 +89,7 @@ module _ (s : Settings) (table text : List ℕ) where
       (λ _. by-other (PartTold from) _ refl)))))
       (λ p _. refused-if (λ _. by-other (PartTold from) _ refl) (λ _. not-refused))
 
-  part-refuses : (place : ℕ) → All (λ e. (q : ℕ) → s .exponents ≡ true → Passed text e q → part-reading s table text place ≡ refused (exponent-passed (below-zero text e) q)) (after-number s text place)
+  part-refuses : (place : ℕ) → All (λ e. (q : ℕ) → s .exponents ≡ true → Passed text e q → part-reading s table text place ≡ refused (exponent-passed (minus-behind text e) q)) (after-number s text place)
   unfolding after-number part-reading part unsigned-part finite-part
   part-refuses place =
       all-if (λ _. all-refused)

@@ -1,9 +1,8 @@
 -- Request three: which digit of an exponent is wrong.
 pub mod TheWrongDigit
 pub mod Examples
-pub mod Refusals
-pub mod StepFour
 pub mod NoOtherStep
+pub mod StepFour
 pub mod ExactlyThere
 pub mod WhatIsHandedBack
 pub mod TheAnswerBefore

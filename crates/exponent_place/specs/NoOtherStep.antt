@@ -1,6 +1,6 @@
--- No step but 4 refuses by 3 or 4. Assumes nothing.
-use mathlib.Core.Path.{refl}
-use mathlib.Core.Bool.{Bool}
+-- What is said of 3 and 4 alone; and no step but 4 refuses by them. Assumes nothing.
+use mathlib.Core.Path.{_≡_, refl, sym, _∙_}
+use mathlib.Core.Bool.{Bool, true, false, false≢true}
 use mathlib.Core.List.{List, [], _∷_}
 use Prim.Native.Nat.{ℕ, suc, _+_}
 use lib.ListN.{drop}
@@ -12,11 +12,21 @@ use Rattle.rules.specs.declared.Multiplier.{Multiplier}
 use Rattle.rules.specs.declared.Settings.{Settings}
 use Rattle.rules.specs.declared.Refusal.{Refusal}
 use Rattle.rules.specs.Common.{ascii, run}
-use Rattle.rules.specs.NumbersHandedBack.{number}
+use Rattle.rules.specs.NumbersHandedBack.{refused, number}
 use Rattle.rules.specs.SettingsAndUnitTable.{row, product, lookup}
 use Rattle.rules.specs.ReadingOnePart.{delimiters, gap, sign-step, fraction-step, number-step, in-stretch, ago-step, unit-found, unit-step, after-conjunction, conjunction-step, connection, letters-step, infinity-closed, infinity-step}
+use Rattle.rules.specs.Laws.Outcomes.{Refused, not-refused, refused-by, refused-if, refused-bind}
 use Rattle.exponent_place.specs.TheWrongDigit.{out-of-range}
-use Rattle.exponent_place.specs.Refusals.{IfOutOfRange, by-other, Refused, not-refused, refused-if, refused-bind}
+
+-- X holds of what is refused by 3 or 4
+abbrev pub IfOutOfRange : (Refusal → Type 0) → Refusal → Type 0
+IfOutOfRange X cause = out-of-range (number cause) ≡ true → X cause
+
+-- of any other number nothing has to be shown
+pub by-other : {A : Type 0} (X : Refusal → Type 0) (cause : Refusal) → out-of-range (number cause) ≡ false → Refused {A = A} (IfOutOfRange X) (refused cause)
+by-other X cause right = refused-by (λ wrong. absurd (false≢true (sym right ∙ wrong)))
+
+-- ---- the other steps
 
 module _ (X : Refusal → Type 0) (s : Settings) (table text : List ℕ) where
   delimiters-other : (set : ByteSet) (place : ℕ) → Refused (IfOutOfRange X) (delimiters set text place)

@@ -18,8 +18,8 @@ use Rattle.rules.specs.Evaluation.{spelled, part-reading}
 -- ---- an exponent
 
 -- a minus stands behind the `e`
-unfoldable pub below-zero : List ℕ → ℕ → Bool
-below-zero text e = sees (eqb 45) text (e + 1)
+unfoldable pub minus-behind : List ℕ → ℕ → Bool
+minus-behind text e = sees (eqb 45) text (e + 1)
 
 -- the digits begin behind the sign, if there is one, else behind the `e`
 unfoldable pub first-digit : List ℕ → ℕ → ℕ
@@ -34,8 +34,8 @@ pub record Passed (text : List ℕ) (e place : ℕ) : Type 0 where
   pub letter : sees (same-letter 101) text e ≡ true
   pub from-first : first-digit text e ≤ place
   pub digit : place < run (is DIGIT) text (first-digit text e)
-  pub before : power-before text e place ≤ exponent-limit (below-zero text e)
-  pub with-it : exponent-limit (below-zero text e) < power-before text e (suc place)
+  pub before : power-before text e place ≤ exponent-limit (minus-behind text e)
+  pub with-it : exponent-limit (minus-behind text e) < power-before text e (suc place)
 
 -- ---- the exponent of a part
 
@@ -56,7 +56,7 @@ pub record WrongDigit (s : Settings) (text : List ℕ) (from : ℕ) (negative : 
   pub e : ℕ
   pub step-four : after-number s text from ≡ got e
   pub exponents-on : s .exponents ≡ true
-  pub sign : below-zero text e ≡ negative
+  pub sign : minus-behind text e ≡ negative
   pub passed : Passed text e place
 
 -- ---- the parts of a text

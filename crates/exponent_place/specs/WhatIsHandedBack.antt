@@ -19,8 +19,9 @@ use Rattle.rules.specs.ReadingOnePart.{exponent-passed}
 use Rattle.rules.specs.Evaluation.{total}
 use Rattle.rules.specs.WriterAndShiftTotal.{shifting}
 use Rattle.rules.specs.WhatEveryEntryOwes.{read-part, part-answer, read-total, total-answer, add-total, shift-answer}
+use Rattle.rules.specs.Laws.Outcomes.{Refused, not-refused, the-cause, refused-if, refused-bind, refused-then}
 use Rattle.exponent_place.specs.TheWrongDigit.{WrongDigit, Reached, out-of-range}
-use Rattle.exponent_place.specs.Refusals.{IfOutOfRange, by-other, Refused, not-refused, the-cause, refused-if, refused-bind, refused-then}
+use Rattle.exponent_place.specs.NoOtherStep.{IfOutOfRange, by-other}
 use Rattle.exponent_place.specs.ExactlyThere.{PartTold, part-told, TotalTold, total-told}
 
 -- 3 or 4 by the exponent's sign, and the position is that of the wrong digit of the part that begins at `from`
@@ -56,9 +57,9 @@ unfolding answered refusal out-of-range
 named show (got a) read wrong = absurd (false≢true (sym (ap out-of-range (read a)) ∙ wrong))
 named show (refused cause) read wrong = (cause, refl, refl, wrong)
 
-says : (s : Settings) (text : List ℕ) (from : ℕ) {a : Answer} {cause : Refusal} → a ≡ refusal cause → ((negative : Bool) × (q : ℕ) × (cause ≡ exponent-passed negative q) × WrongDigit s text from negative q) → Says s text from a
+says : (s : Settings) (table text : List ℕ) (from : ℕ) {a : Answer} {cause : Refusal} → a ≡ refusal cause → PartTold s table text from cause → Says s text from a
 unfolding refusal number position exponent-passed if_then_else_
-says s text from answer (negative, q, same, wrong) = rw (answer, same) (go negative wrong)
+says s table text from answer (negative, q, same, wrong) = rw (answer, same) (go negative wrong)
   where
     go : (negative : Bool) → WrongDigit s text from negative q → Says s text from (refusal (exponent-passed negative q))
     go true wrong = (true, refl, wrong)
@@ -79,7 +80,7 @@ module _ (s : Settings) (table text : List ℕ) where
   unfolding part-answer read-part done out-of-range number
   part-says place wrong =
       let (cause, m, answer, out) = named _ (read-part s table text place) (λ r. refl) wrong in
-      says s text place answer (the-cause checked m out)
+      says s table text place answer (the-cause checked m out)
     where
       checked : Refused (IfOutOfRange (PartTold s table text place)) (read-part s table text place)
       checked =
@@ -93,7 +94,7 @@ module _ (s : Settings) (table text : List ℕ) where
   total-tells show m read checked wrong =
       let (cause, is, answer, out) = named show m read wrong in
       let (from, reached, told) = the-cause checked is out in
-      (from, reached, says s text from answer told)
+      (from, reached, says s table text from answer told)
 
   pub total-says : out-of-range ((total-answer s table text) .number) ≡ true → (from : ℕ) × Reached s table text from × Says s text from (total-answer s table text)
   unfolding total-answer read-total done

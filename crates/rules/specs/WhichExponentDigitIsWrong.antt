@@ -29,12 +29,12 @@ unfolding computing space conjunction card card-A row-of table-A same-length sam
 digits-shown = (tt, tt)
 
 -- a part read from a place, and a text added to the shift total, which stays as it was
-unfoldable pub shown-elsewhere : String → ℕ → Case → Bool
-shown-elsewhere text place c =
-    same-answer (part-answer card-A table-A (ascii text) place) (c .comes-to)
-    && same-answer (shift-answer (minus 7 5) card-A table-A (ascii text)) (c .comes-to)
+unfoldable pub shown-elsewhere : String → ℕ → ℕ → ℕ → Bool
+shown-elsewhere text place n p =
+    same-answer (part-answer card-A table-A (ascii text) place) (fails text n p .comes-to)
+    && same-answer (shift-answer (minus 7 5) card-A table-A (ascii text)) (fails text n p .comes-to)
     && same-length (shifted-record (minus 7 5) card-A table-A (ascii text)) (minus 7 5)
 
-pub elsewhere : T (shown-elsewhere "1s 1e32768" 3 (fails "" 3 9)) × T (shown-elsewhere "1s and 2e-0032769" 7 (fails "" 4 16))
+pub elsewhere : T (shown-elsewhere "1s 1e32768" 3 3 9 && shown-elsewhere "1s and 2e-0032769" 7 4 16)
 unfolding computing space conjunction card card-A row-of table-A same-length same-answer minus fails shown-elsewhere
-elsewhere = (tt, tt)
+elsewhere = tt
