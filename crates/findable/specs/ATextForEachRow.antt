@@ -1,4 +1,4 @@
--- For each row of an accepted table there is a text that finds it: zero of the unit, so that it comes to zero whatever the row's
+-- For each row that is accepted there is a text that finds it: zero of the unit, so that it comes to zero whatever the row's
 -- coefficient, and is accepted with negatives off too. Assumes nothing.
 use mathlib.Core.Path.{_≡_, refl, sym, ap, _∙_}
 use mathlib.Core.Bool.{Bool, true, false, not, _&&_, _||_, false≢true}
@@ -30,7 +30,7 @@ use Rattle.rules.specs.Laws.Apart.{none as no-length}
 use Rattle.rules.specs.Laws.Layout.{sees-of, run-over, stretch, goes-on, gap-none, exponent-none, connection-none}
 use Rattle.card.specs.Fields.{padded}
 use Rattle.card.specs.Laws.Table.{right-padded, right-name}
-use Rattle.card.specs.Laws.Accepted.{delimiter-class, inner-delimits, lookup-only}
+use Rattle.card.specs.Laws.Accepted.{delimiter-class, inner-delimits, own-name}
 use Rattle.rows.specs.Laws.Rows.{length-row}
 use Rattle.card.specs.Laws.Names.{name-some, size-most, name-length}
 use Rattle.findable.specs.TheTextForARow.{first-held, joint, text-for}
@@ -284,18 +284,18 @@ typed-text s good (b ∷ m) some may typed table i found = go (led-by-e (b ∷ m
         let held = held-first (s .inner) 256 0 (not-true (empty (s .inner)) (and-right (s .«before_unit») (not (empty (s .inner))) may-lead)) in
         with-delimiter s b m may table i found d (delimiter-class d (inner-delimits s good d (held .1) (held .0))) (held .1) (held .0) (and-left (s .«before_unit») (not (empty (s .inner))) may-lead)
 
--- ---- for each row of a table that passes document 01's tests: if its name can be typed, there is a text that finds it
+-- ---- for each row that passes document 01's tests, whatever the other rows are: if its name can be typed, there is a text that finds it
 
-module _ (s : Settings) (table : List ℕ) (right : (i : ℕ) → i < rows table → row-right s table i ≡ true) (i : ℕ) (below : i < rows table) where
+module _ (s : Settings) (table : List ℕ) (i : ℕ) (below : i < rows table) (right : row-right s table i ≡ true) where
   long : length (row table i) ≡ row-size
   long = length-row table i below
 
   padded-row : padded (row table i) ≡ true
-  padded-row = right-padded s table i (right i below)
+  padded-row = right-padded s table i right
 
   pub row-typed : settings-check s ≡ got tt → can-be-typed s (name (row table i)) ≡ true → Reads s table i (text-for s (name (row table i)))
   row-typed good typed =
-      typed-text s good (name (row table i)) (name-some (row table i) long padded-row) (right-name s table i (right i below)) typed table i (lookup-only s table right i below)
+      typed-text s good (name (row table i)) (name-some (row table i) long padded-row) (right-name s table i right) typed table i (own-name s table i below right)
 
   -- at most 19 bytes
   pub text-short : length (text-for s (name (row table i))) ≤ 19

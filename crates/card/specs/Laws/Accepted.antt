@@ -1,10 +1,11 @@
 -- What an accepted card has: delimiters of one class, conjunctions and a default kind within their limits, rows whose products are in
--- range, and names of which each is one row's alone. Assumes nothing.
+-- range, and names that are found where they stand. Assumes nothing.
 use mathlib.Core.Path.{_≡_, refl, sym, ap, _∙_}
 use mathlib.Core.Bool.{Bool, true, false, not, _||_, false≢true}
 use mathlib.Core.List.{List, []}
 use Prim.Native.Nat.{ℕ, zero, suc, _+_, _%_, _≤_, _<_}
 use native.Mathlib.Nat.{add-zero, zero-add, suc-add, add-suc, le-of-suc-le-suc}
+use native.Mathlib.Numerals.{add-one}
 use native.Mathlib.Omega.{arith}
 use lib.Dec.{eqb, leb, ltb}
 use lib.ListN.{length, getD}
@@ -22,7 +23,7 @@ use Rattle.rules.specs.SettingsAndUnitTable.{LETTER, OTHER, class, letters-of, 
 use Rattle.rules.specs.Laws.Choices.{if-either, and-left, and-right, or-neither}
 use Rattle.rules.specs.Laws.Tests.{between-from, between-to}
 use Rattle.rules.specs.Laws.Lists.{all-index, runs-below}
-use Rattle.rows.specs.Laws.Lookup.{same-refl, same-equal}
+use Rattle.rows.specs.Laws.Lookup.{same-refl, same-equal, rest-of-lookup, lookup-start, lookup-here, lookup-next}
 use Rattle.rows.specs.Laws.Rows.{length-row}
 use Rattle.card.specs.Laws.Names.{name-some}
 use Rattle.card.specs.Laws.Table.{row-both, right-padded, right-unnamed, right-in-range}
@@ -127,19 +128,6 @@ rows-good s table (suc n) i (suc k) e below =
     rw (add-suc i k, ← (suc-add i k))
     (rows-good s table n (suc i) k (chosen i (row-accepted s table i) (rows-check s table (suc i) n) e .1) (le-of-suc-le-suc below))
 
--- the rows before a row have other names
-names-before : (table wanted : List ℕ) (n i : ℕ) → named table wanted n ≡ false → i < n → same (name (row table i)) wanted ≡ false
-unfolding named
-names-before table wanted zero i e below = absurd (omega arith)
-names-before table wanted (suc n) i e below = go (eqb i n) refl (names-before table wanted n i (rest .1))
-  where
-    rest : (same (name (row table n)) wanted ≡ false) × (named table wanted n ≡ false)
-    rest = or-neither (same (name (row table n)) wanted) (named table wanted n) e
-
-    go : (t : Bool) → eqb i n ≡ t → (i < n → same (name (row table i)) wanted ≡ false) → same (name (row table i)) wanted ≡ false
-    go true h more = rw (eqb-true i n h) (rest .0)
-    go false h more = more (omega (arith, eqb-false i n h))
-
 module _ (s : Settings) (table : List ℕ) (good : table-check s table ≡ got tt) where
   pub rows-most : rows table ≤ most-rows
   unfolding table-check
@@ -157,21 +145,6 @@ module _ (s : Settings) (table : List ℕ) (good : table-check s table ≡ got t
   -- the bound that evaluation needs
   pub row-in-range : (i : ℕ) → i < rows table → in-range (product (row table i)) ≡ true
   row-in-range i below = right-in-range s table i (rows-right i below)
-
-module _ (s : Settings) (table : List ℕ) (right : (i : ℕ) → i < rows table → row-right s table i ≡ true) where
-  -- no two rows have one name
-  names-apart : (i j : ℕ) → i < j → j < rows table → name (row table i) ≡ name (row table j) → ⊥
-  names-apart i j before below e =
-      false≢true (sym (names-before table (name (row table j)) j i (right-unnamed s table j (right j below)) before) ∙ ap (λ n. same n (name (row table j))) e ∙ same-refl (name (row table j)))
-
-  pub name-only : (i j : ℕ) → i < rows table → j < rows table → name (row table i) ≡ name (row table j) → i ≡ j
-  name-only i j hi hj e = go (leb j i) refl (leb i j) refl
-    where
-      go : (t : Bool) → leb j i ≡ t → (u : Bool) → leb i j ≡ u → i ≡ j
-      go true p true q = omega (arith, leb-true j i p, leb-true i j q)
-      go true p false q = absurd (names-apart j i (leb-false i j q) hi (sym e))
-      go false p true q = absurd (names-apart i j (leb-false j i p) hj e)
-      go false p false q = absurd (names-apart i j (leb-false j i p) hj e)
 
 -- ---- lookup
 
@@ -218,15 +191,18 @@ module _ (table wanted : List ℕ) where
   pub lookup-nowhere : lookup table wanted ≡ Nowhere → (i : ℕ) → i < rows table → name (row table i) ≡ wanted → ⊥
   lookup-nowhere e i below = found-nowhere (rw e at looked-all) i (omega arith) (omega arith)
 
--- where all rows pass document 01's tests, the row with a name is the one that its lookup finds
-pub lookup-only : (s : Settings) (table : List ℕ) → ((i : ℕ) → i < rows table → row-right s table i ≡ true) → (i : ℕ) → i < rows table → lookup table (name (row table i)) ≡ Row i
-lookup-only s table right i below = go (lookup table (name (row table i))) refl
-  where
-    go : (f : Found) → lookup table (name (row table i)) ≡ f → f ≡ Row i
-    go (Row k) e =
-        let at-row = lookup-found table (name (row table i)) k e in
-        ap Row (name-only s table right k i (at-row .0) below (at-row .1))
-    go Nowhere e = absurd (lookup-nowhere table (name (row table i)) e i below refl)
+-- a lookup goes past rows that have other names
+past : (table wanted : List ℕ) (n : ℕ) → n ≤ rows table → named table wanted n ≡ false → lookup table wanted ≡ rest-of-lookup table wanted n
+unfolding named
+past table wanted zero most none = sym (lookup-start table wanted)
+past table wanted (suc n) most none =
+    let (other, others) = or-neither (same (name (row table n)) wanted) (named table wanted n) none in
+    past table wanted n (omega arith) others ∙ lookup-next table wanted n (omega arith) other ∙ ap (rest-of-lookup table wanted) (add-one n)
+
+-- so a row that passes document 01's tests is the one that its name finds, whatever the other rows are: no earlier row has the name
+pub own-name : (s : Settings) (table : List ℕ) (i : ℕ) → i < rows table → row-right s table i ≡ true → lookup table (name (row table i)) ≡ Row i
+own-name s table i below right =
+    past table (name (row table i)) i (omega arith) (right-unnamed s table i right) ∙ lookup-here table (name (row table i)) i below (same-refl (name (row table i)))
 
 -- and nothing has no name
 pub lookup-empty : (s : Settings) (table : List ℕ) → table-check s table ≡ got tt → lookup table [] ≡ Nowhere

@@ -12,7 +12,7 @@ either-requires-2 c κs = search needs
 
 returns : tie.Need-returns
 unfolding unnameable number-set
-returns c = cc
+returns c = rw (c .either2 .ensures, c .before .either .ensures)
 
 pub unnameable-spec : {M : Type 1} → statement M
 unnameable-spec = tie.close (tie.spec either-requires either-requires-2 returns)
