@@ -1,6 +1,6 @@
 -- A part is refused by 3 or 4 exactly at the digit at which its exponent passes the range, and so is the total, places counted in the whole
 -- text. Assumes nothing.
-use mathlib.Core.Path.{_≡_, refl, ap, _∙_}
+use mathlib.Core.Path.{_≡_, refl, sym, ap, _∙_}
 use mathlib.Core.Bool.{Bool, true, false}
 use mathlib.Core.List.{List}
 use mathlib.Core.Logic.{_↔_}
@@ -12,13 +12,13 @@ use Rattle.rules.specs.declared.Settings.{Settings}
 use Rattle.rules.specs.declared.Refusal.{Refusal}
 use Rattle.rules.specs.Common.{if_then_else_}
 use Rattle.rules.specs.ThePartOfTheCrateWeTake.{zero-length}
-use Rattle.rules.specs.NumbersHandedBack.{refused, number, position}
+use Rattle.rules.specs.NumbersHandedBack.{Outcome, refused, number, position, refusal}
 use Rattle.rules.specs.ReadingOnePart.{gap, sign-step, number-step, exponent-passed, exponent-step, unit-step, connection, infinity-step, infinite-part, finite-part, unsigned-part, part}
 use Rattle.rules.specs.Evaluation.{allowed, part-reading, sum, parts, total}
 use Rattle.rules.specs.Laws.Choices.{if-then, if-else}
-use Rattle.rules.specs.Laws.Outcomes.{All, all-got, all-refused, all-of, all-if, all-bind, itself, bind-got, bind-refused, Refused, not-refused, refused-by, the-cause, refused-map, refused-if, refused-bind}
+use Rattle.rules.specs.Laws.Outcomes.{All, all-got, all-refused, all-of, all-if, all-bind, itself, bind-got, bind-refused, Refused, not-refused, the-cause, refused-map, refused-if, refused-bind}
 use Rattle.rules.specs.Laws.Totals.{total-from, total-is, total-step}
-use Rattle.exponent_place.specs.TheWrongDigit.{minus-behind, Passed, after-number, WrongDigit, Reached, at-first, behind, out-of-range}
+use Rattle.exponent_place.specs.TheWrongDigit.{minus-behind, Passed, after-number, WrongDigit, Reached, at-first, behind, WrongInTotal, passed-at, out-of-range}
 use Rattle.exponent_place.specs.StepFour.{step-told, step-refuses}
 use Rattle.exponent_place.specs.NoOtherStep.{IfOutOfRange, by-other, sign-other, number-other, gap-other, unit-other, connection-other, infinity-other}
 
@@ -29,28 +29,50 @@ unfolding out-of-range number exponent-passed if_then_else_
 passed-number true q = refl
 passed-number false q = refl
 
--- number and position tell sign and place
-passed-same : {n m : Bool} {p q : ℕ} → exponent-passed n p ≡ exponent-passed m q → (n ≡ m) × (p ≡ q)
-unfolding number position exponent-passed if_then_else_
-passed-same {n} {m} {p} {q} same = go n m p q same
-  where
-    go : (n m : Bool) (p q : ℕ) → exponent-passed n p ≡ exponent-passed m q → (n ≡ m) × (p ≡ q)
-    go true true p q same = (refl, ap position same)
-    go false false p q same = (refl, ap position same)
-    go true false p q same = absurd (omega (arith, ap number same))
-    go false true p q same = absurd (omega (arith, ap number same))
+pub passed-answer : (negative : Bool) (q : ℕ) → refusal (exponent-passed negative q) ≡ passed-at negative q
+unfolding refusal number position exponent-passed if_then_else_
+passed-answer true q = refl
+passed-answer false q = refl
 
-same-digit : {s : Settings} {text : List ℕ} {from : ℕ} {n m : Bool} {p q : ℕ} → exponent-passed n p ≡ exponent-passed m q → WrongDigit s text from m q → WrongDigit s text from n p
-same-digit e wrong = let same = passed-same e in rw (same .0, same .1) wrong
+-- number and position tell sign and place, so what holds of the one's holds of the other's
+pub same-at : (X : Bool → ℕ → Type 0) (n m : Bool) {p q : ℕ} → passed-at n p ≡ passed-at m q → X m q → X n p
+unfolding if_then_else_
+same-at X n m same = go n m (ap (λ a. a .number) same) (ap (λ a. a .position) same)
+  where
+    go : (n m : Bool) {p q : ℕ} → _≡_ {A = ℕ} (if n then 4 else 3) (if m then 4 else 3) → p ≡ q → X m q → X n p
+    go true true number place x = rw place x
+    go false false number place x = rw place x
+    go true false number place x = absurd (omega arith)
+    go false true number place x = absurd (omega arith)
+
+same-passed : (X : Bool → ℕ → Type 0) {n m : Bool} {p q : ℕ} → exponent-passed n p ≡ exponent-passed m q → X m q → X n p
+same-passed X {n} {m} {p} {q} same = same-at X n m (sym (passed-answer n p) ∙ ap refusal same ∙ passed-answer m q)
+
+-- refused by 3 or 4, with a sign and a place of which X holds
+abbrev pub PassedWith : (Bool → ℕ → Type 0) → Refusal → Type 0
+PassedWith X cause = (negative : Bool) × (q : ℕ) × (cause ≡ exponent-passed negative q) × X negative q
+
+-- 3 and 4 come only with a sign and a place of which X holds, and they come wherever it holds
+pub record Exactly {A : Type 0} (X : Bool → ℕ → Type 0) (m : Outcome A) : Type 0 where
+  pub told : Refused (IfOutOfRange (PassedWith X)) m
+  pub given : (negative : Bool) (q : ℕ) → X negative q → m ≡ refused (exponent-passed negative q)
+
+exactly : {A : Type 0} {X : Bool → ℕ → Type 0} {m : Outcome A} → Exactly X m → (negative : Bool) (q : ℕ) → (m ≡ refused (exponent-passed negative q)) ↔ X negative q
+exactly {X = X} {m = m} found negative q = (there, found .given negative q)
+  where
+    there : m ≡ refused (exponent-passed negative q) → X negative q
+    there e =
+        let (_, _, same, x) = the-cause (found .told) e (passed-number negative q) in
+        same-passed X same x
 
 -- ---- a part
 
 module _ (s : Settings) (table text : List ℕ) where
   -- what the part that begins at `from` is refused with, if it is 3 or 4
-  abbrev pub PartTold : ℕ → Refusal → Type 0
-  PartTold from cause = (negative : Bool) × (q : ℕ) × (cause ≡ exponent-passed negative q) × WrongDigit s text from negative q
+  abbrev PartTold : ℕ → Refusal → Type 0
+  PartTold from = PassedWith (WrongDigit s text from)
 
-  pub part-told : (from : ℕ) → Refused (IfOutOfRange (PartTold from)) (part-reading s table text from)
+  part-told : (from : ℕ) → Refused (IfOutOfRange (PartTold from)) (part-reading s table text from)
   unfolding part-reading part unsigned-part finite-part infinite-part allowed after-number out-of-range number
   part-told from =
       refused-bind (part s table text from)
@@ -110,36 +132,37 @@ module _ (s : Settings) (table text : List ℕ) where
       ∙ bind-refused _ (step-refuses text (number .next) s q exponents passed)))))
       (λ _. all-refused)))
 
+  pub part-found : (from : ℕ) → Exactly (WrongDigit s text from) (part-reading s table text from)
+  part-found from = record {
+    told = part-told from;
+    given = λ negative q wrong.
+        all-of (part-refuses from) (wrong .step-four) q (wrong .exponents-on) (wrong .passed) ∙ ap (λ n. refused (exponent-passed n q)) (wrong .sign);
+  }
+
   -- the part is refused so exactly if its exponent passes the range there
   pub part-exactly : (from : ℕ) (negative : Bool) (q : ℕ) → (part-reading s table text from ≡ refused (exponent-passed negative q)) ↔ WrongDigit s text from negative q
-  part-exactly from negative q = (there, back)
-    where
-      there : part-reading s table text from ≡ refused (exponent-passed negative q) → WrongDigit s text from negative q
-      there refusal = let (_, _, same, wrong) = the-cause (part-told from) refusal (passed-number negative q) in same-digit same wrong
-
-      back : WrongDigit s text from negative q → part-reading s table text from ≡ refused (exponent-passed negative q)
-      back wrong = all-of (part-refuses from) (wrong .step-four) q (wrong .exponents-on) (wrong .passed) ∙ ap (λ n. refused (exponent-passed n q)) (wrong .sign)
+  part-exactly from = exactly (part-found from)
 
   -- so there is one such digit at most
   pub one-digit : (from : ℕ) {n m : Bool} {p q : ℕ} → WrongDigit s text from n p → WrongDigit s text from m q → (n ≡ m) × (p ≡ q)
   one-digit from {n} {m} {p} {q} one another =
-      passed-same (the-cause {P = λ cause. cause ≡ exponent-passed m q} (rw (part-exactly from m q .1 another) (refused-by refl)) (part-exactly from n p .1 one))
+      same-passed (λ n p. (n ≡ m) × (p ≡ q)) (cc (part-exactly from n p .1 one, part-exactly from m q .1 another)) (refl, refl)
 
   -- ---- the total
 
-  abbrev pub TotalTold : Refusal → Type 0
-  TotalTold cause = (from : ℕ) × Reached s table text from × PartTold from cause
+  abbrev TotalTold : Refusal → Type 0
+  TotalTold = PassedWith (WrongInTotal s table text)
 
   parts-told : (n place : ℕ) → Reached s table text place → Refused (IfOutOfRange TotalTold) (parts s table text n place)
   unfolding parts out-of-range number
   parts-told zero place h = by-other TotalTold _ refl
   parts-told (suc n) place h =
-      refused-bind (part-reading s table text place) (refused-map (part-told place) (λ cause told wrong. (place, h, told wrong)))
+      refused-bind (part-reading s table text place) (refused-map (part-told place) (λ cause told wrong. let (negative, q, is, digit) = told wrong in (negative, q, is, (place, h, digit))))
       (λ r read.
       refused-if (λ _. not-refused)
       (λ on. refused-bind (parts s table text n (r .next)) (parts-told n (r .next) (behind h read on)) (λ more _. not-refused)))
 
-  pub total-told : Refused (IfOutOfRange TotalTold) (total s table text)
+  total-told : Refused (IfOutOfRange TotalTold) (total s table text)
   unfolding total
   total-told = refused-bind (parts s table text (suc (length text)) 0) (parts-told (suc (length text)) 0 at-first) (λ lengths _. not-refused)
 
@@ -150,16 +173,14 @@ module _ (s : Settings) (table text : List ℕ) where
       let (so-far, same) = total-goes-on h in
       (sum so-far (r .length), same ∙ total-step s table text so-far place ∙ bind-got _ read ∙ if-else _ _ on)
 
-  -- the total is refused so exactly if the exponent of a part that it comes to read passes the range there
-  pub total-exactly : (negative : Bool) (q : ℕ) → (total s table text ≡ refused (exponent-passed negative q)) ↔ ((from : ℕ) × Reached s table text from × WrongDigit s text from negative q)
-  total-exactly negative q = (there, back)
-    where
-      there : total s table text ≡ refused (exponent-passed negative q) → (from : ℕ) × Reached s table text from × WrongDigit s text from negative q
-      there refusal =
-          let (from, reached, (_, _, same, wrong)) = the-cause total-told refusal (passed-number negative q) in
-          (from, reached, same-digit same wrong)
+  pub total-found : Exactly (WrongInTotal s table text) (total s table text)
+  total-found = record {
+    told = total-told;
+    given = λ negative q (from, reached, wrong).
+        let (so-far, same) = total-goes-on reached in
+        same ∙ total-step s table text so-far from ∙ bind-refused _ (part-exactly from negative q .1 wrong);
+  }
 
-      back : ((from : ℕ) × Reached s table text from × WrongDigit s text from negative q) → total s table text ≡ refused (exponent-passed negative q)
-      back (from, reached, wrong) =
-          let (so-far, same) = total-goes-on reached in
-          same ∙ total-step s table text so-far from ∙ bind-refused _ (part-exactly from negative q .1 wrong)
+  -- the total is refused so exactly if the exponent of a part that it comes to read passes the range there
+  pub total-exactly : (negative : Bool) (q : ℕ) → (total s table text ≡ refused (exponent-passed negative q)) ↔ WrongInTotal s table text negative q
+  total-exactly = exactly total-found

@@ -1,15 +1,17 @@
--- Request three: the exponent that step 4 reads, and the digit of it at which the range is passed. An exponent is named by the place of
--- its `e`. Assumes nothing.
+-- Request three: the exponent that step 4 reads, the digit of it at which the range is passed, and what is handed back for it. An exponent
+-- is named by the place of its `e`. Assumes nothing.
 use mathlib.Core.Path.{_≡_}
 use mathlib.Core.Bool.{Bool, true, false, _||_}
 use mathlib.Core.List.{List}
 use Prim.Native.Nat.{ℕ, suc, _+_, _≤_, _<_}
 use lib.Dec.{eqb}
 use lib.Seq.{slice}
+use Rattle.rules.specs.declared.Answer.{Answer}
 use Rattle.rules.specs.declared.Settings.{Settings}
 use Rattle.rules.specs.declared.Reading.{Reading}
 use Rattle.rules.specs.declared.Refusal.the-variants.{Nothing, NoNumber}
 use Rattle.rules.specs.Common.{if_then_else_, ends, sees, run}
+use Rattle.rules.specs.ThePartOfTheCrateWeTake.{zero-length}
 use Rattle.rules.specs.NumbersHandedBack.{Outcome, got, refused, _>>=_}
 use Rattle.rules.specs.SettingsAndUnitTable.{DIGIT, SIGN, POINT, is}
 use Rattle.rules.specs.ReadingOnePart.{same-letter, sign-step, number-step, exponent-limit}
@@ -66,7 +68,16 @@ pub data Reached (s : Settings) (table text : List ℕ) : ℕ → Type 0 where
   at-first : Reached s table text 0
   behind : {place : ℕ} {r : Reading} → Reached s table text place → part-reading s table text place ≡ got r → ends text (r .next) ≡ false → Reached s table text (r .next)
 
--- ---- the numbers that are handed back for an exponent out of range
+-- the wrong digit of a part that the total comes to read
+abbrev pub WrongInTotal : Settings → List ℕ → List ℕ → Bool → ℕ → Type 0
+WrongInTotal s table text negative place = (from : ℕ) × Reached s table text from × WrongDigit s text from negative place
 
+-- ---- what is handed back for an exponent out of range
+
+-- 3, or 4 for one below zero, at the place, with a zero length
+abbrev pub passed-at : Bool → ℕ → Answer
+passed-at negative place = record { number = if negative then 4 else 3; position = place; length = zero-length }
+
+-- these numbers
 unfoldable pub out-of-range : ℕ → Bool
 out-of-range number = eqb number 3 || eqb number 4

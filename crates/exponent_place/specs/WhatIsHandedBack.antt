@@ -1,9 +1,11 @@
--- What an entry says with 3 or 4: the position is the place, in the whole text, of the digit at which the exponent of a part passes the
--- range. Of every entry that reads, whatever its arguments. Assumes nothing.
+-- What an entry says with 3 or 4: the digit at which the exponent of a part that is read passes the range, places counted in the whole text;
+-- and it says so wherever there is one. Of every entry that reads, whatever its arguments. Assumes nothing.
 use mathlib.Core.Path.{_≡_, refl, sym, ap, _∙_}
 use mathlib.Core.Bool.{Bool, true, false, false≢true}
 use mathlib.Core.List.{List}
-use Prim.Native.Nat.{ℕ, zero, suc}
+use mathlib.Core.Logic.{_↔_}
+use Prim.Native.Nat.{ℕ, zero, suc, _≤_}
+use borrow.Author.Tests.{leb-true, le-leb}
 use lib.Dec.{leb}
 use lib.ListN.{length}
 use Rattle.rules.specs.declared.Answer.{Answer}
@@ -11,101 +13,171 @@ use Rattle.rules.specs.declared.Length.{Length}
 use Rattle.rules.specs.declared.Settings.{Settings}
 use Rattle.rules.specs.declared.Refusal.{Refusal}
 use Rattle.rules.specs.declared.Refusal.the-variants.{Delimiters, Conjunctions, DefaultKind, TableSize, TextTooLong, Beyond, Malformed}
-use Rattle.rules.specs.Common.{if_then_else_}
 use Rattle.rules.specs.ThePartOfTheCrateWeTake.{longest-text, well-formed}
-use Rattle.rules.specs.NumbersHandedBack.{_>>_, Outcome, got, refused, number, position, unless, done, refusal, answered}
+use Rattle.rules.specs.NumbersHandedBack.{_>>_, Outcome, got, refused, number, unless, done, refusal, answered}
 use Rattle.rules.specs.SettingsAndUnitTable.{settings-check, delimiters-accepted, conjunctions-accepted, rows, rows-check, table-check, card-check}
-use Rattle.rules.specs.ReadingOnePart.{exponent-passed}
 use Rattle.rules.specs.Evaluation.{total}
-use Rattle.rules.specs.WriterAndShiftTotal.{shifting}
-use Rattle.rules.specs.WhatEveryEntryOwes.{read-part, part-answer, read-total, total-answer, add-total, shift-answer}
-use Rattle.rules.specs.Laws.Outcomes.{Refused, not-refused, the-cause, refused-if, refused-bind, refused-then}
-use Rattle.exponent_place.specs.TheWrongDigit.{WrongDigit, Reached, out-of-range}
+use Rattle.rules.specs.WriterAndShiftTotal.{shifting, record-after}
+use Rattle.rules.specs.WhatEveryEntryOwes.{read-part, part-answer, read-total, total-answer, add-total, shift-answer, shifted-record}
+use Rattle.rules.specs.Laws.Outcomes.{bind-refused, Refused, not-refused, refused-by, the-cause, refused-map, refused-if, refused-bind, refused-then}
+use Rattle.exponent_place.specs.TheWrongDigit.{WrongDigit, WrongInTotal, passed-at, out-of-range}
 use Rattle.exponent_place.specs.NoOtherStep.{IfOutOfRange, by-other}
-use Rattle.exponent_place.specs.ExactlyThere.{PartTold, part-told, TotalTold, total-told}
-
--- 3 or 4 by the exponent's sign, and the position is that of the wrong digit of the part that begins at `from`
-abbrev pub Says : Settings → List ℕ → ℕ → Answer → Type 0
-Says s text from a = (negative : Bool) × (a .number ≡ (if negative then 4 else 3)) × WrongDigit s text from negative (a .position)
+use Rattle.exponent_place.specs.ExactlyThere.{passed-number, passed-answer, same-at, Exactly, part-found, total-found}
 
 -- ---- what comes before the text is read refuses by other numbers
 
-test-other : (X : Refusal → Type 0) (cause : Refusal) (test : Bool) → out-of-range (number cause) ≡ false → Refused (IfOutOfRange X) (unless cause test)
-unfolding unless
-test-other X cause true right = not-refused
-test-other X cause false right = by-other X cause right
+abbrev Other : {A : Type 0} → Outcome A → Type 0
+Other m = Refused (IfOutOfRange (λ _. ⊥)) m
 
-module _ (X : Refusal → Type 0) (s : Settings) (table : List ℕ) where
-  rows-other : (i n : ℕ) → Refused (IfOutOfRange X) (rows-check s table i n)
+test-other : (cause : Refusal) (test : Bool) → out-of-range (number cause) ≡ false → Other (unless cause test)
+unfolding unless
+test-other cause true right = not-refused
+test-other cause false right = by-other (λ _. ⊥) cause right
+
+module _ (s : Settings) (table : List ℕ) where
+  rows-other : (i n : ℕ) → Other (rows-check s table i n)
   unfolding rows-check out-of-range number
   rows-other i zero = not-refused
-  rows-other i (suc n) = refused-if (λ _. rows-other (suc i) n) (λ _. by-other X _ refl)
+  rows-other i (suc n) = refused-if (λ _. rows-other (suc i) n) (λ _. by-other (λ _. ⊥) _ refl)
 
-  card-other : Refused (IfOutOfRange X) (card-check s table)
+  card-other : Other (card-check s table)
   unfolding card-check settings-check table-check out-of-range number
   card-other =
       refused-then (settings-check s)
-      (refused-then (unless Delimiters (delimiters-accepted s)) (test-other X Delimiters _ refl)
-      (refused-then (unless Conjunctions (conjunctions-accepted s)) (test-other X Conjunctions _ refl)
-      (test-other X DefaultKind _ refl)))
-      (refused-then (unless TableSize _) (test-other X TableSize _ refl) (rows-other 0 (rows table)))
+      (refused-then (unless Delimiters (delimiters-accepted s)) (test-other Delimiters _ refl)
+      (refused-then (unless Conjunctions (conjunctions-accepted s)) (test-other Conjunctions _ refl)
+      (test-other DefaultKind _ refl)))
+      (refused-then (unless TableSize _) (test-other TableSize _ refl) (rows-other 0 (rows table)))
 
--- ---- an answer with 3 or 4 is a refusal
+-- ---- behind a check 3 and 4 come as without it, if it has passed
 
-named : {A : Type 0} (show : A → Answer) (m : Outcome A) → ((a : A) → (show a) .number ≡ 0) → out-of-range ((answered show m) .number) ≡ true → (cause : Refusal) × (m ≡ refused cause) × (answered show m ≡ refusal cause) × (out-of-range (number cause) ≡ true)
-unfolding answered refusal out-of-range
-named show (got a) read wrong = absurd (false≢true (sym (ap out-of-range (read a)) ∙ wrong))
-named show (refused cause) read wrong = (cause, refl, refl, wrong)
+module _ {A C : Type 0} {X : Bool → ℕ → Type 0} {next : Outcome A} (found : Exactly X next) where
+  checked : (check : Outcome (Unit {0})) → Other check → (check ≡ got tt → C) → (C → check ≡ got tt) → Exactly (λ negative q. C × X negative q) (check >> next)
+  unfolding _>>_
+  checked (got tt) other there back = record {
+    told = refused-map (found .told) (λ cause told wrong. let (negative, q, is, x) = told wrong in (negative, q, is, (there refl, x)));
+    given = λ negative q h. found .given negative q (h .1);
+  }
+  checked (refused cause) other there back = record {
+    told = refused-by (λ wrong. absurd (the-cause other refl wrong));
+    given = λ negative q h. cc (back (h .0));
+  }
 
-says : (s : Settings) (table text : List ℕ) (from : ℕ) {a : Answer} {cause : Refusal} → a ≡ refusal cause → PartTold s table text from cause → Says s text from a
-unfolding refusal number position exponent-passed if_then_else_
-says s table text from answer (negative, q, same, wrong) = rw (answer, same) (go negative wrong)
-  where
-    go : (negative : Bool) → WrongDigit s text from negative q → Says s text from (refusal (exponent-passed negative q))
-    go true wrong = (true, refl, wrong)
-    go false wrong = (false, refl, wrong)
+  tested : (cause : Refusal) (test : Bool) → out-of-range (number cause) ≡ false → (test ≡ true → C) → (C → test ≡ true) → Exactly (λ negative q. C × X negative q) (unless cause test >> next)
+  unfolding unless
+  tested cause test right there back = checked (unless cause test) (test-other cause test right) (λ e. there (passed test e)) (λ c. rw (back c))
+    where
+      passed : (test : Bool) → unless cause test ≡ got tt → test ≡ true
+      passed true e = refl
+      passed false e = cc
 
--- ---- the entries
+-- ---- however it is handed back
+
+-- the answer is 3 or 4, with a sign and a place of which X holds
+abbrev pub Says : (Bool → ℕ → Type 0) → Answer → Type 0
+Says X a = (negative : Bool) × (q : ℕ) × (a ≡ passed-at negative q) × X negative q
+
+module _ {A : Type 0} (show : A → Answer) (read : (a : A) → (show a) .number ≡ 0) where
+  -- an answer with 3 or 4 is a refusal
+  named : (m : Outcome A) → out-of-range ((answered show m) .number) ≡ true → (cause : Refusal) × (m ≡ refused cause) × (answered show m ≡ refusal cause) × (out-of-range (number cause) ≡ true)
+  unfolding answered refusal out-of-range
+  named (got a) wrong = absurd (false≢true (sym (ap out-of-range (read a)) ∙ wrong))
+  named (refused cause) wrong = (cause, refl, refl, wrong)
+
+  module _ {X : Bool → ℕ → Type 0} {m : Outcome A} (found : Exactly X m) where
+    says : out-of-range ((answered show m) .number) ≡ true → Says X (answered show m)
+    says wrong =
+        let (cause, is, answer, out) = named m wrong in
+        let (negative, q, same, x) = the-cause (found .told) is out in
+        (negative, q, answer ∙ ap refusal same ∙ passed-answer negative q, x)
+
+    handed-back : (negative : Bool) (q : ℕ) → (answered show m ≡ passed-at negative q) ↔ X negative q
+    unfolding answered refusal
+    handed-back negative q = (there, λ x. ap (answered show) (found .given negative q x) ∙ passed-answer negative q)
+      where
+        there : answered show m ≡ passed-at negative q → X negative q
+        there e =
+            let (n, _, same, x) = says (ap (λ a. out-of-range (a .number)) (e ∙ sym (passed-answer negative q)) ∙ passed-number negative q) in
+            same-at X negative n (sym e ∙ same) x
+
+-- ---- the entries: what 3 or 4 says, and that 3, or 4 for a minus, is handed back with q exactly if the checks pass and the wrong digit
+-- stands there
 
 module _ (s : Settings) (table text : List ℕ) where
-  -- each checks the card and the text's length first
-  card-then : {A : Type 0} (X : Refusal → Type 0) {next : Outcome A} → Refused (IfOutOfRange X) next → Refused (IfOutOfRange X) (card-check s table >> next)
-  card-then X h = refused-then (card-check s table) (card-other X s table) h
+  card-then : {A : Type 0} {X : Bool → ℕ → Type 0} {next : Outcome A} → Exactly X next → Exactly (λ negative q. (card-check s table ≡ got tt) × X negative q) (card-check s table >> next)
+  card-then found = checked found (card-check s table) (card-other s table) (λ e. e) (λ e. e)
 
-  short-then : {A : Type 0} (X : Refusal → Type 0) {next : Outcome A} → Refused (IfOutOfRange X) next → Refused (IfOutOfRange X) (unless TextTooLong (leb (length text) longest-text) >> next)
+  short-then : {A : Type 0} {X : Bool → ℕ → Type 0} {next : Outcome A} → Exactly X next → Exactly (λ negative q. (length text ≤ longest-text) × X negative q) (unless TextTooLong (leb (length text) longest-text) >> next)
   unfolding out-of-range number
-  short-then X h = refused-then (unless TextTooLong (leb (length text) longest-text)) (test-other X TextTooLong _ refl) h
+  short-then found = tested found TextTooLong (leb (length text) longest-text) refl (leb-true (length text) longest-text) (le-leb (length text) longest-text)
 
-  pub part-says : (place : ℕ) → out-of-range ((part-answer s table text place) .number) ≡ true → Says s text place (part-answer s table text place)
-  unfolding part-answer read-part done out-of-range number
-  part-says place wrong =
-      let (cause, m, answer, out) = named _ (read-part s table text place) (λ r. refl) wrong in
-      says s table text place answer (the-cause checked m out)
-    where
-      checked : Refused (IfOutOfRange (PartTold s table text place)) (read-part s table text place)
-      checked =
-          card-then (PartTold s table text place)
-          (short-then (PartTold s table text place)
-          (refused-then (unless (Beyond place) (leb place (length text))) (test-other (PartTold s table text place) (Beyond place) _ refl)
-          (part-told s table text place)))
+  -- ---- a part
 
-  -- 3 or 4 of a text's total, however it is handed back
-  total-tells : {A : Type 0} (show : A → Answer) (m : Outcome A) → ((a : A) → (show a) .number ≡ 0) → Refused (IfOutOfRange (TotalTold s table text)) m → out-of-range ((answered show m) .number) ≡ true → (from : ℕ) × Reached s table text from × Says s text from (answered show m)
-  total-tells show m read checked wrong =
-      let (cause, is, answer, out) = named show m read wrong in
-      let (from, reached, told) = the-cause checked is out in
-      (from, reached, says s table text from answer told)
+  module _ (place : ℕ) where
+    -- the checks pass, and the wrong digit of the part that begins at the place stands at q
+    abbrev pub InPart : Bool → ℕ → Type 0
+    InPart negative q = (card-check s table ≡ got tt) × ((length text ≤ longest-text) × ((place ≤ length text) × WrongDigit s text place negative q))
 
-  pub total-says : out-of-range ((total-answer s table text) .number) ≡ true → (from : ℕ) × Reached s table text from × Says s text from (total-answer s table text)
-  unfolding total-answer read-total done
-  total-says wrong =
-      total-tells _ (read-total s table text) (λ r. refl)
-      (card-then (TotalTold s table text) (short-then (TotalTold s table text) (total-told s table text))) wrong
+    part-entry : Exactly InPart (read-part s table text place)
+    unfolding read-part out-of-range number
+    part-entry =
+        card-then
+        (short-then
+        (tested (part-found s table text place) (Beyond place) (leb place (length text)) refl (leb-true place (length text)) (le-leb place (length text))))
 
-  pub shift-says : (so-far : Length) → out-of-range ((shift-answer so-far s table text) .number) ≡ true → (from : ℕ) × Reached s table text from × Says s text from (shift-answer so-far s table text)
-  unfolding shift-answer add-total shifting done out-of-range number
-  shift-says so-far wrong =
-      total-tells _ (add-total so-far s table text) (λ r. refl)
-      (card-then (TotalTold s table text)
-      (refused-then (unless Malformed (well-formed so-far)) (test-other (TotalTold s table text) Malformed _ refl)
-      (short-then (TotalTold s table text) (refused-bind (total s table text) (total-told s table text) (λ l _. not-refused))))) wrong
+    pub part-says : out-of-range ((part-answer s table text place) .number) ≡ true → Says InPart (part-answer s table text place)
+    unfolding part-answer done
+    part-says = says _ (λ r. refl) part-entry
+
+    pub part-answer-exactly : (negative : Bool) (q : ℕ) → (part-answer s table text place ≡ passed-at negative q) ↔ InPart negative q
+    unfolding part-answer done
+    part-answer-exactly = handed-back _ (λ r. refl) part-entry
+
+  -- ---- a text's total
+
+  -- the checks pass, and the wrong digit of a part that the total comes to read stands at q
+  abbrev pub InTotal : Bool → ℕ → Type 0
+  InTotal negative q = (card-check s table ≡ got tt) × ((length text ≤ longest-text) × WrongInTotal s table text negative q)
+
+  total-entry : Exactly InTotal (read-total s table text)
+  unfolding read-total
+  total-entry = card-then (short-then (total-found s table text))
+
+  pub total-says : out-of-range ((total-answer s table text) .number) ≡ true → Says InTotal (total-answer s table text)
+  unfolding total-answer done
+  total-says = says _ (λ l. refl) total-entry
+
+  pub total-answer-exactly : (negative : Bool) (q : ℕ) → (total-answer s table text ≡ passed-at negative q) ↔ InTotal negative q
+  unfolding total-answer done
+  total-answer-exactly = handed-back _ (λ l. refl) total-entry
+
+  -- ---- a text's total, added to a record
+
+  module _ (so-far : Length) where
+    -- the same, and the record is well-formed
+    abbrev pub InShift : Bool → ℕ → Type 0
+    InShift negative q = (card-check s table ≡ got tt) × ((well-formed so-far ≡ true) × ((length text ≤ longest-text) × WrongInTotal s table text negative q))
+
+    added : Exactly (WrongInTotal s table text) (shifting so-far (total s table text))
+    unfolding shifting
+    added = record {
+      told = refused-bind (total s table text) ((total-found s table text) .told) (λ l _. not-refused);
+      given = λ negative q wrong. bind-refused _ ((total-found s table text) .given negative q wrong);
+    }
+
+    shift-entry : Exactly InShift (add-total so-far s table text)
+    unfolding add-total out-of-range number
+    shift-entry = card-then (tested (short-then added) Malformed (well-formed so-far) refl (λ e. e) (λ e. e))
+
+    pub shift-says : out-of-range ((shift-answer so-far s table text) .number) ≡ true → Says InShift (shift-answer so-far s table text)
+    unfolding shift-answer done
+    shift-says = says _ (λ l. refl) shift-entry
+
+    pub shift-answer-exactly : (negative : Bool) (q : ℕ) → (shift-answer so-far s table text ≡ passed-at negative q) ↔ InShift negative q
+    unfolding shift-answer done
+    shift-answer-exactly = handed-back _ (λ l. refl) shift-entry
+
+    -- and the record stays as it was
+    pub shift-stays : out-of-range ((shift-answer so-far s table text) .number) ≡ true → shifted-record so-far s table text ≡ so-far
+    unfolding shift-answer shifted-record record-after done
+    shift-stays wrong = rw (named _ (λ l. refl) (add-total so-far s table text) wrong .1)
