@@ -5,7 +5,10 @@ use mathlib.Core.List.{[], _∷_}
 use Prim.Native.Nat.{ℕ}
 use Prim.Native.String.{String}
 use lib.Dec.{eqb}
+use lib.ListN.{replicate}
+use Rattle.rules.specs.declared.Refusal.the-variants.{TextTooLong, NotIso}
 use Rattle.rules.specs.Common.{ascii, all, same}
+use Rattle.rules.specs.NumbersHandedBack.{refusal}
 use Rattle.iso.specs.IsoTimings.{iso-answer, iso-written}
 use Rattle.iso.specs.Computing.{computing-iso}
 
@@ -75,3 +78,13 @@ pub written : (
     && writes 18446744073709551615 999999999 "PT5124095576030431H15.999999999S") ≡ true
 unfolding writes computing-iso
 written = refl
+
+-- a right text has any length; the limit of 4,096 bytes is asked before. So `P` and 4,095 digits, which begin only right texts that are too
+-- long, are 12 at their end; with one digit more they are 8
+pub at-the-limit : iso-answer (80 ∷ replicate 4095 49) ≡ refusal (NotIso 4096)
+unfolding computing-iso
+at-the-limit = refl
+
+pub past-the-limit : iso-answer (80 ∷ replicate 4096 49) ≡ refusal TextTooLong
+unfolding computing-iso
+past-the-limit = refl

@@ -14,7 +14,7 @@ use Rattle.iso.specs.Laws.Sound.{sound}
 use Rattle.iso.specs.Laws.Begins.{Reads, Begins}
 use Rattle.iso.specs.Laws.Refused.{At, AtYearOrMonth, refused-begins, refused-barred, refused-unread, refused-there, refused-at-end, year-or-month-from, year-or-month-to}
 
--- a right text
+-- a right text, of any length
 abbrev pub Right : List ℕ → Type 0
 Right text = (cs : List Component) × (right cs ≡ true) × (spelling cs ≡ text)
 
