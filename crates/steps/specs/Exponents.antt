@@ -1,11 +1,11 @@
 -- Laws of an exponent's digits, one after another. Assumes nothing.
-use mathlib.Core.Path.{_≡_, refl, sym, ap, _∙_}
+use mathlib.Core.Path.{_≡_, refl, ap}
 use mathlib.Core.Bool.{Bool, true, false}
 use mathlib.Core.List.{List}
 use Prim.Native.Nat.{ℕ, _+_, _*_, _-_, _≤_, _<_}
 use native.Mathlib.Numerals.{add-one}
 use native.Mathlib.Omega.{arith}
-use borrow.Author.Tests.{le-leb, lt-leb, eqb-true}
+use borrow.Author.Tests.{le-leb, lt-leb}
 use lib.Dec.{eqb, lit≤}
 use lib.ListN.{length, getD, drop, drop-of-length-le}
 use lib.Seq.{drop-cons}
@@ -13,12 +13,12 @@ use Rattle.rules.specs.declared.Settings.{Settings}
 use Rattle.rules.specs.declared.Scaled.{Scaled}
 use Rattle.rules.specs.declared.Signed.{Signed}
 use Rattle.rules.specs.declared.Refusal.the-variants.{ExponentOff, ExponentByte, ExponentEnds}
-use Rattle.rules.specs.Common.{if_then_else_, between, ends, sees}
+use Rattle.rules.specs.Common.{if_then_else_, ends, sees}
 use Rattle.rules.specs.NumbersHandedBack.{Outcome, got, refused}
-use Rattle.rules.specs.SettingsAndUnitTable.{DIGIT, SIGN, class, is}
+use Rattle.rules.specs.SettingsAndUnitTable.{DIGIT, SIGN, is}
 use Rattle.rules.specs.ReadingOnePart.{same-letter, exponent-limit, exponent-passed, exponent-digits, exponent-number, exponent-step}
-use Rattle.rules.specs.Laws.Tests.{eqb-sym}
 use Rattle.rules.specs.Laws.Texts.{sees-here, sees-end}
+use Rattle.steps.specs.Signs.{sign-at}
 
 pub limit-small : (negative : Bool) → exponent-limit negative ≤ 32768
 unfolding exponent-limit if_then_else_
@@ -72,40 +72,6 @@ module _ (text : List ℕ) (negative : Bool) (place : ℕ) where
     unfolding exponent-number if_then_else_
     number-digits e = rw (sees-here (is DIGIT) text place h, e)
 
--- ---- the sign, if there is one: minus or not, and the place after it
-
-unfoldable pub exponent-sign : List ℕ → ℕ → Signed
-exponent-sign text place = record { negative = sees (eqb 45) text place; next = if sees (is SIGN) text place then place + 1 else place }
-
-no-minus : (b : ℕ) → is SIGN b ≡ false → eqb 45 b ≡ false
-unfolding is class between if_then_else_
-no-minus b e = go (eqb 45 b) refl
-  where
-    minus : is SIGN 45 ≡ true
-    minus = refl
-
-    go : (c : Bool) → eqb 45 b ≡ c → c ≡ false
-    go true f = sym (sym e ∙ ap (is SIGN) (sym (eqb-true 45 b f)) ∙ minus)
-    go false f = refl
-
-module _ (text : List ℕ) (place : ℕ) where
-  pub sign-ends : length text ≤ place → _≡_ {A = Signed} (record { negative = false; next = place }) (exponent-sign text place)
-  unfolding exponent-sign if_then_else_
-  sign-ends h = rw (sees-end (eqb 45) text place h, sees-end (is SIGN) text place h)
-
-  module _ (h : place < length text) where
-    pub sign-none :
-        is SIGN (getD text place 0) ≡ false
-        → _≡_ {A = Signed} (record { negative = false; next = place }) (exponent-sign text place)
-    unfolding exponent-sign if_then_else_
-    sign-none e = rw (sees-here (eqb 45) text place h, sees-here (is SIGN) text place h, e, no-minus (getD text place 0) e)
-
-    pub sign-there :
-        is SIGN (getD text place 0) ≡ true
-        → _≡_ {A = Signed} (record { negative = eqb (getD text place 0) 45; next = place + 1 }) (exponent-sign text place)
-    unfolding exponent-sign if_then_else_
-    sign-there e = rw (sees-here (eqb 45) text place h, sees-here (is SIGN) text place h, e, eqb-sym 45 (getD text place 0))
-
 -- ---- the whole step
 
 module _ (s : Settings) (text : List ℕ) (place : ℕ) where
@@ -121,9 +87,9 @@ module _ (s : Settings) (text : List ℕ) (place : ℕ) where
     pub exponent-on :
         s .exponents ≡ true
         → {sign : Signed}
-        → sign ≡ exponent-sign text (place + 1)
+        → sign ≡ sign-at text (place + 1)
         → exponent-number text (sign .negative) (sign .next) ≡ exponent-step s text place
-    unfolding exponent-step exponent-sign if_then_else_
+    unfolding exponent-step sign-at if_then_else_
     exponent-on on f = rw (e, on, f) (ap (exponent-number text (sees (eqb 45) text (place + 1))) (after (sees (is SIGN) text (place + 1))))
       where
         after : (c : Bool) → (if c then place + 1 + 1 else place + 1) ≡ (if c then place + 2 else place + 1)

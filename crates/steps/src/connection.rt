@@ -60,8 +60,9 @@ pub fn try_consume_connection(s: Settings, text: &[u8], place: usize) -> Next
     if !is_delimiter(outer, text, place) {
         return Next::At(place);
     }
-    match try_consume_delimiter(outer, text, place) {
-        Next::Refused(cause) => Next::Refused(cause),
+    let run = try_consume_delimiter(outer, text, place);
+    match run {
+        Next::Refused(_) => run,
         Next::At(word) => {
             let size = conjunction_size(s, text, word) as usize;
             if size == 0 {

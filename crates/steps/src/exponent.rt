@@ -5,14 +5,12 @@ ghost use Rattle.rules.specs.declared.Settings.{Settings};
 ghost use Rattle.rules.specs.Common.{sees};
 ghost use Rattle.rules.specs.ReadingOnePart.{same-letter, exponent-limit, exponent-passed, exponent-digits, exponent-number, exponent-step};
 ghost use Rattle.steps.specs.Outcomes.{scaled};
-ghost use Rattle.steps.specs.Exponents.{exponent-sign};
 use crate::bytes::is_digit;
-use crate::bytes::is_sign;
 use crate::bytes::lower;
+use crate::sign::sign_at;
 use rules::Exponent;
 use rules::Refusal;
 use rules::Scaled;
-use rules::Signed;
 
 pub enum ScaledRead {
     Got(Scaled),
@@ -87,29 +85,6 @@ fn is_exponent(text: &[u8], place: usize) -> bool
     lower(text[place]) == b'e'
 }
 
-// The optional sign of an exponent.
-fn exponent_sign(text: &[u8], place: usize) -> Signed
-    ensures { λ r. ⌜ r ≡ exponent-sign (now (text .entry)) place ⌝ }
-{
-    if text.len() <= place {
-        return Signed {
-            negative: false,
-            next: place,
-        };
-    }
-    let byte = text[place];
-    if is_sign(byte) {
-        return Signed {
-            negative: byte == b'-',
-            next: place + 1,
-        };
-    }
-    Signed {
-        negative: false,
-        next: place,
-    }
-}
-
 pub fn parse_number_exponent(exponents: bool, text: &[u8], place: usize) -> ScaledRead
     ensures { λ r. ⌜ ((s : Settings) → s .exponents ≡ exponents → scaled r ≡ exponent-step s (now (text .entry)) place) ⌝ }
 {
@@ -119,6 +94,6 @@ pub fn parse_number_exponent(exponents: bool, text: &[u8], place: usize) -> Scal
     if !exponents {
         return ScaledRead::Refused(Refusal::ExponentOff(place));
     }
-    let sign = exponent_sign(text, place + 1);
+    let sign = sign_at(text, place + 1);
     parse_exponent(text, sign.negative, sign.next)
 }

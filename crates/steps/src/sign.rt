@@ -3,6 +3,7 @@ ghost use mathlib.Core.Path.{_≡_};
 ghost use Rattle.rules.specs.declared.Settings.{Settings};
 ghost use Rattle.rules.specs.ReadingOnePart.{sign-step};
 ghost use Rattle.steps.specs.Outcomes.{signed};
+ghost use Rattle.steps.specs.Signs.{sign-at};
 use crate::Next;
 use crate::bytes::is_sign;
 use crate::delimiters::parse_number_delimiter;
@@ -15,32 +16,46 @@ pub enum SignRead {
     Refused(Refusal),
 }
 
-// The sign, and the delimiters after it. A place with no sign is a plus that takes no byte.
+// A sign, if there is one, and the place after it. A place with no sign is a plus that takes no byte.
+pub fn sign_at(text: &[u8], place: usize) -> Signed
+    ensures { λ r. ⌜ r ≡ sign-at (now (text .entry)) place ⌝ }
+{
+    if text.len() <= place {
+        return Signed {
+            negative: false,
+            next: place,
+        };
+    }
+    let byte = text[place];
+    if is_sign(byte) {
+        return Signed {
+            negative: byte == b'-',
+            next: place + 1,
+        };
+    }
+    Signed {
+        negative: false,
+        next: place,
+    }
+}
+
+// The sign, and the delimiters after it.
 pub fn parse_number_sign(after_sign: bool, inner: ByteSet, text: &[u8], place: usize) -> SignRead
     ensures { λ r. ⌜ ((s : Settings) → s .«after_sign» ≡ «after_sign» → s .inner ≡ inner → signed r ≡ sign-step s (now (text .entry)) place) ⌝ }
 {
-    if text.len() <= place {
-        return SignRead::Got(Signed {
-            negative: false,
-            next: place,
-        });
+    let sign = sign_at(text, place);
+    let after = sign.next;
+    if after == place {
+        return SignRead::Got(sign);
     }
-    let byte = text[place];
-    if !is_sign(byte) {
-        return SignRead::Got(Signed {
-            negative: false,
-            next: place,
-        });
-    }
-    let after = place + 1;
     if text.len() <= after {
         return SignRead::Refused(Refusal::SignEnds(after));
     }
     match parse_number_delimiter(after_sign, inner, text, after) {
+        Next::Refused(cause) => SignRead::Refused(cause),
         Next::At(next) => SignRead::Got(Signed {
-            negative: byte == b'-',
+            negative: sign.negative,
             next,
         }),
-        Next::Refused(cause) => SignRead::Refused(cause),
     }
 }

@@ -121,6 +121,15 @@ run-digits text place = run-same (between 48 57) (is DIGIT) digit-between text p
 pub run-zeros : (text : List ℕ) (place : ℕ) → run (between 48 48) text place ≡ run (eqb 48) text place
 run-zeros text place = run-same (between 48 48) (eqb 48) (between-itself 48) text place
 
+-- what a run that was passed by eights comes to, of digits and of zeros
+pub digits-end : (text : List ℕ) (place next end : ℕ) → run (between 48 (last false)) text next ≡ run (between 48 (last false)) text place → end ≡ run (between 48 57) text next → end ≡ run (is DIGIT) text place
+unfolding last if_then_else_
+digits-end text place next end e h = h ∙ e ∙ run-digits text place
+
+pub zeros-end : (text : List ℕ) (place next end : ℕ) → run (between 48 (last true)) text next ≡ run (between 48 (last true)) text place → end ≡ run (between 48 48) text next → end ≡ run (eqb 48) text place
+unfolding last if_then_else_
+zeros-end text place next end e h = h ∙ e ∙ run-zeros text place
+
 zero-digit : (b : ℕ) → eqb 48 b ≡ true → is DIGIT b ≡ true
 unfolding is class between if_then_else_
 zero-digit b e = rw (← (eqb-true 48 b e))
@@ -228,6 +237,13 @@ module _ (start end count : ℕ) {cut : ℕ} (at : cut ≡ start + min count (en
   pub cut-within : start ≤ end → cut ≤ end
   cut-within h = omega arith
 
+  -- also where the span ends before it starts, if a place from the start on lies before the cut
+  pub cut-inside : {place : ℕ} → start ≤ place → place < cut → cut ≤ end
+  cut-inside h k = omega arith
+
+  pub cut-after : start ≤ cut
+  cut-after = omega arith
+
   pub cut-count : cut - start ≤ count
   cut-count = omega arith
 
@@ -255,6 +271,9 @@ unfolding spelled
 spelled-grows n [] = le-refl n
 spelled-grows n (d ∷ ds) = le-trans (omega arith) (spelled-grows (n * 10 + (d - 48)) ds)
 
+pub digit-small : (b : ℕ) → is DIGIT b ≡ true → b - 48 ≤ 9
+digit-small b e = omega (arith, digit-high b e)
+
 -- what is left to read of a span: digits, which after the number so far spell the whole number
 pub record Unread (text : List ℕ) (end whole number place : ℕ) : Type 0 where
   pub spells : spelled number (slice place end text) ≡ whole
@@ -278,6 +297,9 @@ module _ {text : List ℕ} {end whole number place : ℕ} (u : Unread text end w
 
   pub unread-grows : number * 10 + (getD text place 0 - 48) ≤ whole
   unread-grows = rw (← (unread-more .spells)) (spelled-grows (number * 10 + (getD text place 0 - 48)) (slice (place + 1) end text))
+
+  pub unread-passes : {byte bound : ℕ} → byte ≡ getD text place 0 → bound ≤ number * 10 + (byte - 48) → bound ≤ whole
+  unread-passes e b = le-trans (rw e at b) unread-grows
 
 pub spelled-append : (n : ℕ) (ds es : List ℕ) → spelled n (ds ++ es) ≡ spelled (spelled n ds) es
 unfolding spelled

@@ -281,6 +281,13 @@ unfolding attos
 attos-exact n f up down k e h =
     sym (rw (ten-sum (18 - k) (f + down) (18 + up) (omega arith), ← (mul-assoc n (10 ^ (18 - k)) (10 ^ (f + down)))) (mul-div-cancel (n * 10 ^ (18 - k)) (ten-pos (f + down))))
 
+-- with none, and with as many as stand behind the point
+pub attos-whole : (n f up down : ℕ) → up ≡ f + down → n * 10 ^ 18 ≡ attos n f up down
+attos-whole n f up down e = attos-exact n f up down 0 (omega arith) (omega arith)
+
+pub attos-few : (n f up down : ℕ) → up < f + down → f + down - up ≤ 9 → n * 10 ^ (18 - (f + down - up)) ≡ attos n f up down
+attos-few n f up down h few = attos-exact n f up down (f + down - up) (omega arith) (omega arith)
+
 -- with no more than nine they are whole nanoseconds
 pub nanos-attos : (n k : ℕ) → k ≤ 9 → {nanos : ℕ} → nanos ≡ n * 10 ^ (9 - k) → n * 10 ^ (18 - k) ≡ nanos / 10 ^ 9 * 10 ^ 18 + nanos % 10 ^ 9 * 10 ^ 9
 nanos-attos n k h {nanos} e = rw (ten-sum (9 - k) 9 (18 - k) (omega arith), ← (mul-assoc n (10 ^ (9 - k)) (10 ^ 9)), ← e) (omega arith)

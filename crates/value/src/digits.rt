@@ -1,8 +1,8 @@
 // Digits of a text: where a run of them ends, and the number that they spell.
 ghost use mathlib.Core.Path.{_≡_};
 ghost use mathlib.Core.Bool.{true};
-ghost use Prim.Native.Nat.{_+_, _-_, _≤_, _<_, _^_, min};
-ghost use lib.Dec.{eqb};
+ghost use Prim.Native.Nat.{_+_, _*_, _-_, _≤_, _<_, _^_, min};
+ghost use lib.Dec.{eqb, ltb};
 ghost use lib.ListN.{length, take, drop};
 ghost use lib.Seq.{slice};
 ghost use Rattle.rules.specs.Common.{all, between, run};
@@ -121,6 +121,20 @@ pub fn place_within(start: usize, end: usize, count: usize) -> usize
     start + count
 }
 
+// Whether a u64 holds a number with one more digit behind it.
+fn takes_digit(number: u64, digit: u64) -> bool
+    requires { ⌜ digit ≤ 9 ⌝ }
+    ensures { λ r. ⌜ r ≡ ltb (number * 10 + digit) (2 ^ 64) ⌝ }
+{
+    if number < MOST_TENS {
+        return true;
+    }
+    if MOST_TENS < number {
+        return false;
+    }
+    digit <= LAST_DIGIT
+}
+
 // The digits of a span after those that spelled so_far. A number only grows, so the first overflow decides.
 pub fn append_digits(so_far: u64, text: &[u8], start: usize, end: usize) -> Word
     requires { ⌜ end ≤ length (now text) ⌝ }
@@ -131,13 +145,8 @@ pub fn append_digits(so_far: u64, text: &[u8], start: usize, end: usize) -> Word
     let mut place = start;
     while place < end {
         let digit = wide(text[place]) - ZERO;
-        if MOST_TENS <= number {
-            if MOST_TENS < number {
-                return Word::TooLarge;
-            }
-            if LAST_DIGIT < digit {
-                return Word::TooLarge;
-            }
+        if !takes_digit(number, digit) {
+            return Word::TooLarge;
         }
         number = number * 10 + digit;
         place += 1;

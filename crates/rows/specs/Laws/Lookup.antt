@@ -73,6 +73,10 @@ module _ (table wanted : List ℕ) where
       let counted : rows table - i ≡ suc (rows table - (i + 1)) = omega arith in
       rw (counted, e, add-one i)
 
+-- what a row's name was asked, in terms of the table
+pub name-asked : (table wanted : List ℕ) (i : ℕ) {part found : List ℕ} {r : Bool} → part ≡ row table i → found ≡ name part → r ≡ same found wanted → r ≡ same (name (row table i)) wanted
+name-asked table wanted i e f h = h ∙ ap (λ (l : List ℕ). same l wanted) (f ∙ ap name e)
+
 -- ---- the stretch between two places
 
 stretch : (l : List ℕ) (f e : ℕ) → take (e - min f e) (drop (min f e) l) ≡ slice f e l
@@ -99,3 +103,7 @@ take-within l t = go (leb t (length l)) refl
 
 pub stretch-between : (l : List ℕ) (f t : ℕ) → take (min t (length l) - min f (min t (length l))) (drop (min f (min t (length l))) l) ≡ slice f t l
 stretch-between l f t = stretch l f (min t (length l)) ∙ ap (drop f) (take-within l t)
+
+-- the same of both places as they were found
+pub stretch-is : (l : List ℕ) (f t : ℕ) {start end : ℕ} → end ≡ min t (length l) → start ≡ min f end → take (end - start) (drop start l) ≡ slice f t l
+stretch-is l f t e g = rw (g, e) (stretch-between l f t)

@@ -1,5 +1,5 @@
 -- Laws of rows and their fields. Assumes nothing.
-use mathlib.Core.Path.{_≡_, refl}
+use mathlib.Core.Path.{_≡_, refl, sym}
 use mathlib.Core.Bool.{Bool, true, false, xor, _&&_}
 use mathlib.Core.List.{List}
 use Prim.Native.Nat.{ℕ, zero-le, _+_, _*_, _-_, _/_, _^_, _≤_, _<_}
@@ -10,7 +10,7 @@ use lib.Dec.{leb, ltb, lit<}
 use borrow.Author.Tests.{le-leb, lt-leb, leb-true, leb-false, ltb-true, lt-ltb}
 use Rattle.rules.specs.declared.Multiplier.{Multiplier}
 use Rattle.rules.specs.Common.{if_then_else_, all}
-use Rattle.rules.specs.SettingsAndUnitTable.{power-size, row-size, rows, row, kind, power-field, below-zero, magnitude, kind-coefficients, kind-downs, kind-multiplier, row-multiplier, times, product, in-range}
+use Rattle.rules.specs.SettingsAndUnitTable.{coefficient-size, coefficient-field, power-size, row-size, rows, row, kind, power-field, below-zero, magnitude, kind-coefficients, kind-downs, kind-multiplier, row-multiplier, times, product, in-range}
 use Rattle.rules.specs.Laws.Choices.{if-either, and-left, and-right}
 use Rattle.rules.specs.Laws.Tests.{and-true, same-test}
 use Rattle.rules.specs.Laws.Lists.{all-at}
@@ -97,6 +97,13 @@ module _ (r : List ℕ) where
   unfolding product times kind-multiplier
   product-fields = rw (zero-add, xor-false (row-multiplier r .negative))
 
+  -- the fields of a row, as they are read
+  pub multiplier-is :
+      {c p size up down : ℕ} → c ≡ coefficient-field r → p ≡ power-field r → size ≡ magnitude coefficient-size c → up ≡ risen p → down ≡ fallen p
+      → record { negative = leb 9223372036854775808 c; coefficient = size; up = up; down = down } ≡ row-multiplier r
+  unfolding row-multiplier below-zero risen fallen
+  multiplier-is e f m u d = rw (m, u, d, e, f)
+
   pub up-most : row-multiplier r .up < 32768
   unfolding row-multiplier risen
   up-most = risen-most (power-field r)
@@ -104,6 +111,18 @@ module _ (r : List ℕ) where
   pub down-most : kind-multiplier (kind r) .down + row-multiplier r .down ≤ 32777
   unfolding row-multiplier kind-multiplier fallen
   down-most = omega (arith, kind-down-most (kind r), fallen-most (power-field r))
+
+  -- what is made of a kind and of a row
+  pub product-is :
+      {unit own : Multiplier} → unit ≡ kind-multiplier (kind r) → own ≡ row-multiplier r
+      → record {
+        negative = own .negative;
+        coefficient = unit .coefficient * own .coefficient;
+        up = own .up;
+        down = unit .down + own .down;
+      }
+      ≡ product r
+  product-is e f = rw (e, f) (sym product-fields)
 
   -- the range of kind times row: a power above zero is never too high
   pub in-range-product :

@@ -30,6 +30,23 @@ bit-more x n = rw (← (add-one n), mod-pow-add x n 1) (go (x % 2) (mod-lt x (li
 whole-word : (w : ℕ) → w < 2 ^ 64 → w / 2 ^ 0 % 2 ^ 64 ≡ w
 whole-word w h = omega arith
 
+-- tests one after the other: the first that fails decides
+pub first-fails : {a : Bool} (b : Bool) → a ≡ false → false ≡ (a && b)
+first-fails b e = sym (rw e)
+
+pub first-passes : {a b r : Bool} → a ≡ true → r ≡ b → r ≡ (a && b)
+first-passes e h = h ∙ sym (rw e)
+
+-- the runs of bytes that may not delimit, each within a word
+abbrev pub runs-free : ByteSet → Bool
+runs-free set =
+    eqb (set .word0 / 2 ^ 43 % 2) 0
+    && (eqb (set .word0 / 2 ^ 45 % 2 ^ 2) 0
+    && (eqb (set .word0 / 2 ^ 48 % 2 ^ 10) 0
+    && (eqb (set .word1 / 2 ^ 1 % 2 ^ 26) 0
+    && (eqb (set .word1 / 2 ^ 33 % 2 ^ 26) 0
+    && (eqb (set .word2) 0 && eqb (set .word3) 0)))))
+
 module _ (set : ByteSet) where
   abbrev right : ℕ → Bool
   right k = not (holds set k) || may-delimit k
@@ -99,17 +116,7 @@ module _ (set : ByteSet) where
   unfolding delimits
   none-then b m n h e = rw (runs-add right b m n, delimits-none b m e, none-bits b m h)
 
-  -- the runs of bytes that may not delimit, each within a word
-  pub delimits-runs :
-      set .word2 < 2 ^ 64
-      → set .word3 < 2 ^ 64
-      → delimits set 0 256
-      ≡ (eqb (set .word0 / 2 ^ 43 % 2) 0
-      && (eqb (set .word0 / 2 ^ 45 % 2 ^ 2) 0
-      && (eqb (set .word0 / 2 ^ 48 % 2 ^ 10) 0
-      && (eqb (set .word1 / 2 ^ 1 % 2 ^ 26) 0
-      && (eqb (set .word1 / 2 ^ 33 % 2 ^ 26) 0
-      && (eqb (set .word2) 0 && eqb (set .word3) 0))))))
+  pub delimits-runs : set .word2 < 2 ^ 64 → set .word3 < 2 ^ 64 → delimits set 0 256 ≡ runs-free set
   unfolding runs may-delimit is class between if_then_else_ word
   delimits-runs fits₂ fits₃ =
       rw (

@@ -1,14 +1,14 @@
 -- `lengths::duration::calculate_duration` meets its contract: a coefficient multiplies seconds and attoseconds apart, and each product is
 -- known to fit before it is made. Assumes nothing.
-use mathlib.Core.Path.{_≡_, sym, _∙_}
+use mathlib.Core.Path.{_≡_, sym, _∙_, ap}
 use mathlib.Core.Logic.{⊎-elim}
 use Prim.Native.Nat.{_+_, _*_, _^_}
-use native.Mathlib.Omega.{arith}
 use borrow.Author.Needs.{needs}
-use Rattle.rules.specs.Laws.Lengths.{size-clamped}
+use Rattle.rules.specs.Evaluation.{length-of}
 use Rattle.lengths.specs.Duration.{cut}
-use Rattle.rules.specs.Laws.Apart.{none, nanos-apart, nanos-whole, nanos-one, nanos-none}
+use Rattle.rules.specs.Laws.Apart.{none, nanos-whole, nanos-one, nanos-none}
 use Rattle.lengths.proofs.Fitting.{fits, passes, seconds-fit}
+use Rattle.lengths.proofs.Cuts.{seconds-clamped, cut-below, cut-apart}
 use Rattle.lengths.proofs.duration.calculate_duration.Statement.{statement}
 use Rattle.lengths.proofs.duration.calculate_duration.Tie as tie
 
@@ -19,17 +19,13 @@ signed-requires : tie.Need-signed-requires
 signed-requires c κs = search needs
 
 returns : tie.Need-returns
-returns c =
-    let a = c .before .before .args in
-    cc (nanos-one (a .seconds) (a .attos))
+returns c = rw (c .before .if1 .taken) (c .signed .ensures ∙ ap (length-of _) (sym (nanos-one _ _)))
 
 zero-requires : tie.Need-zero-requires
 zero-requires c κs = search needs
 
 returns-2 : tie.Need-returns-2
-returns-2 c =
-    let a = c .before .before .before .args in
-    cc (nanos-none (a .seconds * 10 ^ 18 + a .attos), none (a .is-negative))
+returns-2 c = rw (c .before .if2 .taken, nanos-none) (c .zero .ensures ∙ sym (none _))
 
 div-most : tie.Need-div-most
 div-most c = search needs
@@ -38,10 +34,7 @@ largest-requires : tie.Need-largest-requires
 largest-requires c κs = search needs
 
 returns-3 : tie.Need-returns-3
-returns-3 c =
-    let a = c .before .before .before .before .args in
-    let large = passes (a .coefficient) (a .seconds) (search needs) (c .before .if3 .taken) in
-    c .largest .ensures ∙ sym (size-clamped _ _ (rw (nanos-apart (a .coefficient) (a .seconds) (a .attos)) (omega (arith, large))))
+returns-3 c = c .largest .ensures ∙ sym (seconds-clamped _ _ _ _ (passes _ _ (search needs) (c .before .if3 .taken)))
 
 mul-whole : tie.Need-mul-whole
 mul-whole c = record { fits = fits _ _ (search needs) (c .if3 .left) }
@@ -50,9 +43,7 @@ signed-requires-2 : tie.Need-signed-requires-2
 signed-requires-2 c κs = search needs
 
 returns-4 : tie.Need-returns-4
-returns-4 c =
-    let a = c .before .before .before .before .before .args in
-    cc (nanos-whole (a .coefficient) (a .seconds))
+returns-4 c = rw (c .before .if4 .taken) (c .signed2 .ensures ∙ ap (length-of _) (sym (nanos-whole _ _)))
 
 mul-cut-word : tie.Need-mul-cut-word
 mul-cut-word c = record { fits = fits _ _ (search needs) (c .if5 .taken) }
@@ -67,18 +58,13 @@ cut-words-requires : tie.Need-cut-words-requires
 cut-words-requires c κs = rw (c .product .ensures) (seconds-fit (search needs) (search needs))
 
 either-way : (c : tie.Joined5) → c .if5 .size ≡ cut (c .before .before .before .before .before .args .coefficient * c .before .before .before .before .before .args .attos)
-either-way c = ⊎-elim (λ w. cc) (λ w. cc) (c .if5 .came)
+either-way c = ⊎-elim (λ w. w .2 ∙ w .1 .ensures) (λ w. w .3 ∙ w .2 .ensures ∙ ap cut (w .1 .ensures)) (c .if5 .came)
 
 limited-requires : tie.Need-limited-requires
-unfolding cut
-limited-requires c κs = rw (either-way c) (omega arith)
+limited-requires c κs = cut-below _ (either-way c)
 
 returns-5 : tie.Need-returns-5
-unfolding cut
-returns-5 c =
-    let a = c .before .before .before .before .before .before .args in
-    let e = either-way (c .before) in
-    cc (nanos-apart (a .coefficient) (a .seconds) (a .attos))
+returns-5 c = cut-apart _ _ _ _ (either-way (c .before)) (c .limited .ensures)
 
 pub calculate-duration-spec : {M : Type 1} → statement M
 calculate-duration-spec =

@@ -6,7 +6,7 @@ use borrow.Author.Tests.{ltb-true}
 use borrow.Author.Needs.{needs}
 use Rattle.rules.specs.Laws.Choices.{and-left}
 use Rattle.rules.specs.SettingsAndUnitTable.{kind, kind-multiplier, row-multiplier}
-use Rattle.rows.specs.Laws.Rows.{product-fields, in-range-product, down-most}
+use Rattle.rows.specs.Laws.Rows.{product-is, in-range-product, down-most}
 use Rattle.rows.proofs.fields.product.Statement.{statement}
 use Rattle.rows.proofs.fields.product.Tie as tie
 
@@ -38,7 +38,7 @@ add-t7 c =
 
 returns : tie.Need-returns
 unfolding kind
-returns c = rw product-fields (cc)
+returns c = product-is _ (c .before .before .before .before .before .kind-multiplier .ensures) (c .before .before .before .before .row-multiplier .ensures)
 
 pub product-spec : {M : Type 1} → statement M
 product-spec =

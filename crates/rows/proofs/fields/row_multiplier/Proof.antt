@@ -1,7 +1,7 @@
 -- `rows::fields::row_multiplier` meets its contract: each field of the row, as the definition reads it. Assumes nothing.
 use borrow.Author.Needs.{needs}
-use Rattle.rules.specs.SettingsAndUnitTable.{row-multiplier, coefficient-field, power-field, below-zero}
-use Rattle.rows.specs.Powers.{risen, fallen}
+use Rattle.rules.specs.SettingsAndUnitTable.{coefficient-field, power-field}
+use Rattle.rows.specs.Laws.Rows.{multiplier-is}
 use Rattle.rows.proofs.fields.row_multiplier.Statement.{statement}
 use Rattle.rows.proofs.fields.row_multiplier.Tie as tie
 
@@ -21,8 +21,10 @@ fallen-requires : tie.Need-fallen-requires
 fallen-requires c κs = search needs
 
 returns : tie.Need-returns
-unfolding row-multiplier coefficient-field power-field below-zero risen fallen
-returns c = cc
+unfolding coefficient-field power-field
+returns c =
+    let size = c .before .before in
+    multiplier-is _ (size .before .before .word-at .ensures) (size .before .short-at .ensures) (size .coefficient-magnitude .ensures) (c .before .risen .ensures) (c .fallen .ensures)
 
 pub row-multiplier-spec : {M : Type 1} → statement M
 row-multiplier-spec =

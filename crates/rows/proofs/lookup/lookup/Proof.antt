@@ -1,6 +1,8 @@
 -- `rows::lookup::lookup` meets its contract: with both places held within the text, the part is the stretch between them. Assumes nothing.
+use mathlib.Core.Path.{ap, _∙_}
 use borrow.Author.Needs.{needs}
-use Rattle.rows.specs.Laws.Lookup.{stretch-between}
+use Rattle.rules.specs.SettingsAndUnitTable.{lookup}
+use Rattle.rows.specs.Laws.Lookup.{stretch-is}
 use Rattle.rows.proofs.lookup.lookup.Statement.{statement}
 use Rattle.rows.proofs.lookup.lookup.Tie as tie
 
@@ -24,8 +26,8 @@ find-requires c κs = search needs
 
 returns : tie.Need-returns
 returns c =
-    let args = c .before .before .before .before .before .before .args in
-    cc (stretch-between (args .text .now) (args .from) (args .to))
+    let places = c .before .before in
+    c .find .ensures ∙ ap (lookup _) (stretch-is _ _ _ (places .before .earlier .ensures) (places .earlier2 .ensures))
 
 pub lookup-spec : {M : Type 1} → statement M
 lookup-spec =

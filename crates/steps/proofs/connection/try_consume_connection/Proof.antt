@@ -19,10 +19,10 @@ there : (c : tie.Else1) → let args = c .before .before .before .before .args i
 there c = sym (c .before .is-delimiter .ensures) ∙ not-false _ (c .if1 .left)
 
 got-word :
-    (c : tie.After-word)
+    (c : tie.After-run)
     → let args = c .before .before .before .before .before .before .before .args in
-    delimiters (args .s .outer) (args .text .now) (args .place) ≡ got (c .word .given .0 .0)
-got-word c = sym (c .before .before .try-consume-delimiter .ensures) ∙ ap next (c .word .given .1)
+    delimiters (args .s .outer) (args .text .now) (args .place) ≡ got (c .run .given .0 .0)
+got-word c = sym (c .before .before .try-consume-delimiter .ensures) ∙ ap next (c .run .given .1)
 
 is-delimiter-requires : tie.Need-is-delimiter-requires
 is-delimiter-requires c κs = search needs
@@ -33,11 +33,11 @@ returns c = connection-none _ _ _ (sym (c .before .is-delimiter .ensures) ∙ no
 try-consume-delimiter-requires : tie.Need-try-consume-delimiter-requires
 try-consume-delimiter-requires c κs = search needs
 
-enum-known-cause : tie.Need-enum-known-cause
-enum-known-cause c = search needs
+enum-told : tie.Need-enum-told
+enum-told c = search needs
 
-enum-known-word : tie.Need-enum-known-word
-enum-known-word c = search needs
+enum-known-run : tie.Need-enum-known-run
+enum-known-run c = search needs
 
 conjunction-size-requires : tie.Need-conjunction-size-requires
 conjunction-size-requires c κs = search needs
@@ -60,8 +60,9 @@ after-conjunction-requires c κs = search needs
 
 returns-3 : tie.Need-returns-3
 returns-3 c =
-    connection-refused _ _ _ (there (c .before .before .before .before))
-    (sym (c .before .before .before .try-consume-delimiter .ensures) ∙ ap next (c .before .cause .given .1))
+    let refusal = ap next (c .enum-told .given .1) in
+    refusal
+    ∙ connection-refused _ _ _ (there (c .before .before .before)) (sym (c .before .before .try-consume-delimiter .ensures) ∙ refusal)
 
 returns-4 : tie.Need-returns-4
 returns-4 c =
@@ -76,8 +77,8 @@ try-consume-connection-spec =
     is-delimiter-requires
     returns
     try-consume-delimiter-requires
-    enum-known-cause
-    enum-known-word
+    enum-told
+    enum-known-run
     conjunction-size-requires
     cast-size
     returns-2

@@ -30,11 +30,11 @@ returns c s e =
 returns-2 : tie.Need-returns-2
 returns-2 c s e = exponent-off s _ _ (letter-there (c .before)) (e ∙ not-true _ (c .if2 .taken))
 
-add-exponent-sign : tie.Need-add-exponent-sign
-add-exponent-sign c = omega (arith, sees-in _ _ _ (letter-there (c .before)))
+add-sign-at : tie.Need-add-sign-at
+add-sign-at c = omega (arith, sees-in _ _ _ (letter-there (c .before)))
 
-exponent-sign-requires : tie.Need-exponent-sign-requires
-exponent-sign-requires c κs = search needs
+sign-at-requires : tie.Need-sign-at-requires
+sign-at-requires c κs = search needs
 
 parse-exponent-requires : tie.Need-parse-exponent-requires
 parse-exponent-requires c κs = search needs
@@ -42,7 +42,7 @@ parse-exponent-requires c κs = search needs
 returns-3 : tie.Need-returns-3
 returns-3 c s e =
     c .parse-exponent .ensures
-    ∙ exponent-on s _ _ (letter-there (c .before .before .before)) (e ∙ not-false _ (c .before .before .if2 .left)) (c .before .exponent-sign .ensures)
+    ∙ exponent-on s _ _ (letter-there (c .before .before .before)) (e ∙ not-false _ (c .before .before .if2 .left)) (c .before .sign-at .ensures)
 
 pub parse-number-exponent-spec : {M : Type 1} → statement M
 parse-number-exponent-spec =
@@ -52,7 +52,7 @@ parse-number-exponent-spec =
     exponent-at-requires
     returns
     returns-2
-    add-exponent-sign
-    exponent-sign-requires
+    add-sign-at
+    sign-at-requires
     parse-exponent-requires
     returns-3)

@@ -1,14 +1,17 @@
 -- `value::digits::take_digits` meets its contract: at each turn what is unread up to the stop spells, after the number so far, the whole
 -- number, which has at most nineteen places, so that no number on the way is larger. Assumes nothing.
-use Prim.Native.Nat.{_-_, _≤_, _<_, _^_}
+use mathlib.Core.Path.{sym, ap, _∙_}
+use Prim.Native.Nat.{_+_, _*_, _-_, _≤_, _<_, _^_}
+use native.Mathlib.Nat.{le-trans, lt-trans, le-add-right, lt-of-lt-of-le, lt-of-le-of-lt}
 use native.Mathlib.Omega.{arith}
 use borrow.Author.Needs.{needs}
 use denote.Ref.{now}
-use lib.ListN.{take}
+use lib.Dec.{lit<}
+use lib.ListN.{take, length, getD}
 use lib.Seq.{slice, length-slice}
 use Rattle.rules.specs.SettingsAndUnitTable.{DIGIT, is}
 use Rattle.rules.specs.Evaluation.{spelled}
-use Rattle.value.specs.Digits.{Unread, unread-done, unread-digit, unread-more, unread-grows, digit-low, slice-before, passes-before, spelled-in-all}
+use Rattle.value.specs.Digits.{Unread, unread-done, unread-digit, unread-more, unread-grows, digit-low, cut-inside, cut-after, cut-count, cut-left, slice-before, passes-before, spelled-in-all}
 use Rattle.value.specs.Places.{taken-is}
 use Rattle.value.proofs.digits.take_digits.Statement.{statement}
 use Rattle.value.proofs.digits.take_digits.Tie as tie
@@ -34,20 +37,31 @@ loop-holds c =
       search needs,
     )
 
+-- the text goes on up to the stop
+in-text : (c : tie.In-loop Inv-loop μ-loop) → c .before .before .place-within .result ≤ length (c .before .before .before .before .args .text .now)
+in-text c =
+    let turn = c .before in
+    le-trans (cut-inside _ _ _ (turn .before .place-within .ensures) (turn .loop .inv .2) (c .loop-test .taken)) (turn .before .before .before .pre .1 .0)
+
+grows : (c : tie.In-loop Inv-loop μ-loop) → c .before .loop .number * 10 + (getD (c .before .before .before .before .args .text .now) (c .before .loop .place) 0 - 48) < 10 ^ 19
+grows c = lt-of-le-of-lt (unread-grows (c .before .loop .inv .0) (c .loop-test .taken) (in-text c)) (c .before .loop .inv .1)
+
 mul-number : tie.Need-mul-number Inv-loop μ-loop
-mul-number c = record { fits = omega (arith, unread-grows (c .before .loop .inv .0) (search needs) (omega arith)) }
+mul-number c = record { fits = lt-trans (lt-of-le-of-lt (le-add-right _ _) (grows c)) (lit< tt) }
 
 shared-slice-read-wide : tie.Need-shared-slice-read-wide Inv-loop μ-loop
-shared-slice-read-wide c = omega arith
+shared-slice-read-wide c = lt-of-lt-of-le (c .before .loop-test .taken) (in-text (c .before))
 
 wide-requires : tie.Need-wide-requires Inv-loop μ-loop
 wide-requires c κs = search needs
 
 sub-number : tie.Need-sub-number Inv-loop μ-loop
-sub-number c = rw (c .wide .ensures) (digit-low _ (unread-digit (c .before .before .before .loop .inv .0) (search needs) (omega arith)))
+sub-number c =
+    let turn = c .before .before in
+    rw (c .wide .ensures) (digit-low _ (unread-digit (turn .before .loop .inv .0) (turn .loop-test .taken) (in-text turn)))
 
 add-number : tie.Need-add-number Inv-loop μ-loop
-add-number c = record { fits = omega (arith, unread-grows (c .before .before .before .loop .inv .0) (search needs) (omega arith)) }
+add-number c = record { fits = rw (c .wide .ensures) (lt-trans (grows (c .before .before)) (lit< tt)) }
 
 add-place : tie.Need-add-place Inv-loop μ-loop
 add-place c = omega arith
@@ -57,19 +71,22 @@ loop-less c = omega arith
 
 loop-again : tie.Need-loop-again Inv-loop μ-loop
 loop-again c =
-    let before = c .before .before .before .loop .inv in
-    (rw (c .wide .ensures) (unread-more (before .0) (search needs) (omega arith)), before .1, search needs)
+    let turn = c .before .before in
+    let before = turn .before .loop .inv in
+    (rw (c .wide .ensures) (unread-more (before .0) (turn .loop-test .taken) (in-text turn)), before .1, le-trans (before .2) (le-add-right _ 1))
 
 sub-t15 : tie.Need-sub-t15 Inv-loop μ-loop
-sub-t15 c = omega arith
+sub-t15 c = cut-after _ _ _ (c .before .before .place-within .ensures)
 
 sub-t16 : tie.Need-sub-t16 Inv-loop μ-loop
-sub-t16 c = omega arith
+sub-t16 c = cut-count _ _ _ (c .before .before .place-within .ensures)
 
 returns : tie.Need-returns Inv-loop μ-loop
 returns c =
-    taken-is _ _ _ (unread-done (c .before .loop .inv .0) (search needs))
-    (omega (arith, length-slice (c .before .before .before .before .args .start) (c .before .before .before .before .args .end) (now (c .before .before .before .before .args .text)) (search needs)))
+    let start = c .before .before .before .before in
+    let args = start .args in
+    taken-is _ _ _ (unread-done (c .before .loop .inv .0) (c .loop-test .left))
+    (cut-left _ _ _ (c .before .before .place-within .ensures) ∙ ap (λ n. args .room - n) (sym (length-slice (args .start) (args .end) (now (args .text)) (start .pre .1 .0))))
 
 pub take-digits-spec : {M : Type 1} → statement M
 take-digits-spec =

@@ -1,9 +1,9 @@
--- `steps::exponent::exponent_sign` meets its contract: no byte, a sign, and any other byte. Assumes nothing.
+-- `steps::sign::sign_at` meets its contract: no byte, a sign, and any other byte. Assumes nothing.
 use mathlib.Core.Path.{sym, _∙_}
 use borrow.Author.Needs.{needs}
-use Rattle.steps.specs.Exponents.{sign-ends, sign-none, sign-there}
-use Rattle.steps.proofs.exponent.exponent_sign.Statement.{statement}
-use Rattle.steps.proofs.exponent.exponent_sign.Tie as tie
+use Rattle.steps.specs.Signs.{sign-ends, sign-none, sign-there}
+use Rattle.steps.proofs.sign.sign_at.Statement.{statement}
+use Rattle.steps.proofs.sign.sign_at.Tie as tie
 
 returns : tie.Need-returns
 returns c = sign-ends _ _ (c .if1 .taken)
@@ -23,7 +23,7 @@ returns-2 c = sign-there _ _ (c .before .before .before .if1 .left) (sym (c .bef
 returns-3 : tie.Need-returns-3
 returns-3 c = sign-none _ _ (c .before .before .before .if1 .left) (sym (c .before .is-sign .ensures) ∙ c .if2 .left)
 
-pub exponent-sign-spec : {M : Type 1} → statement M
-exponent-sign-spec =
+pub sign-at-spec : {M : Type 1} → statement M
+sign-at-spec =
     tie.close
     (tie.spec returns shared-slice-read-byte is-sign-requires add-t10 returns-2 returns-3)
