@@ -1,4 +1,5 @@
 // The lengths that are written, made by a fixed rule so that they need not be stored.
+ghost use Prim.Native.Nat.{_≤_};
 use rules::Length;
 
 pub const LENGTHS: u64 = 3_200;
@@ -17,9 +18,11 @@ fn with_zeros(digit: u64, zeros: u64) -> u64 {
     number
 }
 
-// A number below 10000 in odd turns, else 0.
-fn in_turn(turn: u64, number: u64) -> u64 {
-    if turn % 2 == 1 { number % 10_000 } else { 0 }
+// A number in odd turns, else 0.
+fn in_turn(turn: u64, number: u64) -> u64
+    ensures { λ r. ⌜ r ≤ number ⌝ }
+{
+    if turn % 2 == 1 { number } else { 0 }
 }
 
 fn length_of(seconds: u64, nanoseconds: u64) -> Length {
@@ -34,14 +37,11 @@ fn length_of(seconds: u64, nanoseconds: u64) -> Length {
 fn composed(number: u64) -> Length {
     let turn = number % LENGTHS;
     let some = turn % 59 + 1;
-    let hours = in_turn(turn, turn + 1) % 10_000;
-    let minutes = in_turn(turn / 2, some) % 60;
-    let seconds = in_turn(turn / 4, some) % 60;
-    let whole = hours * 3_600 + minutes * 60 + seconds;
-    if turn / 8 % 2 == 1 {
-        return length_of(whole, with_zeros(1, turn / 16 % 9));
-    }
-    length_of(whole, 0)
+    let hours = in_turn(turn, turn + 1);
+    let minutes = in_turn(turn / 2, some);
+    let seconds = in_turn(turn / 4, some);
+    let nanoseconds = in_turn(turn / 8, with_zeros(1, turn / 16 % 9));
+    length_of(hours * 3_600 + minutes * 60 + seconds, nanoseconds)
 }
 
 // The lengths by number: single digits behind the point, powers of ten, both sides of each minute and hour, components that are there or
@@ -60,7 +60,7 @@ pub fn nth(number: u64) -> Length {
         4 => composed(turn),
         5 => length_of(
             18_446_744_073_709_551_615 - turn * 1_801,
-            999_999_999 - in_turn(turn, turn) % 10_000,
+            999_999_999 - in_turn(turn, turn),
         ),
         6 => length_of(n % 1_000 * 18_046_744_073_709_551, n * 271_828),
         _ => length_of(n * 7_919 % 100_000, n * 577_215),

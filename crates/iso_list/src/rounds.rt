@@ -1,17 +1,17 @@
 // One text more, behind the list, read so often and its length written so often, to count instructions. A line says how often each: two
 // numbers of four bytes, the lowest first, as hexadecimal digits. Where no line follows the list, nothing is done; where one does, the list
 // has to end with a text for which there is no room.
-use crate::reads::Put;
-use crate::reads::ROOM;
 use crate::reads::put_next;
-use iso_reader::reader::read_iso;
-use iso_writer::writer::write_iso;
+use entries::read_iso;
+use entries::write_iso;
 use libc::STDOUT_FILENO;
 use lists::answers::print_answer;
 use lists::fields::further;
 use lists::fields::half_at;
 use lists::lines::first_bytes;
 use lists::lines::read_line;
+use lists::texts::ROOM;
+use lists::texts::Text;
 use rules::Answer;
 use rules::Length;
 
@@ -57,16 +57,20 @@ fn print_written(length: Length, rounds: u32) {
     io::write_all(STDOUT_FILENO, b"\n");
 }
 
-pub fn repeat_one() {
-    let mut line = [0u8; ROUNDS];
-    if !read_line(&mut line) {
-        return;
-    }
+// The text behind the line, read and written so often.
+fn repeat_text(reads: u32, writes: u32) {
     let mut buffer = [0u8; ROOM];
-    let Put::Bytes(size) = put_next(&mut buffer) else {
+    let Text::Bytes(size) = put_next(&mut buffer) else {
         return;
     };
-    let answer = read_often(&buffer, size, half_at(&line, READ_AT));
+    let answer = read_often(&buffer, size, reads);
     print_answer(answer);
-    print_written(answer.length, half_at(&line, WRITTEN_AT));
+    print_written(answer.length, writes);
+}
+
+pub fn repeat_one() {
+    let mut line = [0u8; ROUNDS];
+    if read_line(&mut line) {
+        repeat_text(half_at(&line, READ_AT), half_at(&line, WRITTEN_AT));
+    }
 }

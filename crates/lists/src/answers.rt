@@ -2,8 +2,8 @@
 use crate::fields::same_length;
 use crate::lines::first_bytes;
 use libc::STDOUT_FILENO;
+use printing::put_answer;
 use rules::Answer;
-use sheets::printing::put_answer;
 
 // Bytes that a printed answer has at most.
 const LONGEST_LINE: usize = 86;
@@ -16,11 +16,5 @@ pub fn print_answer(answer: Answer) {
 }
 
 pub fn same_answer(a: Answer, b: Answer) -> bool {
-    if a.number != b.number {
-        return false;
-    }
-    if a.position != b.position {
-        return false;
-    }
-    same_length(a.length, b.length)
+    (a.number == b.number) & (a.position == b.position) & same_length(a.length, b.length)
 }

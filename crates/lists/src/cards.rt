@@ -87,40 +87,36 @@ fn settings_of(line: &[u8]) -> Settings {
 // The next row of the list, put where it belongs in the table. False where the list ends or a line is no row.
 fn read_row(table: &mut [u8], at: usize) -> bool {
     let mut line = [0u8; STORED];
-    if !read_line(&mut line) {
-        return false;
+    if read_line(&mut line) && at <= table.len() {
+        restore_row(&line, &mut table[at..])
+    } else {
+        false
     }
-    if table.len() < at {
-        return false;
-    }
-    restore_row(&line, &mut table[at..])
 }
 
-// The rows of a table of so many bytes.
-fn read_table(table: &mut [u8], size: usize) -> bool {
+// The rows of a table of so many bytes. Where one is missing, those behind it are too.
+fn read_table(table: &mut [u8], size: u16) -> bool {
+    let end = size as usize;
+    let mut more = true;
     let mut at = 0;
-    while at < size {
-        if !read_row(table, at) {
-            return false;
-        }
-        if MOST_BYTES < at {
-            return false;
-        }
+    while at < end {
+        more = read_row(table, at) & more;
         at += ROW;
     }
-    true
+    more
 }
 
 // The next card of the list; its table is put at the start of the buffer.
 pub fn next_card(table: &mut [u8]) -> Next {
     let mut line = [0u8; HEAD];
-    if !read_line(&mut line) {
-        return Next::End;
+    let more = read_line(&mut line);
+    let size = short_at(&line, SIZE_AT);
+    if read_table(table, size) & more {
+        Next::Card(Card {
+            settings: settings_of(&line),
+            size: size as usize,
+        })
+    } else {
+        Next::End
     }
-    let settings = settings_of(&line);
-    let size = short_at(&line, SIZE_AT) as usize;
-    if !read_table(table, size) {
-        return Next::End;
-    }
-    Next::Card(Card { settings, size })
 }

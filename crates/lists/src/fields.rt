@@ -5,19 +5,16 @@ use rules::Length;
 // No list has a line of so many bytes: a remainder by it only says so.
 const FAR: usize = 1_048_576;
 
-// What the digit at a place stands for. What is no digit, or lies beyond the line, counts as 0: such a line reads as some other
-// one, and what is made of it differs from what is stored.
+// What the digit at a place stands for: 48 to 57 are digits, and 97 to 102 the letters. What is neither counts as some digit, and what
+// lies beyond the line as 0: such a line reads as some other one, and what is made of it differs from what is stored.
 fn digit_at(line: &[u8], place: usize) -> u8
     ensures { λ r. ⌜ r < 16 ⌝ }
 {
-    if line.len() <= place {
-        return 0;
-    }
-    let b = line[place];
-    match b {
-        48..=57 => b - 48,
-        97..=102 => b - 87,
-        _ => 0,
+    if place < line.len() {
+        let byte = line[place];
+        (byte % 16 + byte % 128 / 64 * 9) % 16
+    } else {
+        0
     }
 }
 
@@ -66,11 +63,5 @@ pub fn length_at(line: &[u8], place: usize) -> Length {
 }
 
 pub fn same_length(a: Length, b: Length) -> bool {
-    if a.negative != b.negative {
-        return false;
-    }
-    if a.seconds != b.seconds {
-        return false;
-    }
-    a.nanoseconds == b.nanoseconds
+    (a.negative == b.negative) & (a.seconds == b.seconds) & (a.nanoseconds == b.nanoseconds)
 }

@@ -1,28 +1,33 @@
 // Writes lists of lengths one after another and reads each line part by part and in total, under every card of its list of cards. Of each
 // list it prints how many lengths and bytes it has and its total; at the end how many lengths were written and read, how many differ, and
 // which numbers the writer gave at the edges of a buffer. The lengths are made by a fixed rule, so that they need not be stored.
+use entries::read_part;
+use entries::read_total;
+use entries::write_length;
 use lengths::duration::zero;
 use libc::STDOUT_FILENO;
 use lists::cards::MOST_BYTES;
 use lists::cards::Next;
 use lists::cards::next_card;
+use lists::counts::COUNTS;
+use lists::counts::DIFFERENCE;
 use lists::counts::added;
+use lists::counts::count_answer;
 use lists::counts::one_more;
 use lists::counts::print_count;
+use lists::counts::print_counts;
 use lists::counts::unless;
 use lists::edges::BEFORE;
+use lists::edges::BEYOND;
 use lists::edges::EDGE;
 use lists::edges::untouched;
 use lists::fields::same_length;
 use lists::lines::first_bytes;
-use reading::entries::LONGEST_TEXT;
-use reading::entries::read_part;
-use reading::entries::read_total;
 use rules::Answer;
+use rules::LONGEST_TEXT;
 use rules::Length;
 use rules::Settings;
 use tables::pow10;
-use writing::writer::write_length;
 
 // Room for one length, the longest of which has 31 bytes.
 const ONE: usize = 32;
@@ -46,14 +51,12 @@ struct Tally {
     differ: u64,
 }
 
-// Which numbers the writer gave at the edges of a buffer, and how often another than was wanted, or a byte was changed.
-struct Edges {
-    written: u64,
-    no_room: u64,
-    beyond: u64,
-    malformed: u64,
-    differ: u64,
-}
+// The numbers of the writer's refusals.
+const NO_ROOM: u8 = 9;
+
+const BEYOND_THE_END: u8 = 10;
+
+const MALFORMED: u8 = 11;
 
 // Zero has no minus.
 fn signed(negative: bool, seconds: u64, nanoseconds: u32) -> Length {
@@ -124,10 +127,7 @@ fn write_list(buffer: &mut [u8], first: u64, most: u64) -> Line {
 }
 
 fn agrees(answer: Answer, length: Length) -> bool {
-    if answer.number != 0 {
-        return false;
-    }
-    same_length(answer.length, length)
+    (answer.number == 0) & same_length(answer.length, length)
 }
 
 // How many parts of a line differ from the lengths that were written, and whether the last one ends elsewhere.
@@ -144,43 +144,35 @@ fn read_list(settings: Settings, table: &[u8], text: &[u8], first: u64, lengths:
     unless(place == text.len(), differ)
 }
 
-// One answer more, which should have a number.
-fn counted(edges: Edges, answer: Answer, wanted: u8) -> Edges {
-    let number = answer.number;
-    let mut now = edges;
-    match number {
-        0 => now.written = one_more(edges.written),
-        9 => now.no_room = one_more(edges.no_room),
-        10 => now.beyond = one_more(edges.beyond),
-        11 => now.malformed = one_more(edges.malformed),
-        _ => now.differ = one_more(edges.differ),
-    }
-    now.differ = unless(number == wanted, now.differ);
-    now
+// A length that is refused at a place of a buffer. Nothing changes.
+fn try_refused(length: Length, place: usize, number: u8, counts: &mut [u64; COUNTS]) {
+    let mut buffer = [BEFORE; EDGE];
+    let answer = write_length(length, &mut buffer, place);
+    let agrees = (answer.number == number) & untouched(&buffer, EDGE);
+    count_answer(answer.number, agrees, counts);
 }
 
-// One length in a buffer: with a byte less than it needs, at the end, beyond it, and with nanoseconds that no length has, all of which
-// change nothing; and with exactly the room.
-fn try_edges(length: Length, before: Edges) -> Edges {
+// A length for which a buffer has exactly the room from a place on. No byte before it changes.
+fn try_exact(length: Length, place: usize, counts: &mut [u64; COUNTS]) {
+    let mut buffer = [BEFORE; EDGE];
+    let answer = write_length(length, &mut buffer, place);
+    let agrees = (answer.number == 0) & (answer.position == EDGE) & untouched(&buffer, place);
+    count_answer(answer.number, agrees, counts);
+}
+
+// One length in a buffer: with a byte less than it needs, at the end, beyond it, with nanoseconds that no length has, and with exactly the
+// room.
+fn try_edges(length: Length, counts: &mut [u64; COUNTS]) {
     let mut one = [0u8; ONE];
     let size = write_length(length, &mut one, 0).position % EDGE;
     let at = EDGE - size;
-    let mut buffer = [BEFORE; EDGE];
-    let less = counted(before, write_length(length, &mut buffer, at + 1), 9);
-    let end = counted(less, write_length(length, &mut buffer, EDGE), 9);
-    let beyond = counted(end, write_length(length, &mut buffer, EDGE + 1), 10);
-    let malformed = Length {
-        negative: length.negative,
-        seconds: length.seconds,
-        nanoseconds: 1_000_000_000,
-    };
-    let mut edges = counted(beyond, write_length(malformed, &mut buffer, 0), 11);
-    edges.differ = unless(untouched(&buffer, EDGE), edges.differ);
-    let exact = write_length(length, &mut buffer, at);
-    edges = counted(edges, exact, 0);
-    edges.differ = unless(exact.position == EDGE, edges.differ);
-    edges.differ = unless(untouched(&buffer, at), edges.differ);
-    edges
+    try_refused(length, at + 1, NO_ROOM, counts);
+    try_refused(length, EDGE, NO_ROOM, counts);
+    try_refused(length, BEYOND, BEYOND_THE_END, counts);
+    let mut malformed = length;
+    malformed.nanoseconds = 1_000_000_000;
+    try_refused(malformed, 0, MALFORMED, counts);
+    try_exact(length, at, counts);
 }
 
 // How many lengths and bytes a list has, and its total as it is written.
@@ -242,20 +234,20 @@ fn round_all() -> Tally {
 }
 
 // The edges of a buffer, tried with so many lengths.
-fn edges_of(lengths: u64) -> Edges {
-    let mut edges = Edges {
-        written: 0,
-        no_room: 0,
-        beyond: 0,
-        malformed: 0,
-        differ: 0,
-    };
+fn try_all(lengths: u64, counts: &mut [u64; COUNTS]) {
     let mut tried = 0;
     while tried < lengths {
-        edges = try_edges(nth(tried), edges);
+        try_edges(nth(tried), counts);
         tried += 1;
     }
-    edges
+}
+
+// Which numbers the writer gave at the edges, and how often another than was wanted, or a byte was changed.
+fn print_edges(lengths: u64) {
+    let mut counts = [0u64; COUNTS];
+    try_all(lengths, &mut counts);
+    print_counts(b" at the edges: ", &counts, 0);
+    print_count(b"that differ: ", counts[DIFFERENCE]);
 }
 
 fn main() {
@@ -263,10 +255,5 @@ fn main() {
     print_count(b"cards: ", tally.cards);
     print_count(b"lengths written and read: ", tally.lengths);
     print_count(b"that differ: ", tally.differ);
-    let edges = edges_of(tally.lengths);
-    print_count(b"0 at the edges: ", edges.written);
-    print_count(b"9 at the edges: ", edges.no_room);
-    print_count(b"10 at the edges: ", edges.beyond);
-    print_count(b"11 at the edges: ", edges.malformed);
-    print_count(b"that differ: ", edges.differ);
+    print_edges(tally.lengths);
 }
