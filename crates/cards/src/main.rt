@@ -1,6 +1,7 @@
 // Checks stored cards again and prints number and position of each, and how many there are.
 // The first line says how often each card is checked, once for a test and often to count instructions: eight hexadecimal digits,
 // the lowest byte first. The cards follow.
+use answers::refusal;
 use card::table::card_check;
 use libc::STDOUT_FILENO;
 use lists::cards::MOST_BYTES;
@@ -9,7 +10,6 @@ use lists::cards::next_card;
 use lists::fields::half_at;
 use lists::lines::first_bytes;
 use lists::lines::read_line;
-use reading::answers::refusal;
 use rules::Settings;
 use settings::Checked;
 

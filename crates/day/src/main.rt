@@ -2,34 +2,26 @@
 // writes it. The first line says how often a total is written, once for a test and often to count instructions: eight hexadecimal
 // digits, the lowest byte first. The card follows, and then the texts, each a line of hexadecimal digits (run and size) and the line of
 // its bytes.
+use entries::shifted_total;
+use entries::write_length;
 use lengths::duration::zero;
 use libc::STDOUT_FILENO;
 use lists::cards::MOST_BYTES;
 use lists::cards::Next;
 use lists::cards::next_card;
 use lists::fields::half_at;
-use lists::fields::short_at;
 use lists::lines::first_bytes;
 use lists::lines::read_line;
-use lists::texts::read_text;
+use lists::texts::ROOM;
+use lists::texts::TEXT;
+use lists::texts::Text;
+use lists::texts::next_text;
 use rules::Answer;
 use rules::Length;
 use rules::Settings;
-use shift::shifted_total;
-use writing::writer::write_length;
 
 // Bytes of the first line.
 const ROUNDS: usize = 9;
-
-// Where run and size of a text stand in its first line, and how many bytes the line has.
-const RUN_AT: usize = 0;
-
-const SIZE_AT: usize = 8;
-
-const TEXT: usize = 13;
-
-// Room for the line of a text that is a little longer than a text may be.
-const ROOM: usize = 16_384;
 
 // Room for one length, the longest of which has 31 bytes.
 const ONE: usize = 32;
@@ -90,19 +82,12 @@ fn add_next(
     rounds: u32,
 ) -> Added {
     let mut line = [0u8; TEXT];
-    if !read_line(&mut line) {
+    let Text::Bytes(size) = next_text(&mut line, 0, buffer) else {
         return Added { more: false, total };
-    }
-    let run = half_at(&line, RUN_AT);
-    let size = short_at(&line, SIZE_AT);
-    if !read_text(buffer, run, size) {
-        return Added { more: false, total };
-    }
-    let bytes = run as usize + size as usize;
-    let sum = add_text(total, settings, table, buffer, bytes, rounds);
+    };
     Added {
         more: true,
-        total: sum,
+        total: add_text(total, settings, table, buffer, size, rounds),
     }
 }
 

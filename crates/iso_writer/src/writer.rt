@@ -7,9 +7,9 @@ ghost use Rattle.iso.specs.IsoTimings.{iso-written, iso-write-answer, iso-writt
 ghost use Rattle.writing.specs.Laid.{laid};
 ghost use Rattle.iso_writer.specs.Components.{shown};
 ghost use Rattle.iso_writer.specs.Forms.{Small, part-size, part-bytes, written-part, FewDigits, form-size, form-bytes};
+use answers::done;
+use answers::refusal;
 use lengths::duration::well_formed;
-use reading::answers::done;
-use reading::answers::refusal;
 use rules::Answer;
 use rules::Length;
 use rules::Refusal;

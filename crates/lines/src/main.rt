@@ -3,17 +3,17 @@
 ghost use mathlib.Core.Path.{_≡_};
 ghost use Rattle.rules.specs.NumbersHandedBack.{got};
 ghost use Rattle.rules.specs.SettingsAndUnitTable.{card-check};
+use answers::refusal;
 use card::table::card_check;
 use libc::STDIN_FILENO;
 use libc::STDOUT_FILENO;
 use lists::answers::print_answer;
 use lists::lines::first_bytes;
-use reading::answers::refusal;
+use printing::NEWLINE;
 use rules::Settings;
 use settings::Checked;
 use sheets::answering::answer_lines;
 use sheets::keeping::keep;
-use sheets::lines::NEWLINE;
 
 // More turns than any input takes, since a proved loop has to end.
 const MOST_TURNS: u64 = 18_446_744_073_709_551_615;

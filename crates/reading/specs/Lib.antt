@@ -5,3 +5,4 @@ pub mod Spans
 pub mod Allowed
 pub mod Totals
 pub mod Entries
+pub mod Shifts

@@ -1,5 +1,4 @@
 -- What each function answers, as the definitions have it. Assumes nothing.
-use Rattle.rules.specs.declared.Length.{Length}
 use Rattle.rules.specs.declared.Part.{Part}
 use Rattle.rules.specs.declared.Reading.{Reading}
 use Rattle.rules.specs.NumbersHandedBack.{Outcome, got, refused}
@@ -10,8 +9,6 @@ use Rattle.reading.specs.declared.typed.PartRead.{PartRead}
 use Rattle.reading.specs.declared.typed.PartRead.the-variants as PartRead
 use Rattle.reading.specs.declared.part.ReadingRead.{ReadingRead}
 use Rattle.reading.specs.declared.part.ReadingRead.the-variants as ReadingRead
-use Rattle.reading.specs.declared.total.TotalRead.{TotalRead}
-use Rattle.reading.specs.declared.total.TotalRead.the-variants as TotalRead
 
 abbrev pub started : StartRead → Outcome Start
 started (StartRead.Got found) = got found
@@ -24,7 +21,3 @@ part (PartRead.Refused cause) = refused cause
 abbrev pub reading : ReadingRead → Outcome Reading
 reading (ReadingRead.Got found) = got found
 reading (ReadingRead.Refused cause) = refused cause
-
-abbrev pub total : TotalRead → Outcome Length
-total (TotalRead.Got found) = got found
-total (TotalRead.Refused cause) = refused cause

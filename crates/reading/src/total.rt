@@ -2,19 +2,13 @@
 ghost use mathlib.Core.Path.{_≡_};
 ghost use Rattle.rules.specs.Evaluation.{total};
 ghost use Rattle.steps.specs.Units.{Readable};
-ghost use Rattle.reading.specs.Outcomes as outcomes;
+ghost use Rattle.answers.specs.Outcomes as outcomes;
 use crate::part::ReadingRead;
 use crate::part::parse_part;
+use answers::TotalRead;
 use lengths::duration::saturating_add;
 use lengths::duration::zero;
-use rules::Length;
-use rules::Refusal;
 use rules::Settings;
-
-pub enum TotalRead {
-    Got(Length),
-    Refused(Refusal),
-}
 
 pub fn parse_multiple(s: Settings, table: &[u8], text: &[u8]) -> TotalRead
     requires { ⌜ Readable (now table) ⌝ }

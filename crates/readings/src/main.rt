@@ -6,7 +6,9 @@
 ghost use mathlib.Core.Path.{_≡_};
 ghost use Rattle.rules.specs.NumbersHandedBack.{got};
 ghost use Rattle.rules.specs.SettingsAndUnitTable.{card-check};
+use answers::refusal;
 use card::table::card_check;
+use entries::read_total;
 use lists::answers::print_answer;
 use lists::cards::MOST_BYTES;
 use lists::cards::Next;
@@ -14,13 +16,13 @@ use lists::cards::next_card;
 use lists::fields::flag_at;
 use lists::fields::further;
 use lists::fields::half_at;
-use lists::fields::short_at;
 use lists::lines::first_bytes;
 use lists::lines::read_line;
-use lists::texts::read_text;
-use reading::answers::refusal;
-use reading::entries::read_total;
-use reading::entries::read_total_checked;
+use lists::texts::ROOM;
+use lists::texts::TEXT;
+use lists::texts::Text;
+use lists::texts::next_text;
+use reading::checked::read_total_checked;
 use rules::Answer;
 use rules::Settings;
 use settings::Checked;
@@ -30,16 +32,6 @@ const ROUNDS: usize = 11;
 
 // Where the first line says whether the card is checked in each call.
 const IN_EACH_CALL_AT: usize = 8;
-
-// Where run and size of a text stand in its first line, and how many bytes the line has.
-const RUN_AT: usize = 0;
-
-const SIZE_AT: usize = 8;
-
-const TEXT: usize = 13;
-
-// Room for the line of a text that is a little longer than a text may be.
-const ROOM: usize = 16_384;
 
 // More texts than any list has, since a proved loop has to end.
 const MOST_TEXTS: u64 = 1_000_000;
@@ -102,16 +94,10 @@ fn read_next(settings: Settings, table: &[u8], buffer: &mut [u8], often: Often) 
     requires { ⌜ card-check settings (now table) ≡ got tt ⌝ }
 {
     let mut line = [0u8; TEXT];
-    if !read_line(&mut line) {
+    let Text::Bytes(size) = next_text(&mut line, 0, buffer) else {
         return false;
-    }
-    let run = half_at(&line, RUN_AT);
-    let size = short_at(&line, SIZE_AT);
-    if !read_text(buffer, run, size) {
-        return false;
-    }
-    let bytes = run as usize + size as usize;
-    print_answer(read_text_often(settings, table, buffer, bytes, often));
+    };
+    print_answer(read_text_often(settings, table, buffer, size, often));
     true
 }
 

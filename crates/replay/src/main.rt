@@ -2,25 +2,31 @@
 // stored answer, and how many answers there were of each number.
 // A card of the list is followed by a line that says how many requests are made under it, and by these. A request is a line of
 // hexadecimal digits (entry, place, run and size of the text, number, position, length) and the line of its text.
+use entries::read_part;
+use entries::read_total;
 use libc::STDOUT_FILENO;
 use lists::answers::print_answer;
 use lists::answers::same_answer;
 use lists::cards::MOST_BYTES;
 use lists::cards::Next;
 use lists::cards::next_card;
+use lists::counts::CARD;
+use lists::counts::COUNTS;
+use lists::counts::DIFFERENCE;
+use lists::counts::ENTRY;
 use lists::counts::MOST;
-use lists::counts::one_more;
+use lists::counts::count;
+use lists::counts::count_answer;
+use lists::counts::print_counts;
 use lists::fields::byte_at;
 use lists::fields::flag_at;
 use lists::fields::half_at;
 use lists::fields::length_at;
-use lists::fields::short_at;
 use lists::fields::word_at;
 use lists::lines::first_bytes;
 use lists::lines::read_line;
-use lists::texts::read_text;
-use reading::entries::read_part;
-use reading::entries::read_total;
+use lists::texts::Text;
+use lists::texts::next_text;
 use rules::Answer;
 use rules::Settings;
 
@@ -32,9 +38,7 @@ const ENTRY_AT: usize = 0;
 
 const PLACE_AT: usize = 2;
 
-const RUN_AT: usize = 18;
-
-const SIZE_AT: usize = 26;
+const TEXT_AT: usize = 18;
 
 const NUMBER_AT: usize = 30;
 
@@ -48,205 +52,119 @@ const REQUEST: usize = 75;
 const ROOM: usize = 81_920;
 
 // Document 01's numbers are 0 to 11. The two entries give all but 9 and 11.
-const NUMBERS: usize = 12;
+const EXPECTED: usize = 12;
 
 // So many differing requests are shown.
 const SHOWN: u64 = 10;
 
-// A request but for its text, of which the run and the size are known, and the stored answer.
-struct Request {
-    is_part: bool,
-    place: usize,
-    run: u32,
-    size: u16,
-    answer: Answer,
-}
-
-enum Turn {
-    End,
-    Agrees,
-    Differs(Answer),
-}
-
-struct Tally {
-    cards: u64,
-    requests: u64,
-    differ: u64,
-}
-
-fn request_of(line: &[u8]) -> Request {
-    Request {
-        is_part: flag_at(line, ENTRY_AT),
-        place: word_at(line, PLACE_AT) as usize,
-        run: half_at(line, RUN_AT),
-        size: short_at(line, SIZE_AT),
-        answer: Answer {
-            number: byte_at(line, NUMBER_AT),
-            position: word_at(line, POSITION_AT) as usize,
-            length: length_at(line, LENGTH_AT),
-        },
+// What a request's line says was answered.
+fn stored_answer(line: &[u8]) -> Answer {
+    Answer {
+        number: byte_at(line, NUMBER_AT),
+        position: word_at(line, POSITION_AT) as usize,
+        length: length_at(line, LENGTH_AT),
     }
 }
 
-fn ask(settings: Settings, table: &[u8], text: &[u8], request: Request) -> Answer {
-    if request.is_part {
-        read_part(settings, table, text, request.place)
+// The request of a line, made again under a card.
+fn ask(settings: Settings, table: &[u8], text: &[u8], line: &[u8]) -> Answer {
+    if flag_at(line, ENTRY_AT) {
+        read_part(settings, table, text, word_at(line, PLACE_AT) as usize)
     } else {
         read_total(settings, table, text)
     }
 }
 
-fn count(number: u8, counts: &mut [u64; NUMBERS]) {
-    let n = number as usize;
-    if n < NUMBERS {
-        counts[n] = one_more(counts[n]);
+// A request that differs, by its place in the list, and the answer that was found. The first of them are shown.
+fn show(answer: Answer, counts: &[u64; COUNTS]) {
+    if counts[DIFFERENCE] <= SHOWN {
+        io::write_all(STDOUT_FILENO, b"request ");
+        io::print_decimal(STDOUT_FILENO, counts[ENTRY]);
+        io::write_all(STDOUT_FILENO, b" differs: ");
+        print_answer(answer);
     }
 }
 
-// The next request of the list, made again under a card.
+fn compare(answer: Answer, stored: Answer, counts: &mut [u64; COUNTS]) {
+    let agrees = same_answer(answer, stored);
+    count(ENTRY, counts);
+    count_answer(answer.number, agrees, counts);
+    if !agrees {
+        show(answer, counts);
+    }
+}
+
+// The next request of the list, made again under a card. False where the list ends.
 fn replay_next(
     settings: Settings,
     table: &[u8],
     text: &mut [u8],
-    counts: &mut [u64; NUMBERS],
-) -> Turn {
+    counts: &mut [u64; COUNTS],
+) -> bool {
     let mut line = [0u8; REQUEST];
-    if !read_line(&mut line) {
-        return Turn::End;
-    }
-    let request = request_of(&line);
-    if !read_text(text, request.run, request.size) {
-        return Turn::End;
-    }
-    let size = request.run as usize + request.size as usize;
-    let answer = ask(settings, table, first_bytes(text, size), request);
-    count(answer.number, counts);
-    if same_answer(answer, request.answer) {
-        Turn::Agrees
-    } else {
-        Turn::Differs(answer)
-    }
+    let Text::Bytes(size) = next_text(&mut line, TEXT_AT, text) else {
+        return false;
+    };
+    let answer = ask(settings, table, first_bytes(text, size), &line);
+    compare(answer, stored_answer(&line), counts);
+    true
 }
 
-// A request that differs, by its place in the list, and the answer that was found.
-fn show(requests: u64, answer: Answer) {
-    io::write_all(STDOUT_FILENO, b"request ");
-    io::print_decimal(STDOUT_FILENO, requests);
-    io::write_all(STDOUT_FILENO, b" differs: ");
-    print_answer(answer);
-}
-
-// One more request that differs, the first of them shown.
-fn differing(tally: Tally, answer: Answer) -> Tally {
-    if tally.differ < SHOWN {
-        show(tally.requests, answer);
-    }
-    Tally {
-        cards: tally.cards,
-        requests: tally.requests,
-        differ: one_more(tally.differ),
-    }
-}
-
-// So many requests made again under a card; fewer where the list ends.
+// The requests under a card, of which a line says how many there are. False where the list ends.
 fn replay_requests(
     settings: Settings,
     table: &[u8],
-    requests: u32,
     text: &mut [u8],
-    counts: &mut [u64; NUMBERS],
-    before: Tally,
-) -> Tally {
-    let mut tally = before;
-    let mut left = requests;
-    while left > 0 {
-        match replay_next(settings, table, text, counts) {
-            Turn::End => {
-                return tally;
-            }
-            Turn::Agrees => {
-                tally.requests = one_more(tally.requests);
-            }
-            Turn::Differs(answer) => {
-                tally.requests = one_more(tally.requests);
-                tally = differing(tally, answer);
-            }
-        }
-        left -= 1;
-    }
-    tally
-}
-
-// The next card of the list, and the requests under it. Where the list ends, no card more is counted.
-fn replay_card(
-    table: &mut [u8],
-    text: &mut [u8],
-    counts: &mut [u64; NUMBERS],
-    before: Tally,
-) -> Tally {
-    let Next::Card(card) = next_card(table) else {
-        return before;
-    };
+    counts: &mut [u64; COUNTS],
+) -> bool {
     let mut line = [0u8; COUNT];
     if !read_line(&mut line) {
-        return before;
+        return false;
     }
-    let tally = Tally {
-        cards: one_more(before.cards),
-        requests: before.requests,
-        differ: before.differ,
-    };
-    replay_requests(
-        card.settings,
-        first_bytes(table, card.size),
-        half_at(&line, 0),
-        text,
-        counts,
-        tally,
-    )
-}
-
-// Every card of the list, until one brings none.
-fn replay_all(text: &mut [u8], counts: &mut [u64; NUMBERS]) -> Tally {
-    let mut table = [0u8; MOST_BYTES];
-    let mut tally = Tally {
-        cards: 0,
-        requests: 0,
-        differ: 0,
-    };
-    let mut left = MOST;
+    count(CARD, counts);
+    let mut left = half_at(&line, 0);
     while left > 0 {
-        let cards = tally.cards;
-        tally = replay_card(&mut table, text, counts, tally);
-        if tally.cards == cards {
-            return tally;
+        if !replay_next(settings, table, text, counts) {
+            return false;
         }
         left -= 1;
     }
-    tally
+    true
 }
 
-// How many answers there were of each number, a line for each.
-fn print_counts(counts: &[u64; NUMBERS]) {
-    let mut number = 0;
-    while number < NUMBERS {
-        io::print_decimal(STDOUT_FILENO, number as u64);
-        io::write_all(STDOUT_FILENO, b": ");
-        io::print_decimal(STDOUT_FILENO, counts[number]);
-        io::write_all(STDOUT_FILENO, b"\n");
-        number += 1;
+// The next card of the list, and the requests under it. False where the list ends.
+fn replay_card(table: &mut [u8], text: &mut [u8], counts: &mut [u64; COUNTS]) -> bool {
+    let Next::Card(card) = next_card(table) else {
+        return false;
+    };
+    replay_requests(card.settings, first_bytes(table, card.size), text, counts)
+}
+
+// Every card of the list.
+fn replay_all(text: &mut [u8], counts: &mut [u64; COUNTS]) {
+    let mut table = [0u8; MOST_BYTES];
+    let mut left = MOST;
+    while left > 0 {
+        if !replay_card(&mut table, text, counts) {
+            return;
+        }
+        left -= 1;
     }
+}
+
+fn print_all(counts: &[u64; COUNTS]) {
+    io::print_decimal(STDOUT_FILENO, counts[ENTRY]);
+    io::write_all(STDOUT_FILENO, b" requests under ");
+    io::print_decimal(STDOUT_FILENO, counts[CARD]);
+    io::write_all(STDOUT_FILENO, b" cards, ");
+    io::print_decimal(STDOUT_FILENO, counts[DIFFERENCE]);
+    io::write_all(STDOUT_FILENO, b" differ\n");
+    print_counts(b": ", counts, EXPECTED);
 }
 
 fn main() {
+    let mut counts = [0u64; COUNTS];
     let mut text = [0u8; ROOM];
-    let mut counts = [0u64; NUMBERS];
-    let tally = replay_all(&mut text, &mut counts);
-    io::print_decimal(STDOUT_FILENO, tally.requests);
-    io::write_all(STDOUT_FILENO, b" requests under ");
-    io::print_decimal(STDOUT_FILENO, tally.cards);
-    io::write_all(STDOUT_FILENO, b" cards, ");
-    io::print_decimal(STDOUT_FILENO, tally.differ);
-    io::write_all(STDOUT_FILENO, b" differ\n");
-    print_counts(&counts);
+    replay_all(&mut text, &mut counts);
+    print_all(&counts);
 }

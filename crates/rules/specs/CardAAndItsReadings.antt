@@ -123,7 +123,8 @@ starred-readings = tt
 -- ---- readings beside them, each of which a wrong definition would miss
 
 -- the limit is tested after the multiplier; nanoseconds are rounded down; a typed sign and `ago` undo each other, and `ago` must
--- be followed by an end, an outer delimiter, a digit or a sign; each sum is clamped, and not the last alone
+-- be followed by an end, an outer delimiter, a digit or a sign; each sum is clamped, and not the last alone; a stretch that is no
+-- unit is not passed over; and those of document 01's table that have no star
 unfoldable pub beside : List Case
 beside =
     reads "18446744073709551615min" (largest false)
@@ -131,6 +132,13 @@ beside =
     ∷ reads "-2s ago" (plus 2 0)
     ∷ fails "2s agog" 6 3
     ∷ reads "inf inf -inf" (plus 0 0)
+    ∷ fails "1x" 6 1
+    ∷ reads "1e-32768" (plus 0 0)
+    ∷ reads "3turn" (plus 0 36900000)
+    ∷ fails "1s android" 2 6
+    ∷ fails "1s and" 2 3
+    ∷ fails "1s " 2 2
+    ∷ fails "infi" 2 0
     ∷ []
 
 pub readings-beside : T (all (holds-under card-A table-A) beside)

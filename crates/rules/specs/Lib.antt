@@ -9,6 +9,7 @@ pub mod WriterAndShiftTotal
 pub mod WhatEveryEntryOwes
 pub mod Computing
 pub mod CardAAndItsReadings
+pub mod EntriesAtTheirLimits
 pub mod AUnitNobodyCouldType
 pub mod WhichExponentDigitIsWrong
 pub mod Laws

@@ -1,5 +1,8 @@
 // The types that every layer shares. What their values mean is said in specs/, a file for each heading of document 01.
 
+// Bytes of the longest text that is read.
+pub const LONGEST_TEXT: usize = 4_096;
+
 // A length of time. Zero always has a plus sign.
 pub struct Length {
     pub negative: bool,
@@ -12,6 +15,12 @@ pub struct Answer {
     pub number: u8,
     pub position: usize,
     pub length: Length,
+}
+
+// What the shift total by value hands back: the answer, and the total then.
+pub struct ShiftedTotal {
+    pub answer: Answer,
+    pub total: Length,
 }
 
 // A set of bytes: byte b is in it if bit b % 64 of word b / 64 is 1. It can hold any of the 256 bytes, so that a wrong

@@ -16,8 +16,8 @@ use Rattle.rules.specs.WhatEveryEntryOwes.{total-answer}
 use Rattle.rules.specs.Laws.Tests.{and-false}
 use Rattle.writing.specs.Laid.{laid, laid-length, laid-then, laid-nothing}
 use Rattle.sheets.specs.declared.answering.Progress.{Progress}
-use Rattle.sheets.specs.Lines.{newline, lines, line-end, line-at, lines-at, line-then, end-from, end-within, end-line, end-newline, Whole, whole-nothing, whole-closed}
-use Rattle.sheets.specs.Printed.{printed as printed-form, line-printed, printed-all, sheet-printed, printed-both, printed-next, printed-buffer, stays, moves, no-room, put-there}
+use Rattle.printing.specs.Lines.{newline, lines, line-end, line-at, lines-at, line-then, end-from, end-within, end-line, end-newline, Whole, whole-nothing, whole-closed}
+use Rattle.printing.specs.Printed.{printed as printed-form, line-printed, printed-all, sheet-printed, printed-both, printed-next, printed-buffer, stays, moves, no-room, put-there}
 
 -- line by line from what has been read and printed, as long as a line has its newline and what is printed for it fits the room
 unfoldable pub come : (List ℕ → List ℕ) → ℕ → ℕ → List (List ℕ) → Progress → Progress

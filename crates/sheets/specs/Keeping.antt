@@ -8,7 +8,7 @@ use lib.ListN.{length, getD, take, drop, set, length-take, length-drop}
 use lib.Seq.{take-suc, take-length, length-take-le, getD-take, getD-drop, getD-append-add}
 use Rattle.rules.specs.ThePartOfTheCrateWeTake.{longest-text}
 use Rattle.writing.specs.Laid.{laid, laid-length, laid-nothing, laid-byte}
-use Rattle.sheets.specs.Printed.{kept-of}
+use Rattle.printing.specs.Printed.{kept-of}
 
 -- what is kept of the bytes from one place of a buffer to another
 unfoldable pub kept : List ℕ → ℕ → ℕ → List ℕ

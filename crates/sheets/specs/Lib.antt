@@ -1,8 +1,4 @@
--- What the lines of a sheet are, what is printed for them, and laws of both.
-pub mod Lines
-pub mod Printed
-pub mod Fields
+-- How far a sheet is answered, what is kept of a line that has not ended, and laws of both.
 pub mod Answering
 pub mod Keeping
 pub mod Pieces
-pub mod Examples

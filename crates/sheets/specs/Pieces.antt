@@ -16,8 +16,8 @@ use Rattle.rules.specs.WhatEveryEntryOwes.{total-answer}
 use Rattle.rules.specs.WriterAndShiftTotal.{no-leading-zeros, decimals, second-digits, whole-digits}
 use Rattle.writing.specs.Digits.{decimals-length}
 use Rattle.sheets.specs.declared.answering.Progress.{Progress}
-use Rattle.sheets.specs.Lines.{newline, in-line, lines, line-end, line-at, line-then, line-last, end-from, end-line, Whole, whole-nothing}
-use Rattle.sheets.specs.Printed.{space, field, printed, line-printed, printed-all, sheet-printed, kept-of, printed-both, sheet-kept}
+use Rattle.printing.specs.Lines.{newline, in-line, lines, line-end, line-at, line-then, line-last, end-from, end-line, Whole, whole-nothing}
+use Rattle.printing.specs.Printed.{space, field, printed, line-printed, printed-all, sheet-printed, kept-of, printed-both, sheet-kept}
 use Rattle.sheets.specs.Answering.{answered-to, going-on, on-end, on-full, on-more, whole-line}
 
 unfoldable pub joined : List (List ℕ) → List ℕ

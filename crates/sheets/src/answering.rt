@@ -5,11 +5,11 @@ ghost use lib.ListN.{length, take};
 ghost use Rattle.rules.specs.NumbersHandedBack.{got};
 ghost use Rattle.rules.specs.SettingsAndUnitTable.{card-check};
 ghost use Rattle.writing.specs.Laid.{laid};
-ghost use Rattle.sheets.specs.Printed.{sheet-printed};
+ghost use Rattle.printing.specs.Printed.{sheet-printed};
 ghost use Rattle.sheets.specs.Answering.{answered-to};
 use crate::lines::line_end;
-use crate::printing::put_answer;
-use reading::entries::read_total_checked;
+use printing::put_answer;
+use reading::checked::read_total_checked;
 use rules::Settings;
 
 // How many bytes of a sheet have been answered, and how many have been printed for them.

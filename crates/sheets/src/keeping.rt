@@ -3,7 +3,7 @@ ghost use mathlib.Core.Path.{_≡_};
 ghost use lib.ListN.{length};
 ghost use Rattle.writing.specs.Laid.{laid};
 ghost use Rattle.sheets.specs.Keeping.{kept};
-use reading::entries::LONGEST_TEXT;
+use rules::LONGEST_TEXT;
 
 // Of the bytes from one place to another the first, as many as the longest text has and one more, are moved to the buffer's start;
 // how many they are is handed back. What a line has beyond them changes no answer.

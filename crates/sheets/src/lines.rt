@@ -1,8 +1,7 @@
 // Where a line of a sheet ends.
 ghost use mathlib.Core.Path.{_≡_};
-ghost use Rattle.sheets.specs.Lines.{line-end};
-
-pub const NEWLINE: u8 = 10;
+ghost use Rattle.printing.specs.Lines.{line-end};
+use printing::NEWLINE;
 
 // The place of the next newline from here on, or the sheet's end; a place beyond the end stays where it is.
 pub fn line_end(sheet: &[u8], from: usize) -> usize

@@ -6,10 +6,10 @@ use Rattle.replay.proofs.replay_all.Statement.{statement}
 use Rattle.replay.proofs.replay_all.Tie as tie
 
 abbrev Inv-loop : tie.InvT-loop
-Inv-loop text₀ counts₀ table₀ tally₀ left₀ text counts table tally left = (length text ≡ length text₀) × (length table ≡ length table₀)
+Inv-loop text₀ counts₀ table₀ left₀ text counts table left = (length text ≡ length text₀) × (length table ≡ length table₀)
 
 abbrev μ-loop : tie.MeasureT-loop
-μ-loop text₀ counts₀ table₀ tally₀ left₀ text counts table tally left = left
+μ-loop text₀ counts₀ table₀ left₀ text counts table left = left
 
 pub replay-all-spec : {M : Type 1} → statement M
 replay-all-spec =

@@ -1,7 +1,7 @@
 -- `iso_reader::reader::read_iso` meets its contract: a text that is too long, one that is refused, and one that is read. Assumes nothing.
 use mathlib.Core.Path.{sym, ap, _∙_}
 use borrow.Author.Needs.{needs}
-use Rattle.reading.specs.Outcomes.{total}
+use Rattle.answers.specs.Outcomes.{total}
 use Rattle.iso_reader.specs.Answers.{answer-too-long, answer-refused, answer-read}
 use Rattle.iso_reader.proofs.reader.read_iso.Statement.{statement}
 use Rattle.iso_reader.proofs.reader.read_iso.Tie as tie

@@ -5,7 +5,7 @@ use native.Mathlib.Omega.{arith}
 use borrow.Author.Needs.{needs}
 use lib.ListN.{length, take, drop}
 use Rattle.rules.specs.WhatEveryEntryOwes.{total-answer}
-use Rattle.sheets.specs.Lines.{line-end, line-at, end-from}
+use Rattle.printing.specs.Lines.{line-end, line-at, end-from}
 use Rattle.sheets.specs.Answering.{answered-to, on-end, Answered, none-answered, answered-length, full, more}
 use Rattle.sheets.proofs.answering.answer_lines.Statement.{statement}
 use Rattle.sheets.proofs.answering.answer_lines.Tie as tie

@@ -3,7 +3,7 @@ use mathlib.Core.Path.{_≡_, refl, sym, _∙_}
 use Prim.Native.Nat.{_-_}
 use borrow.Author.Needs.{needs}
 use lib.ListN.{length}
-use Rattle.sheets.specs.Lines.{line-end, end-beyond, end-here, end-further}
+use Rattle.printing.specs.Lines.{line-end, end-beyond, end-here, end-further}
 use Rattle.sheets.proofs.lines.line_end.Statement.{statement}
 use Rattle.sheets.proofs.lines.line_end.Tie as tie
 

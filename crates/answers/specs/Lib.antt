@@ -1,0 +1,2 @@
+-- What the contracts of those that find a length need besides the definitions.
+pub mod Outcomes

@@ -1,0 +1,75 @@
+// What is handed back: the number and the position of each refusal, in one place; and a length as it is found, before it is handed back.
+ghost use mathlib.Core.Path.{_≡_};
+ghost use Rattle.rules.specs.NumbersHandedBack.{number, position, refusal, done};
+use lengths::duration::zero;
+use rules::Answer;
+use rules::Length;
+use rules::Refusal;
+
+// What the parts of a text come to, or why they are refused.
+pub enum TotalRead {
+    Got(Length),
+    Refused(Refusal),
+}
+
+pub fn done(position: usize, length: Length) -> Answer
+    ensures { λ r. ⌜ r ≡ done position length ⌝ }
+{
+    Answer {
+        number: 0,
+        position,
+        length,
+    }
+}
+
+// A number that is handed back, and its position.
+struct Numbered(u8, usize);
+
+// A forbidden negative holds a place too, and is handed back with 0.
+fn number_and_position(cause: Refusal) -> Numbered
+    ensures { λ r. ⌜ (r .0 ≡ number cause) × (r .1 ≡ position cause) ⌝ }
+{
+    match cause {
+        Refusal::Nothing(place) => Numbered(1, place),
+        Refusal::SignEnds(place) => Numbered(2, place),
+        Refusal::DelimiterEnds(place) => Numbered(2, place),
+        Refusal::FractionOff(place) => Numbered(2, place),
+        Refusal::FractionEmpty(place) => Numbered(2, place),
+        Refusal::ExponentOff(place) => Numbered(2, place),
+        Refusal::ExponentByte(place) => Numbered(2, place),
+        Refusal::ExponentEnds(place) => Numbered(2, place),
+        Refusal::ExponentAbove(place) => Numbered(3, place),
+        Refusal::ExponentBelow(place) => Numbered(4, place),
+        Refusal::InfinityByte(place) => Numbered(2, place),
+        Refusal::InfinityEnds(place) => Numbered(2, place),
+        Refusal::InfinityGoesOn(place) => Numbered(2, place),
+        Refusal::ConjunctionEnds(place) => Numbered(2, place),
+        Refusal::ConjunctionGoesOn(place) => Numbered(2, place),
+        Refusal::NegativeForbidden(_) => Numbered(5, 0),
+        Refusal::NoNumber(place) => Numbered(6, place),
+        Refusal::Delimiters => Numbered(7, 65),
+        Refusal::Conjunctions => Numbered(7, 66),
+        Refusal::DefaultKind => Numbered(7, 67),
+        Refusal::TableSize => Numbered(7, 64),
+        Refusal::BadRow(row) => Numbered(7, row),
+        Refusal::TextTooLong => Numbered(8, 4_096),
+        Refusal::NoRoom(place) => Numbered(9, place),
+        Refusal::Beyond(place) => Numbered(10, place),
+        Refusal::Malformed => Numbered(11, 0),
+        Refusal::NotIso(place) => Numbered(12, place),
+        Refusal::YearOrMonth(place) => Numbered(13, place),
+        Refusal::TooLarge => Numbered(14, 0),
+    }
+}
+
+// A refusal has a plus-signed zero length.
+pub fn refusal(cause: Refusal) -> Answer
+    ensures { λ r. ⌜ r ≡ refusal cause ⌝ }
+{
+    let found = number_and_position(cause);
+    Answer {
+        number: found.0,
+        position: found.1,
+        length: zero(),
+    }
+}

@@ -1,0 +1,78 @@
+// The entries: all that a user calls, and nothing else. Each promises its answer for all arguments, with what every lent byte or record
+// then holds, and asks nothing. They check the card and hand on to the crates that do the work, which are inner.
+ghost use mathlib.Core.Path.{_≡_};
+ghost use Rattle.rules.specs.WhatEveryEntryOwes.{part-answer, total-answer, write-answer, written-buffer, shift-answer, shifted-record};
+ghost use Rattle.iso.specs.IsoTimings.{iso-answer, iso-write-answer, iso-written-buffer};
+use answers::refusal;
+use card::table::card_check;
+use reading::checked::read_part_checked;
+use reading::checked::read_total_checked;
+use reading::shift::kept;
+use reading::shift::shifted_total_checked;
+use rules::Answer;
+use rules::Length;
+use rules::Settings;
+use rules::ShiftedTotal;
+use settings::Checked;
+
+// One part of a text, from a place on.
+pub fn read_part(s: Settings, table: &[u8], text: &[u8], place: usize) -> Answer
+    ensures { λ r. ⌜ r ≡ part-answer s (now (table .entry)) (now (text .entry)) place ⌝ }
+{
+    match card_check(s, table) {
+        Checked::Refused(cause) => refusal(cause),
+        Checked::Accepted => read_part_checked(s, table, text, place),
+    }
+}
+
+// A text's total.
+pub fn read_total(s: Settings, table: &[u8], text: &[u8]) -> Answer
+    ensures { λ r. ⌜ r ≡ total-answer s (now (table .entry)) (now (text .entry)) ⌝ }
+{
+    match card_check(s, table) {
+        Checked::Refused(cause) => refusal(cause),
+        Checked::Accepted => read_total_checked(s, table, text),
+    }
+}
+
+// A length, written at a place of a buffer.
+pub fn write_length(length: Length, buffer: &mut [u8], place: usize) -> Answer
+    ensures { λ r. ⌜ r ≡ write-answer length (now (buffer .entry)) place ⌝ }
+    ensures { λ r. ⌜ now (buffer .exit) ≡ written-buffer length (now (buffer .entry)) place ⌝ }
+{
+    writing::writer::write_length(length, buffer, place)
+}
+
+// The shift total by value: what is handed back, and what a lent record has to hold afterwards.
+pub fn shifted_total(total: Length, s: Settings, table: &[u8], text: &[u8]) -> ShiftedTotal
+    ensures { λ r. ⌜ (r .answer ≡ shift-answer total s (now (table .entry)) (now (text .entry))) × (r .total ≡ shifted-record total s (now (table .entry)) (now (text .entry))) ⌝ }
+{
+    match card_check(s, table) {
+        Checked::Refused(cause) => kept(total, cause),
+        Checked::Accepted => shifted_total_checked(total, s, table, text),
+    }
+}
+
+// The shift total: the record is lent, and added to in place. No other function takes a loan of a struct.
+pub fn add_total(total: &mut Length, s: Settings, table: &[u8], text: &[u8]) -> Answer
+    ensures { λ r. ⌜ (r ≡ shift-answer (now (total .entry)) s (now (table .entry)) (now (text .entry))) × (now (total .exit) ≡ shifted-record (now (total .entry)) s (now (table .entry)) (now (text .entry))) ⌝ }
+{
+    let shifted = shifted_total(*total, s, table, text);
+    *total = shifted.total;
+    shifted.answer
+}
+
+// An ISO timing.
+pub fn read_iso(text: &[u8]) -> Answer
+    ensures { λ r. ⌜ r ≡ iso-answer (now (text .entry)) ⌝ }
+{
+    iso_reader::reader::read_iso(text)
+}
+
+// A length, written as an ISO timing at a place of a buffer.
+pub fn write_iso(length: Length, buffer: &mut [u8], place: usize) -> Answer
+    ensures { λ r. ⌜ r ≡ iso-write-answer length (now (buffer .entry)) place ⌝ }
+    ensures { λ r. ⌜ now (buffer .exit) ≡ iso-written-buffer length (now (buffer .entry)) place ⌝ }
+{
+    iso_writer::writer::write_iso(length, buffer, place)
+}

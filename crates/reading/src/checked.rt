@@ -1,0 +1,44 @@
+// One part, and a text's total, under a card that has been checked: whoever reads many texts under one card checks it once.
+ghost use mathlib.Core.Path.{_≡_};
+ghost use Rattle.rules.specs.NumbersHandedBack.{got};
+ghost use Rattle.rules.specs.SettingsAndUnitTable.{card-check};
+ghost use Rattle.rules.specs.WhatEveryEntryOwes.{part-answer, total-answer};
+use crate::part::ReadingRead;
+use crate::part::parse_part;
+use crate::total::parse_multiple;
+use answers::TotalRead;
+use answers::done;
+use answers::refusal;
+use rules::Answer;
+use rules::LONGEST_TEXT;
+use rules::Refusal;
+use rules::Settings;
+
+pub fn read_part_checked(s: Settings, table: &[u8], text: &[u8], place: usize) -> Answer
+    requires { ⌜ card-check s (now table) ≡ got tt ⌝ }
+    ensures { λ r. ⌜ r ≡ part-answer s (now (table .entry)) (now (text .entry)) place ⌝ }
+{
+    if text.len() > LONGEST_TEXT {
+        return refusal(Refusal::TextTooLong);
+    }
+    if place > text.len() {
+        return refusal(Refusal::Beyond(place));
+    }
+    match parse_part(s, table, text, place) {
+        ReadingRead::Refused(cause) => refusal(cause),
+        ReadingRead::Got(reading) => done(reading.next, reading.length),
+    }
+}
+
+pub fn read_total_checked(s: Settings, table: &[u8], text: &[u8]) -> Answer
+    requires { ⌜ card-check s (now table) ≡ got tt ⌝ }
+    ensures { λ r. ⌜ r ≡ total-answer s (now (table .entry)) (now (text .entry)) ⌝ }
+{
+    if LONGEST_TEXT < text.len() {
+        return refusal(Refusal::TextTooLong);
+    }
+    match parse_multiple(s, table, text) {
+        TotalRead::Refused(cause) => refusal(cause),
+        TotalRead::Got(length) => done(text.len(), length),
+    }
+}

@@ -1,0 +1,49 @@
+// A length added to by a text's total, under a card that has been checked.
+ghost use mathlib.Core.Path.{_≡_};
+ghost use Rattle.rules.specs.NumbersHandedBack.{got, refusal};
+ghost use Rattle.rules.specs.SettingsAndUnitTable.{card-check};
+ghost use Rattle.rules.specs.WhatEveryEntryOwes.{shift-answer, shifted-record};
+use crate::total::parse_multiple;
+use answers::TotalRead;
+use answers::done;
+use answers::refusal;
+use lengths::duration::saturating_add;
+use lengths::duration::well_formed;
+use rules::LONGEST_TEXT;
+use rules::Length;
+use rules::Refusal;
+use rules::Settings;
+use rules::ShiftedTotal;
+
+// A refusal leaves the total as it was.
+pub fn kept(total: Length, cause: Refusal) -> ShiftedTotal
+    ensures { λ r. ⌜ (r .answer ≡ refusal cause) × (r .total ≡ total) ⌝ }
+{
+    ShiftedTotal {
+        answer: refusal(cause),
+        total,
+    }
+}
+
+// A malformed total comes before a text that is too long.
+pub fn shifted_total_checked(total: Length, s: Settings, table: &[u8], text: &[u8]) -> ShiftedTotal
+    requires { ⌜ card-check s (now table) ≡ got tt ⌝ }
+    ensures { λ r. ⌜ (r .answer ≡ shift-answer total s (now (table .entry)) (now (text .entry))) × (r .total ≡ shifted-record total s (now (table .entry)) (now (text .entry))) ⌝ }
+{
+    if !well_formed(total) {
+        return kept(total, Refusal::Malformed);
+    }
+    if LONGEST_TEXT < text.len() {
+        return kept(total, Refusal::TextTooLong);
+    }
+    match parse_multiple(s, table, text) {
+        TotalRead::Refused(cause) => kept(total, cause),
+        TotalRead::Got(length) => {
+            let sum = saturating_add(total, length);
+            ShiftedTotal {
+                answer: done(text.len(), sum),
+                total: sum,
+            }
+        }
+    }
+}

@@ -1,2 +1,0 @@
--- Laws of the shift total's answers.
-pub mod Shifts
