@@ -95,7 +95,8 @@ impl Length {
 
     /// Writes the length at the end of a text. Texts of lengths so written, one
     /// after the other, read back to the same lengths under every card that has
-    /// negatives and fractions on and seconds as its default kind.
+    /// negatives and fractions on and seconds as its default kind, as long as
+    /// they have no more than the 4,096 bytes that are read of any text.
     pub fn append_to(self, text: &mut Vec<u8>) {
         let place = text.len();
         text.resize(place + MOST_WRITTEN, 0);
