@@ -5,8 +5,11 @@ ghost use Prim.Native.Nat.{ℕ, _<_, _≤_};
 ghost use lib.Dec.{eqb};
 ghost use lib.ListN.{length, drop};
 ghost use Rattle.rules.specs.Common.{all, same};
-ghost use Rattle.rules.specs.SettingsAndUnitTable.{row-size, rows, row, name, named, led-by-e, e-may-lead, row-right, row-accepted, rows-check, table-check, card-check};
+ghost use Rattle.rules.specs.NumbersHandedBack.{got};
+ghost use Rattle.rules.specs.SettingsAsWords.{settings-of};
+ghost use Rattle.rules.specs.SettingsAndUnitTable.{settings-check, row-size, rows, row, name, named, led-by-e, e-may-lead, row-right, row-accepted, rows-check, table-check, card-check};
 ghost use Rattle.settings.specs.Outcomes.{outcome};
+ghost use Rattle.settings.specs.Sets.{bytes-of};
 ghost use Rattle.card.specs.Fields.{padded, outside, unnameable};
 use rows::fields::KIND_AT;
 use rows::fields::NAME_AT;
@@ -15,14 +18,17 @@ use rows::fields::ZEROS_AT;
 use rows::fields::name_of;
 use rows::fields::product_in_range;
 use rows::fields::row_at;
-use rules::ByteSet;
 use rules::Refusal;
-use rules::Settings;
 use settings::Checked;
 use settings::check::settings_check;
+use settings::fields::before_unit;
+use settings::fields::exponents;
+use settings::sets::AsciiSet;
 use settings::sets::either;
 use settings::sets::empty;
 use settings::sets::holds;
+use settings::sets::inner_delimiters;
+use settings::sets::outer_delimiters;
 use words::half_at;
 use words::word_at;
 
@@ -64,23 +70,23 @@ fn padded(row: &[u8]) -> bool
 }
 
 // The bytes that no name holds, as one set: the delimiters of both sets, `+`, `-`, `.` and the digits.
-fn unnameable(s: Settings) -> ByteSet
-    ensures { λ r. ⌜ r ≡ unnameable s ⌝ }
+fn unnameable(settings: &[u64; 25]) -> AsciiSet
+    requires { ⌜ settings-check (settings-of (now settings)) ≡ got tt ⌝ }
+    ensures { λ r. ⌜ bytes-of r ≡ unnameable (settings-of (now (settings .entry))) ⌝ }
 {
-    let inner = s.inner;
-    let outer = s.outer;
-    let number = ByteSet {
-        word0: NUMBER_BYTES,
-        word1: 0,
-        word2: 0,
-        word3: 0,
+    let number = AsciiSet {
+        low: NUMBER_BYTES,
+        high: 0,
     };
-    either(either(inner, outer), number)
+    either(
+        either(inner_delimiters(settings), outer_delimiters(settings)),
+        number,
+    )
 }
 
 // Whether the set holds none of the name's bytes.
-fn name_accepted(set: ByteSet, name: &[u8]) -> bool
-    ensures { λ r. ⌜ r ≡ all (outside set) (now (name .entry)) ⌝ }
+fn name_accepted(set: AsciiSet, name: &[u8]) -> bool
+    ensures { λ r. ⌜ r ≡ all (outside (bytes-of set)) (now (name .entry)) ⌝ }
 {
     let mut i = 0;
     while i < name.len() {
@@ -126,11 +132,11 @@ fn named_before(table: &[u8], i: usize) -> bool
 }
 
 // Document 01's tests of a row.
-fn row_right(s: Settings, set: ByteSet, table: &[u8], i: usize) -> bool
+fn row_right(settings: &[u64; 25], set: AsciiSet, table: &[u8], i: usize) -> bool
     requires { ⌜ i < rows (now table) ⌝ }
     requires { ⌜ ((j : ℕ) → j < i → padded (row (now table) j) ≡ true) ⌝ }
-    requires { ⌜ set ≡ unnameable s ⌝ }
-    ensures { λ r. ⌜ r ≡ row-right s (now (table .entry)) i ⌝ }
+    requires { ⌜ bytes-of set ≡ unnameable (settings-of (now settings)) ⌝ }
+    ensures { λ r. ⌜ r ≡ row-right (settings-of (now (settings .entry))) (now (table .entry)) i ⌝ }
 {
     let own = row_at(table, i);
     if !padded(own) {
@@ -153,17 +159,17 @@ fn row_right(s: Settings, set: ByteSet, table: &[u8], i: usize) -> bool
 
 // Whether something can stand between a number and a name led by `e`, so that the `e` begins no exponent: an exponent, or a
 // delimiter.
-fn e_may_lead(s: Settings) -> bool
-    ensures { λ r. ⌜ r ≡ e-may-lead s ⌝ }
+fn e_may_lead(settings: &[u64; 25]) -> bool
+    requires { ⌜ settings-check (settings-of (now settings)) ≡ got tt ⌝ }
+    ensures { λ r. ⌜ r ≡ e-may-lead (settings-of (now (settings .entry))) ⌝ }
 {
-    if s.exponents {
+    if exponents(settings) {
         return true;
     }
-    if !s.before_unit {
+    if !before_unit(settings) {
         return false;
     }
-    let between = s.inner;
-    !empty(between)
+    !empty(inner_delimiters(settings))
 }
 
 fn led_by_e(row: &[u8]) -> bool
@@ -176,13 +182,13 @@ fn led_by_e(row: &[u8]) -> bool
 
 // Document 01's tests, and the name can be typed. What depends on the settings alone is made once for a table: `set`, the bytes that
 // no name holds, and `leads`, whether an `e` may lead one.
-fn row_accepted(s: Settings, set: ByteSet, leads: bool, table: &[u8], i: usize) -> bool
+fn row_accepted(settings: &[u64; 25], set: AsciiSet, leads: bool, table: &[u8], i: usize) -> bool
     requires { ⌜ i < rows (now table) ⌝ }
     requires { ⌜ ((j : ℕ) → j < i → padded (row (now table) j) ≡ true) ⌝ }
-    requires { ⌜ (set ≡ unnameable s) × (leads ≡ e-may-lead s) ⌝ }
-    ensures { λ r. ⌜ r ≡ row-accepted s (now (table .entry)) i ⌝ }
+    requires { ⌜ (bytes-of set ≡ unnameable (settings-of (now settings))) × (leads ≡ e-may-lead (settings-of (now settings))) ⌝ }
+    ensures { λ r. ⌜ r ≡ row-accepted (settings-of (now (settings .entry))) (now (table .entry)) i ⌝ }
 {
-    if !row_right(s, set, table, i) {
+    if !row_right(settings, set, table, i) {
         return false;
     }
     if leads {
@@ -191,15 +197,16 @@ fn row_accepted(s: Settings, set: ByteSet, leads: bool, table: &[u8], i: usize) 
     !led_by_e(row_at(table, i))
 }
 
-fn rows_check(s: Settings, table: &[u8]) -> Checked
-    ensures { λ r. ⌜ outcome r ≡ rows-check s (now (table .entry)) 0 (rows (now (table .entry))) ⌝ }
+fn rows_check(settings: &[u64; 25], table: &[u8]) -> Checked
+    requires { ⌜ settings-check (settings-of (now settings)) ≡ got tt ⌝ }
+    ensures { λ r. ⌜ outcome r ≡ rows-check (settings-of (now (settings .entry))) (now (table .entry)) 0 (rows (now (table .entry))) ⌝ }
 {
-    let set = unnameable(s);
-    let leads = e_may_lead(s);
+    let set = unnameable(settings);
+    let leads = e_may_lead(settings);
     let count = table.len() / ROW_SIZE;
     let mut i = 0;
     while i < count {
-        if !row_accepted(s, set, leads, table, i) {
+        if !row_accepted(settings, set, leads, table, i) {
             return Checked::Refused(Refusal::BadRow(i));
         }
         i += 1;
@@ -207,8 +214,10 @@ fn rows_check(s: Settings, table: &[u8]) -> Checked
     Checked::Accepted
 }
 
-pub fn table_check(s: Settings, table: &[u8]) -> Checked
-    ensures { λ r. ⌜ outcome r ≡ table-check s (now (table .entry)) ⌝ }
+// Under accepted settings.
+fn table_check(settings: &[u64; 25], table: &[u8]) -> Checked
+    requires { ⌜ settings-check (settings-of (now settings)) ≡ got tt ⌝ }
+    ensures { λ r. ⌜ outcome r ≡ table-check (settings-of (now (settings .entry))) (now (table .entry)) ⌝ }
 {
     if table.len() % ROW_SIZE != 0 {
         return Checked::Refused(Refusal::TableSize);
@@ -216,16 +225,16 @@ pub fn table_check(s: Settings, table: &[u8]) -> Checked
     if table.len() / ROW_SIZE > MOST_ROWS {
         return Checked::Refused(Refusal::TableSize);
     }
-    rows_check(s, table)
+    rows_check(settings, table)
 }
 
 // Settings first, then the table.
-pub fn card_check(s: Settings, table: &[u8]) -> Checked
-    ensures { λ r. ⌜ outcome r ≡ card-check s (now (table .entry)) ⌝ }
+pub fn card_check(settings: &[u64; 25], table: &[u8]) -> Checked
+    ensures { λ r. ⌜ outcome r ≡ card-check (settings-of (now (settings .entry))) (now (table .entry)) ⌝ }
 {
-    let settings = settings_check(s);
-    let Checked::Accepted = settings else {
-        return settings;
+    let checked = settings_check(settings);
+    let Checked::Accepted = checked else {
+        return checked;
     };
-    table_check(s, table)
+    table_check(settings, table)
 }

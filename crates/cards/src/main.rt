@@ -10,8 +10,8 @@ use lists::cards::next_card;
 use lists::fields::half_at;
 use lists::lines::first_bytes;
 use lists::lines::read_line;
-use rules::Settings;
 use settings::Checked;
+use settings::fields::words_of;
 
 // Bytes of the first line.
 const ROUNDS: usize = 9;
@@ -19,7 +19,7 @@ const ROUNDS: usize = 9;
 // More cards than any list has, since a proved loop has to end.
 const MOST_CARDS: u64 = 1_000_000;
 
-fn check_often(settings: Settings, table: &[u8], rounds: u32) -> Checked {
+fn check_often(settings: &[u64; 25], table: &[u8], rounds: u32) -> Checked {
     let mut left = rounds;
     while left > 1 {
         card_check(settings, table);
@@ -49,7 +49,11 @@ fn check_next(rounds: u32) -> bool {
     let Next::Card(card) = next_card(&mut table) else {
         return false;
     };
-    print(check_often(card.settings, first_bytes(&table, card.size), rounds));
+    print(check_often(
+        &words_of(card.settings),
+        first_bytes(&table, card.size),
+        rounds,
+    ));
     true
 }
 

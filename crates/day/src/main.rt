@@ -18,7 +18,7 @@ use lists::texts::Text;
 use lists::texts::next_text;
 use rules::Answer;
 use rules::Length;
-use rules::Settings;
+use settings::fields::words_of;
 
 // Bytes of the first line.
 const ROUNDS: usize = 9;
@@ -62,7 +62,7 @@ fn print_added(answer: Answer, total: Length, rounds: u32) {
 // The first bytes of a buffer added to the total, and printed.
 fn add_text(
     total: Length,
-    settings: Settings,
+    settings: &[u64; 25],
     table: &[u8],
     buffer: &[u8],
     size: usize,
@@ -76,7 +76,7 @@ fn add_text(
 // The next text, put into the buffer and added.
 fn add_next(
     total: Length,
-    settings: Settings,
+    settings: &[u64; 25],
     table: &[u8],
     buffer: &mut [u8],
     rounds: u32,
@@ -92,7 +92,7 @@ fn add_next(
 }
 
 // Every text of the list.
-fn add_all(settings: Settings, table: &[u8], rounds: u32) {
+fn add_all(settings: &[u64; 25], table: &[u8], rounds: u32) {
     let mut buffer = [0u8; ROOM];
     let mut total = zero();
     let mut left = MOST_TEXTS;
@@ -116,7 +116,7 @@ fn main() {
         return;
     };
     add_all(
-        card.settings,
+        &words_of(card.settings),
         first_bytes(&table, card.size),
         half_at(&line, 0),
     );

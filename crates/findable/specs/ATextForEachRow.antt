@@ -30,7 +30,8 @@ use Rattle.rules.specs.Laws.Apart.{none as no-length}
 use Rattle.rules.specs.Laws.Layout.{sees-of, run-over, stretch, goes-on, gap-none, exponent-none, connection-none}
 use Rattle.card.specs.Fields.{padded}
 use Rattle.card.specs.Laws.Table.{right-padded, right-name}
-use Rattle.card.specs.Laws.Accepted.{delimiter-class, inner-delimits, own-name}
+use Rattle.settings.specs.Laws.Accepted.{delimiter-class, inner-delimits}
+use Rattle.card.specs.Laws.Accepted.{own-name}
 use Rattle.rows.specs.Laws.Rows.{length-row}
 use Rattle.card.specs.Laws.Names.{name-some, size-most, name-length}
 use Rattle.findable.specs.TheTextForARow.{first-held, joint, text-for}

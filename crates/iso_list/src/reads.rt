@@ -1,12 +1,12 @@
 // The stored texts, each a line of hexadecimal digits (run and size) and the line of its bytes.
 use entries::read_iso;
-use lists::answers::print_answer;
 use lists::counts::COUNTS;
 use lists::counts::ENTRY;
 use lists::counts::count;
 use lists::counts::print_count;
 use lists::counts::print_counts;
 use lists::lines::first_bytes;
+use lists::printed::print_answer;
 use lists::texts::ROOM;
 use lists::texts::TEXT;
 use lists::texts::Text;

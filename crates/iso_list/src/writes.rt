@@ -4,7 +4,6 @@ use crate::lengths::nth;
 use entries::read_iso;
 use entries::write_iso;
 use libc::STDOUT_FILENO;
-use lists::answers::same_answer;
 use lists::counts::COUNTS;
 use lists::counts::DIFFERENCE;
 use lists::counts::added;
@@ -17,6 +16,7 @@ use lists::edges::BEYOND;
 use lists::edges::EDGE;
 use lists::edges::untouched;
 use lists::lines::first_bytes;
+use lists::printed::same_answer;
 use rules::Answer;
 use rules::Length;
 

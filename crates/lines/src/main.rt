@@ -2,16 +2,17 @@
 // of its total under card A. What a line is and what is printed for it is proved in `sheets`; here bytes are moved.
 ghost use mathlib.Core.Path.{_≡_};
 ghost use Rattle.rules.specs.NumbersHandedBack.{got};
+ghost use Rattle.rules.specs.SettingsAsWords.{settings-of};
 ghost use Rattle.rules.specs.SettingsAndUnitTable.{card-check};
 use answers::refusal;
 use card::table::card_check;
 use libc::STDIN_FILENO;
 use libc::STDOUT_FILENO;
-use lists::answers::print_answer;
 use lists::lines::first_bytes;
+use lists::printed::print_answer;
 use printing::NEWLINE;
-use rules::Settings;
 use settings::Checked;
+use settings::fields::words_of;
 use sheets::answering::answer_lines;
 use sheets::keeping::keep;
 
@@ -32,8 +33,8 @@ enum Turn {
 }
 
 // The lines of a chunk that have their newline, answered and written.
-fn answer_chunk(settings: Settings, table: &[u8], chunk: &[u8], out: &mut [u8]) -> Answered
-    requires { ⌜ card-check settings (now table) ≡ got tt ⌝ }
+fn answer_chunk(settings: &[u64; 25], table: &[u8], chunk: &[u8], out: &mut [u8]) -> Answered
+    requires { ⌜ card-check (settings-of (now settings)) (now table) ≡ got tt ⌝ }
 {
     let mut answered = 0;
     while answered < chunk.len() {
@@ -51,13 +52,13 @@ fn answer_chunk(settings: Settings, table: &[u8], chunk: &[u8], out: &mut [u8]) 
 
 // What is read behind the bytes that were kept, answered; the bytes that are kept of it are put at the chunk's start.
 fn take_turn(
-    settings: Settings,
+    settings: &[u64; 25],
     table: &[u8],
     chunk: &mut [u8],
     kept: usize,
     out: &mut [u8],
 ) -> Turn
-    requires { ⌜ card-check settings (now table) ≡ got tt ⌝ }
+    requires { ⌜ card-check (settings-of (now settings)) (now table) ≡ got tt ⌝ }
 {
     if chunk.len() <= kept {
         return Turn::Ended;
@@ -75,8 +76,8 @@ fn take_turn(
 }
 
 // A last line without newline counts unless it is empty: it is answered as if it had one.
-fn answer_last(settings: Settings, table: &[u8], chunk: &mut [u8], kept: usize, out: &mut [u8])
-    requires { ⌜ card-check settings (now table) ≡ got tt ⌝ }
+fn answer_last(settings: &[u64; 25], table: &[u8], chunk: &mut [u8], kept: usize, out: &mut [u8])
+    requires { ⌜ card-check (settings-of (now settings)) (now table) ≡ got tt ⌝ }
 {
     if kept == 0 {
         return;
@@ -88,8 +89,8 @@ fn answer_last(settings: Settings, table: &[u8], chunk: &mut [u8], kept: usize, 
 }
 
 // Every line of standard input. A turn writes what it has answered before the next one reads.
-fn answer_sheet(settings: Settings, table: &[u8])
-    requires { ⌜ card-check settings (now table) ≡ got tt ⌝ }
+fn answer_sheet(settings: &[u64; 25], table: &[u8])
+    requires { ⌜ card-check (settings-of (now settings)) (now table) ≡ got tt ⌝ }
 {
     let mut chunk = io::large_buffer();
     let mut out = io::large_buffer();
@@ -111,10 +112,10 @@ fn answer_sheet(settings: Settings, table: &[u8])
 }
 
 fn main() {
-    let settings = card_a::settings();
+    let settings = words_of(card_a::settings());
     let table = card_a::table();
-    match card_check(settings, &table) {
+    match card_check(&settings, &table) {
         Checked::Refused(cause) => print_answer(refusal(cause)),
-        Checked::Accepted => answer_sheet(settings, &table),
+        Checked::Accepted => answer_sheet(&settings, &table),
     }
 }

@@ -28,7 +28,8 @@ use Rattle.rules.specs.Laws.Written.{Digits, decimals-digits, whole-digits-only
 use Rattle.rules.specs.Laws.Apart.{proper, apart, none as no-length}
 use Rattle.rules.specs.Laws.Choices.{if-either, all-first, all-others, and-left, and-right}
 use Rattle.value.specs.Digits.{ten-pos, ten-sum, digit-high}
-use Rattle.card.specs.Laws.Accepted.{card-settings, card-table, delimiter-class, inner-delimits, outer-delimits, lookup-empty}
+use Rattle.settings.specs.Laws.Accepted.{delimiter-class, inner-delimits, outer-delimits}
+use Rattle.card.specs.Laws.Accepted.{card-settings, card-table, lookup-empty}
 use Rattle.rules.specs.Laws.Tests.{and-false}
 use Rattle.writing.specs.Forms.{no-decimals}
 use Rattle.rules.specs.Laws.Layout.{sees-of, behind, run-over, spelled-stretch, goes-on, stretch, gap-none, exponent-none, connection-none}

@@ -1,6 +1,7 @@
 // One part, and a text's total, under a card that has been checked: whoever reads many texts under one card checks it once.
 ghost use mathlib.Core.Path.{_≡_};
 ghost use Rattle.rules.specs.NumbersHandedBack.{got};
+ghost use Rattle.rules.specs.SettingsAsWords.{settings-of};
 ghost use Rattle.rules.specs.SettingsAndUnitTable.{card-check};
 ghost use Rattle.rules.specs.WhatEveryEntryOwes.{part-answer, total-answer};
 use crate::part::ReadingRead;
@@ -12,11 +13,11 @@ use answers::refusal;
 use rules::Answer;
 use rules::LONGEST_TEXT;
 use rules::Refusal;
-use rules::Settings;
+use steps::unit::stops;
 
-pub fn read_part_checked(s: Settings, table: &[u8], text: &[u8], place: usize) -> Answer
-    requires { ⌜ card-check s (now table) ≡ got tt ⌝ }
-    ensures { λ r. ⌜ r ≡ part-answer s (now (table .entry)) (now (text .entry)) place ⌝ }
+pub fn read_part_checked(settings: &[u64; 25], table: &[u8], text: &[u8], place: usize) -> Answer
+    requires { ⌜ card-check (settings-of (now settings)) (now table) ≡ got tt ⌝ }
+    ensures { λ r. ⌜ r ≡ part-answer (settings-of (now (settings .entry))) (now (table .entry)) (now (text .entry)) place ⌝ }
 {
     if text.len() > LONGEST_TEXT {
         return refusal(Refusal::TextTooLong);
@@ -24,20 +25,20 @@ pub fn read_part_checked(s: Settings, table: &[u8], text: &[u8], place: usize) -
     if place > text.len() {
         return refusal(Refusal::Beyond(place));
     }
-    match parse_part(s, table, text, place) {
+    match parse_part(settings, stops(settings), table, text, place) {
         ReadingRead::Refused(cause) => refusal(cause),
         ReadingRead::Got(reading) => done(reading.next, reading.length),
     }
 }
 
-pub fn read_total_checked(s: Settings, table: &[u8], text: &[u8]) -> Answer
-    requires { ⌜ card-check s (now table) ≡ got tt ⌝ }
-    ensures { λ r. ⌜ r ≡ total-answer s (now (table .entry)) (now (text .entry)) ⌝ }
+pub fn read_total_checked(settings: &[u64; 25], table: &[u8], text: &[u8]) -> Answer
+    requires { ⌜ card-check (settings-of (now settings)) (now table) ≡ got tt ⌝ }
+    ensures { λ r. ⌜ r ≡ total-answer (settings-of (now (settings .entry))) (now (table .entry)) (now (text .entry)) ⌝ }
 {
     if LONGEST_TEXT < text.len() {
         return refusal(Refusal::TextTooLong);
     }
-    match parse_multiple(s, table, text) {
+    match parse_multiple(settings, table, text) {
         TotalRead::Refused(cause) => refusal(cause),
         TotalRead::Got(length) => done(text.len(), length),
     }

@@ -1,9 +1,12 @@
 // One part: read to its end, connection included, then evaluated, then tested for a forbidden negative.
 ghost use mathlib.Core.Path.{_≡_};
-ghost use Rattle.rules.specs.declared.Settings.{Settings};
+ghost use Rattle.rules.specs.NumbersHandedBack.{got};
+ghost use Rattle.rules.specs.SettingsAsWords.{settings-of};
+ghost use Rattle.rules.specs.SettingsAndUnitTable.{settings-check};
 ghost use Rattle.rules.specs.ReadingOnePart.{part};
 ghost use Rattle.rules.specs.Evaluation.{allowed, part-reading};
-ghost use Rattle.steps.specs.Units.{Readable};
+ghost use Rattle.settings.specs.Sets.{bytes-of};
+ghost use Rattle.steps.specs.Units.{Readable, stops-of};
 ghost use Rattle.reading.specs.Outcomes as outcomes;
 ghost use Rattle.reading.specs.Typed.{typed-part};
 use crate::start::StartRead;
@@ -14,7 +17,8 @@ use rules::Length;
 use rules::Part;
 use rules::Reading;
 use rules::Refusal;
-use rules::Settings;
+use settings::fields::negatives;
+use settings::sets::AsciiSet;
 use steps::Next;
 use steps::connection::try_consume_connection;
 use value::evaluation::evaluate;
@@ -25,14 +29,23 @@ pub enum ReadingRead {
 }
 
 // A part up to its connection.
-fn typed_part(s: Settings, table: &[u8], text: &[u8], place: usize) -> PartRead
+fn typed_part(
+    settings: &[u64; 25],
+    stops: AsciiSet,
+    table: &[u8],
+    text: &[u8],
+    place: usize,
+) -> PartRead
+    requires { ⌜ settings-check (settings-of (now settings)) ≡ got tt ⌝ }
+    requires { ⌜ bytes-of stops ≡ stops-of (settings-of (now settings)) ⌝ }
     requires { ⌜ Readable (now table) ⌝ }
-    ensures { λ r. ⌜ outcomes.part r ≡ typed-part s (now (table .entry)) (now (text .entry)) place ⌝ }
+    ensures { λ r. ⌜ outcomes.part r ≡ typed-part (settings-of (now (settings .entry))) (now (table .entry)) (now (text .entry)) place ⌝ }
 {
-    match part_start(s.after_sign, s.inner, text, place) {
+    match part_start(settings, text, place) {
         StartRead::Refused(cause) => PartRead::Refused(cause),
         StartRead::Got(start) => unsigned_part(
-            s,
+            settings,
+            stops,
             table,
             text,
             start.negative,
@@ -42,13 +55,21 @@ fn typed_part(s: Settings, table: &[u8], text: &[u8], place: usize) -> PartRead
     }
 }
 
-fn connected_part(s: Settings, table: &[u8], text: &[u8], place: usize) -> PartRead
+fn connected_part(
+    settings: &[u64; 25],
+    stops: AsciiSet,
+    table: &[u8],
+    text: &[u8],
+    place: usize,
+) -> PartRead
+    requires { ⌜ settings-check (settings-of (now settings)) ≡ got tt ⌝ }
+    requires { ⌜ bytes-of stops ≡ stops-of (settings-of (now settings)) ⌝ }
     requires { ⌜ Readable (now table) ⌝ }
-    ensures { λ r. ⌜ outcomes.part r ≡ part s (now (table .entry)) (now (text .entry)) place ⌝ }
+    ensures { λ r. ⌜ outcomes.part r ≡ part (settings-of (now (settings .entry))) (now (table .entry)) (now (text .entry)) place ⌝ }
 {
-    match typed_part(s, table, text, place) {
+    match typed_part(settings, stops, table, text, place) {
         PartRead::Refused(cause) => PartRead::Refused(cause),
-        PartRead::Got(typed) => match try_consume_connection(s, text, typed.next) {
+        PartRead::Got(typed) => match try_consume_connection(settings, text, typed.next) {
             Next::Refused(cause) => PartRead::Refused(cause),
             Next::At(next) => {
                 let repr = typed.repr;
@@ -59,23 +80,31 @@ fn connected_part(s: Settings, table: &[u8], text: &[u8], place: usize) -> PartR
 }
 
 // A negative length is refused while negatives are off.
-fn allowed(negatives: bool, place: usize, next: usize, length: Length) -> ReadingRead
-    ensures { λ r. ⌜ ((s : Settings) → s .negatives ≡ negatives → outcomes.reading r ≡ allowed s place next length) ⌝ }
+fn allowed(settings: &[u64; 25], place: usize, next: usize, length: Length) -> ReadingRead
+    ensures { λ r. ⌜ outcomes.reading r ≡ allowed (settings-of (now (settings .entry))) place next length ⌝ }
 {
     if length.negative {
-        if !negatives {
+        if !negatives(settings) {
             return ReadingRead::Refused(Refusal::NegativeForbidden(place));
         }
     }
     ReadingRead::Got(Reading { length, next })
 }
 
-pub fn parse_part(s: Settings, table: &[u8], text: &[u8], place: usize) -> ReadingRead
+pub fn parse_part(
+    settings: &[u64; 25],
+    stops: AsciiSet,
+    table: &[u8],
+    text: &[u8],
+    place: usize,
+) -> ReadingRead
+    requires { ⌜ settings-check (settings-of (now settings)) ≡ got tt ⌝ }
+    requires { ⌜ bytes-of stops ≡ stops-of (settings-of (now settings)) ⌝ }
     requires { ⌜ Readable (now table) ⌝ }
-    ensures { λ r. ⌜ outcomes.reading r ≡ part-reading s (now (table .entry)) (now (text .entry)) place ⌝ }
+    ensures { λ r. ⌜ outcomes.reading r ≡ part-reading (settings-of (now (settings .entry))) (now (table .entry)) (now (text .entry)) place ⌝ }
 {
-    match connected_part(s, table, text, place) {
+    match connected_part(settings, stops, table, text, place) {
         PartRead::Refused(cause) => ReadingRead::Refused(cause),
-        PartRead::Got(part) => allowed(s.negatives, place, part.next, evaluate(text, part.repr)),
+        PartRead::Got(part) => allowed(settings, place, part.next, evaluate(text, part.repr)),
     }
 }

@@ -1,6 +1,7 @@
 // A length added to by a text's total, under a card that has been checked.
 ghost use mathlib.Core.Path.{_≡_};
 ghost use Rattle.rules.specs.NumbersHandedBack.{got, refusal};
+ghost use Rattle.rules.specs.SettingsAsWords.{settings-of};
 ghost use Rattle.rules.specs.SettingsAndUnitTable.{card-check};
 ghost use Rattle.rules.specs.WhatEveryEntryOwes.{shift-answer, shifted-record};
 use crate::total::parse_multiple;
@@ -12,7 +13,6 @@ use lengths::duration::well_formed;
 use rules::LONGEST_TEXT;
 use rules::Length;
 use rules::Refusal;
-use rules::Settings;
 use rules::ShiftedTotal;
 
 // A refusal leaves the total as it was.
@@ -26,9 +26,14 @@ pub fn kept(total: Length, cause: Refusal) -> ShiftedTotal
 }
 
 // A malformed total comes before a text that is too long.
-pub fn shifted_total_checked(total: Length, s: Settings, table: &[u8], text: &[u8]) -> ShiftedTotal
-    requires { ⌜ card-check s (now table) ≡ got tt ⌝ }
-    ensures { λ r. ⌜ (r .answer ≡ shift-answer total s (now (table .entry)) (now (text .entry))) × (r .total ≡ shifted-record total s (now (table .entry)) (now (text .entry))) ⌝ }
+pub fn shifted_total_checked(
+    total: Length,
+    settings: &[u64; 25],
+    table: &[u8],
+    text: &[u8],
+) -> ShiftedTotal
+    requires { ⌜ card-check (settings-of (now settings)) (now table) ≡ got tt ⌝ }
+    ensures { λ r. ⌜ (r .answer ≡ shift-answer total (settings-of (now (settings .entry))) (now (table .entry)) (now (text .entry))) × (r .total ≡ shifted-record total (settings-of (now (settings .entry))) (now (table .entry)) (now (text .entry))) ⌝ }
 {
     if !well_formed(total) {
         return kept(total, Refusal::Malformed);
@@ -36,7 +41,7 @@ pub fn shifted_total_checked(total: Length, s: Settings, table: &[u8], text: &[u
     if LONGEST_TEXT < text.len() {
         return kept(total, Refusal::TextTooLong);
     }
-    match parse_multiple(s, table, text) {
+    match parse_multiple(settings, table, text) {
         TotalRead::Refused(cause) => kept(total, cause),
         TotalRead::Got(length) => {
             let sum = saturating_add(total, length);

@@ -1,12 +1,12 @@
 // How a part starts: its sign, and the class of the byte after it, which decides how the part goes on.
 ghost use mathlib.Core.Path.{_≡_};
-ghost use Rattle.rules.specs.declared.Settings.{Settings};
+ghost use Rattle.rules.specs.NumbersHandedBack.{got};
+ghost use Rattle.rules.specs.SettingsAsWords.{settings-of};
+ghost use Rattle.rules.specs.SettingsAndUnitTable.{settings-check};
 ghost use Rattle.reading.specs.Outcomes.{started};
 ghost use Rattle.reading.specs.Typed.{class-at, signed-start, part-start};
-use rules::ByteSet;
 use rules::Refusal;
 use steps::bytes::is_digit;
-use steps::bytes::is_sign;
 use steps::sign::SignRead;
 use steps::sign::parse_number_sign;
 use tables::DIGIT;
@@ -26,7 +26,7 @@ pub enum StartRead {
     Refused(Refusal),
 }
 
-// A digit or a sign starts nearly every part, and is told without a read of the table of classes.
+// A digit starts nearly every part, and is told first.
 fn class_at(text: &[u8], place: usize) -> u8
     ensures { λ r. ⌜ r ≡ class-at (now (text .entry)) place ⌝ }
 {
@@ -37,16 +37,14 @@ fn class_at(text: &[u8], place: usize) -> u8
     if is_digit(byte) {
         return DIGIT;
     }
-    if is_sign(byte) {
-        return SIGN;
-    }
     class_of(byte)
 }
 
-fn signed_start(after_sign: bool, inner: ByteSet, text: &[u8], place: usize) -> StartRead
-    ensures { λ r. ⌜ ((s : Settings) → s .«after_sign» ≡ «after_sign» → s .inner ≡ inner → started r ≡ signed-start s (now (text .entry)) place) ⌝ }
+fn signed_start(settings: &[u64; 25], text: &[u8], place: usize) -> StartRead
+    requires { ⌜ settings-check (settings-of (now settings)) ≡ got tt ⌝ }
+    ensures { λ r. ⌜ started r ≡ signed-start (settings-of (now (settings .entry))) (now (text .entry)) place ⌝ }
 {
-    match parse_number_sign(after_sign, inner, text, place) {
+    match parse_number_sign(settings, text, place) {
         SignRead::Refused(cause) => StartRead::Refused(cause),
         SignRead::Got(signed) => StartRead::Got(Start {
             negative: signed.negative,
@@ -56,15 +54,16 @@ fn signed_start(after_sign: bool, inner: ByteSet, text: &[u8], place: usize) -> 
     }
 }
 
-pub fn part_start(after_sign: bool, inner: ByteSet, text: &[u8], place: usize) -> StartRead
-    ensures { λ r. ⌜ ((s : Settings) → s .«after_sign» ≡ «after_sign» → s .inner ≡ inner → started r ≡ part-start s (now (text .entry)) place) ⌝ }
+pub fn part_start(settings: &[u64; 25], text: &[u8], place: usize) -> StartRead
+    requires { ⌜ settings-check (settings-of (now settings)) ≡ got tt ⌝ }
+    ensures { λ r. ⌜ started r ≡ part-start (settings-of (now (settings .entry))) (now (text .entry)) place ⌝ }
 {
     if text.len() <= place {
         return StartRead::Refused(Refusal::Nothing(place));
     }
     let class = class_at(text, place);
     match class {
-        SIGN => signed_start(after_sign, inner, text, place),
+        SIGN => signed_start(settings, text, place),
         _ => StartRead::Got(Start {
             negative: false,
             class,

@@ -1,5 +1,8 @@
 // A text's total: its parts one after another, each sum clamped in order.
 ghost use mathlib.Core.Path.{_≡_};
+ghost use Rattle.rules.specs.NumbersHandedBack.{got};
+ghost use Rattle.rules.specs.SettingsAsWords.{settings-of};
+ghost use Rattle.rules.specs.SettingsAndUnitTable.{settings-check};
 ghost use Rattle.rules.specs.Evaluation.{total};
 ghost use Rattle.steps.specs.Units.{Readable};
 ghost use Rattle.answers.specs.Outcomes as outcomes;
@@ -8,16 +11,18 @@ use crate::part::parse_part;
 use answers::TotalRead;
 use lengths::duration::saturating_add;
 use lengths::duration::zero;
-use rules::Settings;
+use steps::unit::stops;
 
-pub fn parse_multiple(s: Settings, table: &[u8], text: &[u8]) -> TotalRead
+pub fn parse_multiple(settings: &[u64; 25], table: &[u8], text: &[u8]) -> TotalRead
+    requires { ⌜ settings-check (settings-of (now settings)) ≡ got tt ⌝ }
     requires { ⌜ Readable (now table) ⌝ }
-    ensures { λ r. ⌜ outcomes.total r ≡ total s (now (table .entry)) (now (text .entry)) ⌝ }
+    ensures { λ r. ⌜ outcomes.total r ≡ total (settings-of (now (settings .entry))) (now (table .entry)) (now (text .entry)) ⌝ }
 {
+    let stops = stops(settings);
     let mut sum = zero();
     let mut place = 0;
     loop {
-        match parse_part(s, table, text, place) {
+        match parse_part(settings, stops, table, text, place) {
             ReadingRead::Refused(cause) => return TotalRead::Refused(cause),
             ReadingRead::Got(reading) => {
                 sum = saturating_add(sum, reading.length);

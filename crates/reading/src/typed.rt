@@ -1,27 +1,32 @@
 // What was typed of a part, up to the connection to the next.
 ghost use mathlib.Core.Path.{_≡_};
-ghost use Rattle.rules.specs.declared.Settings.{Settings};
-ghost use Rattle.steps.specs.Units.{Readable};
+ghost use Rattle.rules.specs.NumbersHandedBack.{got};
+ghost use Rattle.rules.specs.SettingsAsWords.{settings-of};
+ghost use Rattle.rules.specs.SettingsAndUnitTable.{settings-check};
+ghost use Rattle.settings.specs.Sets.{bytes-of};
+ghost use Rattle.steps.specs.Units.{Readable, stops-of};
 ghost use Rattle.reading.specs.Outcomes.{part};
 ghost use Rattle.reading.specs.Typed.{class-at, typed-finite, typed-word, typed-unsigned};
-use rules::ByteSet;
 use rules::DurationRepr;
 use rules::Exponent;
 use rules::Fract;
 use rules::Part;
 use rules::Refusal;
-use rules::Settings;
 use rules::Whole;
+use settings::fields::before_unit;
+use settings::fields::default_kind;
+use settings::fields::infinity;
+use settings::sets::AsciiSet;
 use steps::Next;
 use steps::delimiters::parse_number_delimiter;
 use steps::exponent::ScaledRead;
 use steps::exponent::parse_number_exponent;
 use steps::infinity::parse_infinity_remainder;
+use steps::letters::next_is_ignore_ascii_case;
 use steps::number::NumberRead;
 use steps::number::parse_number;
 use steps::unit::UnitRead;
 use steps::unit::parse_time_unit;
-use steps::words::next_is_ignore_ascii_case;
 use tables::DIGIT;
 use tables::LETTER;
 use tables::POINT;
@@ -33,23 +38,17 @@ pub enum PartRead {
 }
 
 // `inf` or `infinity`, if allowed; any other word is no number.
-fn infinite_part(
-    infinity: bool,
-    outer: ByteSet,
-    default_kind: u8,
-    text: &[u8],
-    negative: bool,
-    place: usize,
-) -> PartRead
-    ensures { λ r. ⌜ ((s : Settings) → s .infinity ≡ infinity → s .outer ≡ outer → s .«default_kind» ≡ «default_kind» → part r ≡ typed-word s (now (text .entry)) negative place) ⌝ }
+fn infinite_part(settings: &[u64; 25], text: &[u8], negative: bool, place: usize) -> PartRead
+    requires { ⌜ settings-check (settings-of (now settings)) ≡ got tt ⌝ }
+    ensures { λ r. ⌜ part r ≡ typed-word (settings-of (now (settings .entry))) (now (text .entry)) negative place ⌝ }
 {
-    if !infinity {
+    if !infinity(settings) {
         return PartRead::Refused(Refusal::NoNumber(place));
     }
     if !next_is_ignore_ascii_case(b"inf", text, place) {
         return PartRead::Refused(Refusal::NoNumber(place));
     }
-    match parse_infinity_remainder(outer, text, place) {
+    match parse_infinity_remainder(settings, text, place) {
         Next::Refused(cause) => PartRead::Refused(cause),
         Next::At(next) => PartRead::Got(Part {
             repr: DurationRepr {
@@ -67,7 +66,7 @@ fn infinite_part(
                     negative: false,
                     power: 0,
                 },
-                multiplier: kind_multiplier(default_kind),
+                multiplier: kind_multiplier(default_kind(settings)),
             },
             next,
         }),
@@ -75,25 +74,32 @@ fn infinite_part(
 }
 
 // Steps 2 to 6, one after another: the first refusal stands.
-fn finite_part(s: Settings, table: &[u8], text: &[u8], negative: bool, place: usize) -> PartRead
+fn finite_part(
+    settings: &[u64; 25],
+    stops: AsciiSet,
+    table: &[u8],
+    text: &[u8],
+    negative: bool,
+    place: usize,
+) -> PartRead
+    requires { ⌜ settings-check (settings-of (now settings)) ≡ got tt ⌝ }
+    requires { ⌜ bytes-of stops ≡ stops-of (settings-of (now settings)) ⌝ }
     requires { ⌜ Readable (now table) ⌝ }
-    ensures { λ r. ⌜ part r ≡ typed-finite s (now (table .entry)) (now (text .entry)) negative place ⌝ }
+    ensures { λ r. ⌜ part r ≡ typed-finite (settings-of (now (settings .entry))) (now (table .entry)) (now (text .entry)) negative place ⌝ }
 {
-    let inner = s.inner;
-    let outer = s.outer;
-    let number = match parse_number(s.fractions, text, place) {
+    let number = match parse_number(settings, text, place) {
         NumberRead::Got(number) => number,
         NumberRead::Refused(cause) => return PartRead::Refused(cause),
     };
-    let scaled = match parse_number_exponent(s.exponents, text, number.next) {
+    let scaled = match parse_number_exponent(settings, text, number.next) {
         ScaledRead::Got(scaled) => scaled,
         ScaledRead::Refused(cause) => return PartRead::Refused(cause),
     };
-    let name = match parse_number_delimiter(s.before_unit, inner, text, scaled.next) {
+    let name = match parse_number_delimiter(before_unit(settings), settings, text, scaled.next) {
         Next::At(name) => name,
         Next::Refused(cause) => return PartRead::Refused(cause),
     };
-    let unit = match parse_time_unit(s.default_kind, s.ago, inner, outer, table, text, name) {
+    let unit = match parse_time_unit(settings, stops, table, text, name) {
         UnitRead::Got(unit) => unit,
         UnitRead::Refused(cause) => return PartRead::Refused(cause),
     };
@@ -116,20 +122,23 @@ fn finite_part(s: Settings, table: &[u8], text: &[u8], negative: bool, place: us
 
 // The class of the byte at the place decides: digits, a point, infinity, or no number.
 pub fn unsigned_part(
-    s: Settings,
+    settings: &[u64; 25],
+    stops: AsciiSet,
     table: &[u8],
     text: &[u8],
     negative: bool,
     class: u8,
     place: usize,
 ) -> PartRead
+    requires { ⌜ settings-check (settings-of (now settings)) ≡ got tt ⌝ }
+    requires { ⌜ bytes-of stops ≡ stops-of (settings-of (now settings)) ⌝ }
     requires { ⌜ Readable (now table) ⌝ }
     requires { ⌜ class ≡ class-at (now text) place ⌝ }
-    ensures { λ r. ⌜ part r ≡ typed-unsigned s (now (table .entry)) (now (text .entry)) negative place ⌝ }
+    ensures { λ r. ⌜ part r ≡ typed-unsigned (settings-of (now (settings .entry))) (now (table .entry)) (now (text .entry)) negative place ⌝ }
 {
     match class {
-        DIGIT | POINT => finite_part(s, table, text, negative, place),
-        LETTER => infinite_part(s.infinity, s.outer, s.default_kind, text, negative, place),
+        DIGIT | POINT => finite_part(settings, stops, table, text, negative, place),
+        LETTER => infinite_part(settings, text, negative, place),
         _ => PartRead::Refused(Refusal::NoNumber(place)),
     }
 }

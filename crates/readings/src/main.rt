@@ -5,11 +5,11 @@
 // is read.
 ghost use mathlib.Core.Path.{_≡_};
 ghost use Rattle.rules.specs.NumbersHandedBack.{got};
+ghost use Rattle.rules.specs.SettingsAsWords.{settings-of};
 ghost use Rattle.rules.specs.SettingsAndUnitTable.{card-check};
 use answers::refusal;
 use card::table::card_check;
 use entries::read_total;
-use lists::answers::print_answer;
 use lists::cards::MOST_BYTES;
 use lists::cards::Next;
 use lists::cards::next_card;
@@ -18,14 +18,15 @@ use lists::fields::further;
 use lists::fields::half_at;
 use lists::lines::first_bytes;
 use lists::lines::read_line;
+use lists::printed::print_answer;
 use lists::texts::ROOM;
 use lists::texts::TEXT;
 use lists::texts::Text;
 use lists::texts::next_text;
 use reading::checked::read_total_checked;
 use rules::Answer;
-use rules::Settings;
 use settings::Checked;
+use settings::fields::words_of;
 
 // Bytes of the first line.
 const ROUNDS: usize = 11;
@@ -43,8 +44,8 @@ struct Often {
 
 // The first bytes of a buffer, read so often. The number of an answer is below 12, so 0 is added to the size each time; but the
 // compiler does not know that, and so a round waits for the answer of the one before it and none can be left out.
-fn read_often(settings: Settings, table: &[u8], buffer: &[u8], size: usize, rounds: u32) -> Answer
-    requires { ⌜ card-check settings (now table) ≡ got tt ⌝ }
+fn read_often(settings: &[u64; 25], table: &[u8], buffer: &[u8], size: usize, rounds: u32) -> Answer
+    requires { ⌜ card-check (settings-of (now settings)) (now table) ≡ got tt ⌝ }
 {
     let mut answer = read_total_checked(settings, table, first_bytes(buffer, size));
     let mut left = rounds;
@@ -58,7 +59,7 @@ fn read_often(settings: Settings, table: &[u8], buffer: &[u8], size: usize, roun
 
 // The same with the card checked in each call. A loop of its own, since a choice within the loop would be counted.
 fn check_often(
-    settings: Settings,
+    settings: &[u64; 25],
     table: &[u8],
     buffer: &[u8],
     size: usize,
@@ -75,13 +76,13 @@ fn check_often(
 }
 
 fn read_text_often(
-    settings: Settings,
+    settings: &[u64; 25],
     table: &[u8],
     buffer: &[u8],
     size: usize,
     often: Often,
 ) -> Answer
-    requires { ⌜ card-check settings (now table) ≡ got tt ⌝ }
+    requires { ⌜ card-check (settings-of (now settings)) (now table) ≡ got tt ⌝ }
 {
     if often.in_each_call {
         return check_often(settings, table, buffer, size, often.rounds);
@@ -90,8 +91,8 @@ fn read_text_often(
 }
 
 // One text put into the buffer, read and printed; false where the list ends.
-fn read_next(settings: Settings, table: &[u8], buffer: &mut [u8], often: Often) -> bool
-    requires { ⌜ card-check settings (now table) ≡ got tt ⌝ }
+fn read_next(settings: &[u64; 25], table: &[u8], buffer: &mut [u8], often: Often) -> bool
+    requires { ⌜ card-check (settings-of (now settings)) (now table) ≡ got tt ⌝ }
 {
     let mut line = [0u8; TEXT];
     let Text::Bytes(size) = next_text(&mut line, 0, buffer) else {
@@ -102,8 +103,8 @@ fn read_next(settings: Settings, table: &[u8], buffer: &mut [u8], often: Often) 
 }
 
 // Every text of the list.
-fn read_all(settings: Settings, table: &[u8], often: Often)
-    requires { ⌜ card-check settings (now table) ≡ got tt ⌝ }
+fn read_all(settings: &[u64; 25], table: &[u8], often: Often)
+    requires { ⌜ card-check (settings-of (now settings)) (now table) ≡ got tt ⌝ }
 {
     let mut buffer = [0u8; ROOM];
     let mut left = MOST_TEXTS;
@@ -115,7 +116,7 @@ fn read_all(settings: Settings, table: &[u8], often: Often)
     }
 }
 
-fn read_under(settings: Settings, table: &[u8], often: Often) {
+fn read_under(settings: &[u64; 25], table: &[u8], often: Often) {
     match card_check(settings, table) {
         Checked::Refused(cause) => print_answer(refusal(cause)),
         Checked::Accepted => read_all(settings, table, often),
@@ -135,5 +136,9 @@ fn main() {
         rounds: half_at(&line, 0),
         in_each_call: flag_at(&line, IN_EACH_CALL_AT),
     };
-    read_under(card.settings, first_bytes(&table, card.size), often);
+    read_under(
+        &words_of(card.settings),
+        first_bytes(&table, card.size),
+        often,
+    );
 }

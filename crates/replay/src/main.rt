@@ -5,8 +5,6 @@
 use entries::read_part;
 use entries::read_total;
 use libc::STDOUT_FILENO;
-use lists::answers::print_answer;
-use lists::answers::same_answer;
 use lists::cards::MOST_BYTES;
 use lists::cards::Next;
 use lists::cards::next_card;
@@ -25,10 +23,12 @@ use lists::fields::length_at;
 use lists::fields::word_at;
 use lists::lines::first_bytes;
 use lists::lines::read_line;
+use lists::printed::print_answer;
+use lists::printed::same_answer;
 use lists::texts::Text;
 use lists::texts::next_text;
 use rules::Answer;
-use rules::Settings;
+use settings::fields::words_of;
 
 // Bytes of the line that says how many requests follow.
 const COUNT: usize = 9;
@@ -67,7 +67,7 @@ fn stored_answer(line: &[u8]) -> Answer {
 }
 
 // The request of a line, made again under a card.
-fn ask(settings: Settings, table: &[u8], text: &[u8], line: &[u8]) -> Answer {
+fn ask(settings: &[u64; 25], table: &[u8], text: &[u8], line: &[u8]) -> Answer {
     if flag_at(line, ENTRY_AT) {
         read_part(settings, table, text, word_at(line, PLACE_AT) as usize)
     } else {
@@ -96,7 +96,7 @@ fn compare(answer: Answer, stored: Answer, counts: &mut [u64; COUNTS]) {
 
 // The next request of the list, made again under a card. False where the list ends.
 fn replay_next(
-    settings: Settings,
+    settings: &[u64; 25],
     table: &[u8],
     text: &mut [u8],
     counts: &mut [u64; COUNTS],
@@ -112,7 +112,7 @@ fn replay_next(
 
 // The requests under a card, of which a line says how many there are. False where the list ends.
 fn replay_requests(
-    settings: Settings,
+    settings: &[u64; 25],
     table: &[u8],
     text: &mut [u8],
     counts: &mut [u64; COUNTS],
@@ -137,7 +137,12 @@ fn replay_card(table: &mut [u8], text: &mut [u8], counts: &mut [u64; COUNTS]) ->
     let Next::Card(card) = next_card(table) else {
         return false;
     };
-    replay_requests(card.settings, first_bytes(table, card.size), text, counts)
+    replay_requests(
+        &words_of(card.settings),
+        first_bytes(table, card.size),
+        text,
+        counts,
+    )
 }
 
 // Every card of the list.

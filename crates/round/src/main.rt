@@ -26,7 +26,7 @@ use lists::lines::first_bytes;
 use rules::Answer;
 use rules::LONGEST_TEXT;
 use rules::Length;
-use rules::Settings;
+use settings::fields::words_of;
 use tables::pow10;
 
 // Room for one length, the longest of which has 31 bytes.
@@ -131,7 +131,7 @@ fn agrees(answer: Answer, length: Length) -> bool {
 }
 
 // How many parts of a line differ from the lengths that were written, and whether the last one ends elsewhere.
-fn read_list(settings: Settings, table: &[u8], text: &[u8], first: u64, lengths: u64) -> u64 {
+fn read_list(settings: &[u64; 25], table: &[u8], text: &[u8], first: u64, lengths: u64) -> u64 {
     let mut place = 0;
     let mut read = 0;
     let mut differ = 0;
@@ -188,7 +188,7 @@ fn print_list(line: Line, total: Length) {
 }
 
 // A list written, read part by part and in total, and printed.
-fn round(settings: Settings, table: &[u8], first: u64, most: u64, before: Tally) -> Tally {
+fn round(settings: &[u64; 25], table: &[u8], first: u64, most: u64, before: Tally) -> Tally {
     let mut buffer = [0u8; LONGEST_TEXT];
     let line = write_list(&mut buffer, first, most);
     let text = first_bytes(&buffer, line.size);
@@ -203,7 +203,7 @@ fn round(settings: Settings, table: &[u8], first: u64, most: u64, before: Tally)
 }
 
 // Lists of one length, of two and so on under a card, each beginning where the one before it ended.
-fn round_card(settings: Settings, table: &[u8], before: Tally) -> Tally {
+fn round_card(settings: &[u64; 25], table: &[u8], before: Tally) -> Tally {
     let mut tally = before;
     let mut lists = 0;
     while lists < LISTS {
@@ -227,7 +227,11 @@ fn round_all() -> Tally {
             return tally;
         };
         tally.cards = one_more(tally.cards);
-        tally = round_card(card.settings, first_bytes(&table, card.size), tally);
+        tally = round_card(
+            &words_of(card.settings),
+            first_bytes(&table, card.size),
+            tally,
+        );
         left -= 1;
     }
     tally

@@ -1,7 +1,5 @@
 // Lookup of a unit's name, byte for byte.
 ghost use mathlib.Core.Path.{_≡_};
-ghost use Prim.Native.Nat.{min};
-ghost use lib.Seq.{slice};
 ghost use Rattle.rules.specs.Common.{same};
 ghost use Rattle.rules.specs.SettingsAndUnitTable.{lookup};
 use crate::fields::ROW_SIZE;
@@ -39,20 +37,4 @@ pub fn find(table: &[u8], wanted: &[u8]) -> Found
         i += 1;
     }
     Found::Nowhere
-}
-
-fn earlier(a: usize, b: usize) -> usize
-    ensures { λ r. ⌜ r ≡ min a b ⌝ }
-{
-    if a < b { a } else { b }
-}
-
-// The first row that has the stretch of the text between two places as its name. A place beyond the text is its end, and
-// nothing stands between two places of which the later comes first.
-pub fn lookup(table: &[u8], text: &[u8], from: usize, to: usize) -> Found
-    ensures { λ r. ⌜ r ≡ lookup (now (table .entry)) (slice from to (now (text .entry))) ⌝ }
-{
-    let end = earlier(to, text.len());
-    let start = earlier(from, end);
-    find(table, &text[start..end])
 }

@@ -2,6 +2,7 @@
 pub mod Common
 pub mod ThePartOfTheCrateWeTake
 pub mod SettingsAndUnitTable
+pub mod SettingsAsWords
 pub mod NumbersHandedBack
 pub mod ReadingOnePart
 pub mod Evaluation

@@ -1,8 +1,13 @@
--- Two sets as one. Assumes nothing.
+-- Sets of two words, and two sets as one. Assumes nothing.
 use lib.Bits.{bitOr}
 use Rattle.rules.specs.declared.ByteSet.{ByteSet}
+use Rattle.settings.specs.declared.sets.AsciiSet.{AsciiSet}
 
--- the bytes that one of them holds
+-- the set of bytes that a set of two words is
+unfoldable pub bytes-of : AsciiSet → ByteSet
+bytes-of set = record { word0 = set .low; word1 = set .high; word2 = 0; word3 = 0 }
+
+-- the bytes that one of two sets holds
 unfoldable pub either : ByteSet → ByteSet → ByteSet
 either a b = record {
   word0 = bitOr (a .word0) (b .word0);

@@ -1,21 +1,22 @@
 // The settings check: delimiters, conjunctions, default kind.
 ghost use mathlib.Core.Path.{_≡_};
-ghost use lib.ListN.{getD};
 ghost use Rattle.rules.specs.SettingsAndUnitTable.{LETTER, is, delimiters-accepted, conjunction-accepted, conjunctions-accepted, settings-check};
+ghost use Rattle.rules.specs.SettingsAsWords.{settings-of};
 ghost use Rattle.settings.specs.Outcomes.{outcome};
-ghost use Rattle.settings.specs.Conjunctions.{conjunctions-listed};
 use crate::Checked;
+use crate::fields::conjunction_at;
+use crate::fields::conjunctions;
+use crate::fields::default_kind;
+use crate::fields::inner;
+use crate::fields::outer;
 use crate::sets::delimits;
 use rules::Conjunction;
 use rules::Refusal;
-use rules::Settings;
 
-fn delimiters_accepted(s: Settings) -> bool
-    ensures { λ r. ⌜ r ≡ delimiters-accepted s ⌝ }
+fn delimiters_accepted(settings: &[u64; 25]) -> bool
+    ensures { λ r. ⌜ r ≡ delimiters-accepted (settings-of (now (settings .entry))) ⌝ }
 {
-    let inner = s.inner;
-    let outer = s.outer;
-    delimits(inner) && delimits(outer)
+    delimits(inner(settings)) && delimits(outer(settings))
 }
 
 // The rule of the letters' class, without a read of the table of classes.
@@ -48,28 +49,16 @@ fn conjunction_accepted(c: Conjunction) -> bool
     true
 }
 
-// The conjunction at this place of the four.
-pub fn conjunction_at(s: Settings, i: u8) -> Conjunction
-    ensures { λ r. ⌜ r ≡ getD (conjunctions-listed s) i (s .fourth) ⌝ }
+fn conjunctions_accepted(settings: &[u64; 25]) -> bool
+    ensures { λ r. ⌜ r ≡ conjunctions-accepted (settings-of (now (settings .entry))) ⌝ }
 {
-    match i {
-        0 => s.first,
-        1 => s.second,
-        2 => s.third,
-        _ => s.fourth,
-    }
-}
-
-fn conjunctions_accepted(s: Settings) -> bool
-    ensures { λ r. ⌜ r ≡ conjunctions-accepted s ⌝ }
-{
-    let count = s.conjunctions;
+    let count = conjunctions(settings);
     if count > 4 {
         return false;
     }
     let mut i = 0;
     while i < count {
-        if !conjunction_accepted(conjunction_at(s, i)) {
+        if !conjunction_accepted(conjunction_at(settings, i)) {
             return false;
         }
         i += 1;
@@ -77,18 +66,16 @@ fn conjunctions_accepted(s: Settings) -> bool
     true
 }
 
-pub fn settings_check(s: Settings) -> Checked
-    ensures { λ r. ⌜ outcome r ≡ settings-check s ⌝ }
+pub fn settings_check(settings: &[u64; 25]) -> Checked
+    ensures { λ r. ⌜ outcome r ≡ settings-check (settings-of (now (settings .entry))) ⌝ }
 {
-    let delimiters = delimiters_accepted(s);
-    let conjunctions = conjunctions_accepted(s);
-    if !delimiters {
+    if !delimiters_accepted(settings) {
         return Checked::Refused(Refusal::Delimiters);
     }
-    if !conjunctions {
+    if !conjunctions_accepted(settings) {
         return Checked::Refused(Refusal::Conjunctions);
     }
-    if s.default_kind > 7 {
+    if default_kind(settings) > 7 {
         return Checked::Refused(Refusal::DefaultKind);
     }
     Checked::Accepted

@@ -1,50 +1,18 @@
-// Sets of bytes, and which bytes a set of delimiters may hold.
+// Sets of bytes: which bytes a set of delimiters may hold, and sets of two words, which is what an accepted one needs.
 ghost use mathlib.Core.Path.{_≡_};
-ghost use Prim.Native.Nat.{_/_};
-ghost use Rattle.rules.specs.SettingsAndUnitTable.{word, holds, delimits, empty};
-ghost use Rattle.settings.specs.Sets.{either};
+ghost use mathlib.Core.Bool.{true};
+ghost use Rattle.rules.specs.NumbersHandedBack.{got};
+ghost use Rattle.rules.specs.SettingsAsWords.{settings-of};
+ghost use Rattle.rules.specs.SettingsAndUnitTable.{holds, delimits, empty, settings-check};
+ghost use Rattle.settings.specs.Sets.{bytes-of, either};
+use crate::fields::inner;
+use crate::fields::outer;
 use rules::ByteSet;
 
-// The word of the set that has the byte's bit. Two tests, since a `match` on the quotient becomes a jump through a table.
-fn word_of(set: ByteSet, b: u8) -> u64
-    ensures { λ r. ⌜ r ≡ word set (b / 64) ⌝ }
-{
-    if b < 128 {
-        if b < 64 { set.word0 } else { set.word1 }
-    } else {
-        if b < 192 { set.word2 } else { set.word3 }
-    }
-}
-
-pub fn holds(set: ByteSet, b: u8) -> bool
-    ensures { λ r. ⌜ r ≡ holds set b ⌝ }
-{
-    (word_of(set, b) >> (b % 64)) % 2 == 1
-}
-
-// The bytes that one of two sets holds.
-pub fn either(a: ByteSet, b: ByteSet) -> ByteSet
-    ensures { λ r. ⌜ r ≡ either a b ⌝ }
-{
-    ByteSet {
-        word0: a.word0 | b.word0,
-        word1: a.word1 | b.word1,
-        word2: a.word2 | b.word2,
-        word3: a.word3 | b.word3,
-    }
-}
-
-// Whether the set holds no byte.
-pub fn empty(set: ByteSet) -> bool
-    ensures { λ r. ⌜ r ≡ empty set ⌝ }
-{
-    if set.word0 != 0 {
-        return false;
-    }
-    if set.word1 != 0 {
-        return false;
-    }
-    set.word2 == 0 && set.word3 == 0
+// A set of bytes below 128: byte b is in it if bit b % 64 of its word is 1.
+pub struct AsciiSet {
+    pub low: u64,
+    pub high: u64,
 }
 
 // Whether every byte that the set holds may delimit. Each run of bytes that may not is a run of bits of one word, which is
@@ -71,4 +39,60 @@ pub fn delimits(set: ByteSet) -> bool
     }
     // 128 and above
     set.word2 == 0 && set.word3 == 0
+}
+
+// A set of delimiters as two words: no byte from 128 on delimits.
+fn ascii(set: ByteSet) -> AsciiSet
+    requires { ⌜ delimits set 0 256 ≡ true ⌝ }
+    ensures { λ r. ⌜ bytes-of r ≡ set ⌝ }
+{
+    AsciiSet {
+        low: set.word0,
+        high: set.word1,
+    }
+}
+
+// The inner and the outer delimiters of accepted settings.
+pub fn inner_delimiters(settings: &[u64; 25]) -> AsciiSet
+    requires { ⌜ settings-check (settings-of (now settings)) ≡ got tt ⌝ }
+    ensures { λ r. ⌜ bytes-of r ≡ settings-of (now (settings .entry)) .inner ⌝ }
+{
+    ascii(inner(settings))
+}
+
+pub fn outer_delimiters(settings: &[u64; 25]) -> AsciiSet
+    requires { ⌜ settings-check (settings-of (now settings)) ≡ got tt ⌝ }
+    ensures { λ r. ⌜ bytes-of r ≡ settings-of (now (settings .entry)) .outer ⌝ }
+{
+    ascii(outer(settings))
+}
+
+pub fn holds(set: AsciiSet, b: u8) -> bool
+    ensures { λ r. ⌜ r ≡ holds (bytes-of set) b ⌝ }
+{
+    let bit = b as u64;
+    if bit < 64 {
+        return (set.low >> (bit % 64)) % 2 == 1;
+    }
+    if bit < 128 {
+        return (set.high >> (bit % 64)) % 2 == 1;
+    }
+    false
+}
+
+// The bytes that one of two sets holds.
+pub fn either(a: AsciiSet, b: AsciiSet) -> AsciiSet
+    ensures { λ r. ⌜ bytes-of r ≡ either (bytes-of a) (bytes-of b) ⌝ }
+{
+    AsciiSet {
+        low: a.low | b.low,
+        high: a.high | b.high,
+    }
+}
+
+// Whether the set holds no byte.
+pub fn empty(set: AsciiSet) -> bool
+    ensures { λ r. ⌜ r ≡ empty (bytes-of set) ⌝ }
+{
+    set.low == 0 && set.high == 0
 }

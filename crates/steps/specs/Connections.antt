@@ -13,12 +13,13 @@ use Rattle.rules.specs.declared.Conjunction.{Conjunction}
 use Rattle.rules.specs.declared.Settings.{Settings}
 use Rattle.rules.specs.declared.Refusal.{Refusal}
 use Rattle.rules.specs.declared.Refusal.the-variants.{ConjunctionEnds, ConjunctionGoesOn}
-use Rattle.rules.specs.Common.{if_then_else_, ends, sees}
+use Rattle.rules.specs.Common.{if_then_else_, all, ends, sees}
 use Rattle.rules.specs.NumbersHandedBack.{got, refused}
-use Rattle.rules.specs.SettingsAndUnitTable.{most-conjunctions, is-next-duration, holds, letters-of, conjunctions-of}
+use Rattle.rules.specs.SettingsAndUnitTable.{LETTER, is, most-conjunctions, is-next-duration, holds, letters-of, conjunctions-of, conjunction-accepted, settings-check}
 use Rattle.rules.specs.ReadingOnePart.{says, delimiters, conjunction-size, after-conjunction, conjunction-step, connection}
 use Rattle.rules.specs.Laws.Outcomes.{bind-got, bind-refused}
 use Rattle.rules.specs.Laws.Texts.{sees-here}
+use Rattle.settings.specs.Laws.Accepted.{conjunction-good, conjunction-letters}
 use Rattle.settings.specs.Conjunctions.{conjunctions-listed}
 
 -- ---- the conjunctions one after another: those from i on
@@ -34,10 +35,6 @@ module _ (s : Settings) (text : List ℕ) (place i : ℕ) where
   pub size-end : s .conjunctions ≤ i → size-from s text place i ≡ 0
   unfolding conjunctions-of
   size-end h = size-beyond (simp length-take (omega arith))
-
-  pub size-most : most-conjunctions ≤ i → size-from s text place i ≡ 0
-  unfolding conjunctions-of
-  size-most h = size-beyond (simp length-take (omega arith))
 
   module _
       (h : i < s .conjunctions) (k : i < most-conjunctions)
@@ -55,6 +52,22 @@ module _ (s : Settings) (text : List ℕ) (place i : ℕ) where
     pub size-next : says (letters-of c) text place ≡ false → size-from s text place i ≡ size-from s text place (i + 1)
     unfolding conjunction-size if_then_else_
     size-next e = rw (from, e)
+
+-- under accepted settings a listed conjunction is one of letters
+pub listed-letters :
+    (s : Settings)
+    → settings-check s ≡ got tt
+    → (i : ℕ)
+    → i < s .conjunctions
+    → i < most-conjunctions
+    → {c : Conjunction}
+    → c ≡ getD (conjunctions-listed s) i (s .fourth)
+    → all (is LETTER) (letters-of c) ≡ true
+unfolding conjunctions-of
+listed-letters s good i h k {c = c} at =
+    conjunction-letters c
+    (ap conjunction-accepted (at ∙ sym (getD-take (s .conjunctions) (conjunctions-listed s) i (s .fourth) h))
+    ∙ conjunction-good s good i (s .fourth) (simp length-take (omega arith)))
 
 -- ---- after the word
 

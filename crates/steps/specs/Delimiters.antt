@@ -1,8 +1,8 @@
 -- A run of delimiters, from where it ends. Assumes nothing.
-use mathlib.Core.Path.{_≡_, refl, _∙_}
+use mathlib.Core.Path.{_≡_, refl, sym, _∙_}
 use mathlib.Core.Bool.{Bool, true, false, Bool·beq}
 use mathlib.Core.List.{List}
-use Prim.Native.Nat.{ℕ, _≤_, _<_}
+use Prim.Native.Nat.{ℕ, _+_, _≤_, _<_}
 use native.Mathlib.Omega.{arith}
 use borrow.Author.Tests.{le-leb, lt-leb}
 use lib.ListN.{length}
@@ -15,7 +15,7 @@ use Rattle.rules.specs.SettingsAndUnitTable.{holds}
 use Rattle.rules.specs.ReadingOnePart.{delimiters, gap}
 use Rattle.rules.specs.Laws.Outcomes.{all-got, all-refused, all-if, all-of}
 use Rattle.rules.specs.Laws.Tests.{and-false}
-use Rattle.rules.specs.Laws.Texts.{sees-in, run-past, run-stop, run-within}
+use Rattle.rules.specs.Laws.Texts.{sees-in, run-more, run-past, run-stop, run-within}
 use Rattle.value.specs.Digits.{run-same}
 use Rattle.steps.specs.Sets.{passes}
 
@@ -42,22 +42,24 @@ pub run-held : (set : ByteSet) (text : List ℕ) (place : ℕ) → run (passes s
 unfolding passes
 run-held set text place = run-same _ _ (λ b. held (holds set b)) text place
 
-module _ (set : ByteSet) (text : List ℕ) (place : ℕ) {end : ℕ} (at : end ≡ run (passes set true) text place) where
-  there : end ≡ run (holds set) text place
-  there = at ∙ run-held set text place
+module _ (set : ByteSet) (text : List ℕ) (place : ℕ) where
+  -- a run that begins at the place and reaches the end, and one that does not
+  module _ (here : sees (holds set) text place ≡ true) {end : ℕ} (at : end ≡ run (passes set true) text (place + 1)) where
+    there : end ≡ run (holds set) text place
+    there = at ∙ run-held set text (place + 1) ∙ sym (run-more (holds set) text place here)
 
-  -- a run that reaches the end, one that does not, and none
-  pub delimiters-end : place < end → length text ≤ end → refused (DelimiterEnds place) ≡ delimiters set text place
-  unfolding delimiters ends if_then_else_
-  delimiters-end h k = rw (← there, sees-run (holds set) text place (rw (← there) h), le-leb (length text) end k)
+    pub delimiters-end : length text ≤ end → refused (DelimiterEnds place) ≡ delimiters set text place
+    unfolding delimiters ends if_then_else_
+    delimiters-end k = rw (← there, here, le-leb (length text) end k)
 
-  pub delimiters-past : place < end → end < length text → got end ≡ delimiters set text place
-  unfolding delimiters ends if_then_else_
-  delimiters-past h k = rw (← there, lt-leb (length text) end k, and-false)
+    pub delimiters-past : end < length text → got end ≡ delimiters set text place
+    unfolding delimiters ends if_then_else_
+    delimiters-past k = rw (← there, lt-leb (length text) end k, and-false)
 
-  pub delimiters-none : end ≤ place → got end ≡ delimiters set text place
+  -- and none
+  pub delimiters-none : sees (holds set) text place ≡ false → got place ≡ delimiters set text place
   unfolding delimiters if_then_else_
-  delimiters-none h = rw (← there, sees-none (holds set) text place (rw (← there) h))
+  delimiters-none e = rw (run-stop (holds set) text place e, e)
 
 -- a run that is got ends within the text
 pub delimiters-within :

@@ -17,7 +17,7 @@ use Rattle.rules.specs.SettingsAndUnitTable.{holds}
 use Rattle.rules.specs.ReadingOnePart.{same-letter, connection, closes-infinity, letters-step, infinity-closed, infinity-step}
 use Rattle.rules.specs.Laws.Outcomes.{bind-got, bind-refused}
 use Rattle.steps.specs.Joined.{then-joined, if-joined}
-use Rattle.steps.specs.Words.{matching}
+use Rattle.steps.specs.Letters.{matching}
 
 -- what closes the word, at the place after it
 unfoldable pub word-closed : Settings → List ℕ → ℕ → Outcome ℕ

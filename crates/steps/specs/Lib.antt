@@ -4,7 +4,7 @@ pub mod Joined
 pub mod Bytes
 pub mod Sets
 pub mod Delimiters
-pub mod Words
+pub mod Letters
 pub mod Signs
 pub mod Numbers
 pub mod Exponents

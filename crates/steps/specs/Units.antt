@@ -2,9 +2,11 @@
 use mathlib.Core.Path.{_≡_, refl, sym, ap, _∙_}
 use mathlib.Core.Bool.{Bool, true, false, not, _||_, Bool·beq, false≢true}
 use mathlib.Core.List.{List, [], _∷_}
-use Prim.Native.Nat.{ℕ, suc, _+_, _≤_, _<_}
+use Prim.Native.Nat.{ℕ, suc, _+_, _-_, _≤_, _<_}
+use native.Mathlib.Nat.{add-zero}
 use native.Mathlib.Omega.{arith}
-use borrow.Author.Tests.{le-leb, lt-leb}
+use borrow.Author.Tests.{le-leb, lt-leb, leb-true, leb-false}
+use lib.Dec.{leb}
 use lib.ListN.{length, getD, take, drop, length-take, drop-of-length-le}
 use lib.Seq.{slice, getD-drop}
 use Rattle.rules.specs.declared.ByteSet.{ByteSet}
@@ -22,7 +24,8 @@ use Rattle.rules.specs.Laws.Ahead.{says-within}
 use Rattle.rules.specs.Laws.Lists.{Bytes}
 use Rattle.rules.specs.Laws.Outcomes.{bind-got, bind-refused}
 use Rattle.rules.specs.Laws.Tests.{or-false}
-use Rattle.rules.specs.Laws.Texts.{sees-here}
+use Rattle.rules.specs.Laws.Texts.{sees-here, run-within, slice-shift}
+use Rattle.value.specs.Digits.{run-end}
 use Rattle.settings.specs.Sets.{either}
 use Rattle.settings.specs.Laws.Sets.{runs, either-holds, first-word}
 use Rattle.steps.specs.Sets.{passes}
@@ -37,6 +40,20 @@ pub nothing-found : (table text : List ℕ) (place end : ℕ) → Readable table
 nothing-found table text place end t h =
     sym (ap (lookup table) (drop-of-length-le (take end text) {i = place} (omega (arith, length-take end text))) ∙ t .named)
 
+-- a run that goes on ends within the text
+pub stretch-within : (test : ℕ → Bool) (text : List ℕ) (place : ℕ) {end : ℕ} → end ≡ run test text place → place < end → end ≤ length text
+stretch-within test text place {end = end} e h = go (leb (length text) place) refl
+  where
+    go : (b : Bool) → leb (length text) place ≡ b → end ≤ length text
+    go true past = absurd (omega (arith, run-end test text place (leb-true (length text) place past)))
+    go false here = rw e (run-within test text place (omega (arith, leb-false (length text) place here)))
+
+-- the part of the text between two places that ascend
+pub stretch-part : (text : List ℕ) (place end : ℕ) → place < end → take (end - place) (drop place text) ≡ slice place end text
+stretch-part text place end h =
+    let whole : place + (end - place) ≡ end = omega arith in
+    slice-shift text place 0 (end - place) ∙ rw (add-zero place, whole)
+
 -- ---- where a name ends
 
 -- `+`, `-` and the digits
@@ -47,24 +64,22 @@ next-holds : (b : ℕ) → b < 256 → holds next-set b ≡ is-next-duration b
 unfolding runs is-next-duration is class between if_then_else_
 next-holds b h = first-word 287992881640112128 is-next-duration refl refl b h
 
-module _ (s : Settings) {inner outer : ByteSet} (i : s .inner ≡ inner) (o : s .outer ≡ outer) (b : ℕ) (h : b < 256) where
-  inner-at : holds inner b ≡ holds (s .inner) b
-  inner-at = ap (λ set. holds set b) (sym i)
+-- the bytes before which a name ends, as one set
+unfoldable pub stops-of : Settings → ByteSet
+stops-of s = if s .ago then either (either (s .outer) next-set) (s .inner) else either (s .outer) next-set
 
-  outer-at : holds outer b ≡ holds (s .outer) b
-  outer-at = ap (λ set. holds set b) (sym o)
-
+module _ (s : Settings) (b : ℕ) (h : b < 256) where
   not-not : (t : Bool) → t ≡ not (not t)
   not-not true = refl
   not-not false = refl
 
-  pub stops-with : s .ago ≡ true → holds (either (either outer next-set) inner) b ≡ not (in-stretch s b)
-  unfolding in-stretch
-  stops-with a = rw (either-holds, either-holds, next-holds b h, inner-at, outer-at, a) (not-not _)
-
-  pub stops-without : s .ago ≡ false → holds (either outer next-set) b ≡ not (in-stretch s b)
-  unfolding in-stretch
-  stops-without a = rw (either-holds, next-holds b h, outer-at, a, or-false) (not-not _)
+  stops : holds (stops-of s) b ≡ not (in-stretch s b)
+  unfolding stops-of in-stretch if_then_else_
+  stops = go (s .ago) refl
+    where
+      go : (a : Bool) → s .ago ≡ a → holds (stops-of s) b ≡ not (in-stretch s b)
+      go true a = rw (a, either-holds, either-holds, next-holds b h) (not-not _)
+      go false a = rw (a, either-holds, next-holds b h, or-false) (not-not _)
 
 -- tests that agree at each byte of a text give one run
 front-alike : (test other : ℕ → Bool) (rest : List ℕ) → ((k : ℕ) → test (getD rest k 0) ≡ other (getD rest k 0)) → front test rest ≡ front other rest
@@ -86,21 +101,17 @@ outside false true e = refl
 outside false false e = absurd (false≢true e)
 
 -- the bytes that do not stop a name are those of the stretch
-pub stretch-ends :
-    (s : Settings) (set : ByteSet) (text : List ℕ) (place : ℕ)
-    → Bytes text
-    → ((b : ℕ) → b < 256 → holds set b ≡ not (in-stretch s b))
-    → run (passes set false) text place ≡ run (in-stretch s) text place
+pub stretch-ends : (s : Settings) (text : List ℕ) (place : ℕ) → Bytes text → run (passes (stops-of s) false) text place ≡ run (in-stretch s) text place
 unfolding passes
-stretch-ends s set text place bytes h = run-alike _ _ text place (λ k. outside _ _ (h (getD text k 0) (bytes k)))
+stretch-ends s text place bytes = run-alike _ _ text place (λ k. outside _ _ (stops s (getD text k 0) (bytes k)))
 
 -- ---- what must follow `ago`
 
-module _ (s : Settings) {outer : ByteSet} (o : s .outer ≡ outer) (text : List ℕ) (place : ℕ) where
-  pub closes-end : length text ≤ place → true ≡ closes-unit s text place
-  unfolding closes-unit ends
-  closes-end h = rw (le-leb (length text) place h)
+pub closes-end : (s : Settings) (text : List ℕ) (place : ℕ) → length text ≤ place → true ≡ closes-unit s text place
+unfolding closes-unit ends
+closes-end s text place h = rw (le-leb (length text) place h)
 
+module _ (s : Settings) {outer : ByteSet} (o : s .outer ≡ outer) (text : List ℕ) (place : ℕ) where
   module _ (h : place < length text) where
     closes-here : (holds outer (getD text place 0) || is-next-duration (getD text place 0)) ≡ closes-unit s text place
     unfolding closes-unit ends
@@ -125,11 +136,11 @@ ago-within text word h w = says-within (ascii "ago") text word h w
 abbrev pub back : Multiplier → ℕ → Outcome declared-unit.Unit
 back m place = got (record { multiplier = m; next = place })
 
-module _ (s : Settings) {inner : ByteSet} (i : s .inner ≡ inner) (text : List ℕ) (m : Multiplier) (place : ℕ) where
-  pub ago-off : s .ago ≡ false → back m place ≡ ago-step s text m place
-  unfolding ago-step if_then_else_
-  ago-off a = rw a
+pub ago-off : (s : Settings) (text : List ℕ) (m : Multiplier) (place : ℕ) → s .ago ≡ false → back m place ≡ ago-step s text m place
+unfolding ago-step if_then_else_
+ago-off s text m place a = rw a
 
+module _ (s : Settings) {inner : ByteSet} (i : s .inner ≡ inner) (text : List ℕ) (m : Multiplier) (place : ℕ) where
   module _ (a : s .ago ≡ true) where
     inner-sees : {t : Bool} → sees (holds inner) text place ≡ t → sees (holds (s .inner)) text place ≡ t
     inner-sees e = ap (λ set. sees (holds set) text place) i ∙ e

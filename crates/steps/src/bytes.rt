@@ -1,6 +1,11 @@
 // What a single byte is.
 ghost use mathlib.Core.Path.{_≡_};
-ghost use Rattle.rules.specs.SettingsAndUnitTable.{DIGIT, SIGN, is, is-next-duration, lower};
+ghost use mathlib.Core.Bool.{true};
+ghost use Rattle.rules.specs.SettingsAndUnitTable.{DIGIT, SIGN, LETTER, is, is-next-duration};
+ghost use Rattle.rules.specs.ReadingOnePart.{same-letter};
+
+// The bit that a lower-case letter has and the upper-case one has not.
+const CASE: u8 = 32;
 
 pub fn is_digit(byte: u8) -> bool
     ensures { λ r. ⌜ r ≡ is DIGIT byte ⌝ }
@@ -24,12 +29,10 @@ pub fn is_next_duration(byte: u8) -> bool
     is_digit(byte) || is_sign(byte)
 }
 
-// ASCII letters compare in any case.
-pub fn lower(byte: u8) -> u8
-    ensures { λ r. ⌜ r ≡ lower byte ⌝ }
+// Whether a byte is the letter, in any case: the two cases differ in one bit, and no byte but a letter comes to one with it.
+pub fn same_letter(letter: u8, byte: u8) -> bool
+    requires { ⌜ is LETTER letter ≡ true ⌝ }
+    ensures { λ r. ⌜ r ≡ same-letter letter byte ⌝ }
 {
-    match byte {
-        65..=90 => byte + 32,
-        _ => byte,
-    }
+    letter | CASE == byte | CASE
 }

@@ -1,16 +1,17 @@
 // Step 4: the exponent.
 ghost use mathlib.Core.Path.{_≡_};
 ghost use lib.ListN.{drop};
-ghost use Rattle.rules.specs.declared.Settings.{Settings};
+ghost use Rattle.rules.specs.SettingsAsWords.{settings-of};
 ghost use Rattle.rules.specs.Common.{sees};
 ghost use Rattle.rules.specs.ReadingOnePart.{same-letter, exponent-limit, exponent-passed, exponent-digits, exponent-number, exponent-step};
 ghost use Rattle.steps.specs.Outcomes.{scaled};
 use crate::bytes::is_digit;
-use crate::bytes::lower;
+use crate::bytes::same_letter;
 use crate::sign::sign_at;
 use rules::Exponent;
 use rules::Refusal;
 use rules::Scaled;
+use settings::fields::exponents;
 
 pub enum ScaledRead {
     Got(Scaled),
@@ -82,16 +83,16 @@ fn is_exponent(text: &[u8], place: usize) -> bool
     if text.len() <= place {
         return false;
     }
-    lower(text[place]) == b'e'
+    same_letter(b'e', text[place])
 }
 
-pub fn parse_number_exponent(exponents: bool, text: &[u8], place: usize) -> ScaledRead
-    ensures { λ r. ⌜ ((s : Settings) → s .exponents ≡ exponents → scaled r ≡ exponent-step s (now (text .entry)) place) ⌝ }
+pub fn parse_number_exponent(settings: &[u64; 25], text: &[u8], place: usize) -> ScaledRead
+    ensures { λ r. ⌜ scaled r ≡ exponent-step (settings-of (now (settings .entry))) (now (text .entry)) place ⌝ }
 {
     if !is_exponent(text, place) {
         return exponent_at(false, 0, place);
     }
-    if !exponents {
+    if !exponents(settings) {
         return ScaledRead::Refused(Refusal::ExponentOff(place));
     }
     let sign = sign_at(text, place + 1);

@@ -4,10 +4,10 @@ pub mod connection;
 pub mod delimiters;
 pub mod exponent;
 pub mod infinity;
+pub mod letters;
 pub mod number;
 pub mod sign;
 pub mod unit;
-pub mod words;
 
 // Where a step ends, or why it refuses.
 pub enum Next {

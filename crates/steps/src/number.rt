@@ -1,6 +1,6 @@
 // Steps 2 and 3: the digits before a point, and those after it.
 ghost use mathlib.Core.Path.{_≡_};
-ghost use Rattle.rules.specs.declared.Settings.{Settings};
+ghost use Rattle.rules.specs.SettingsAsWords.{settings-of};
 ghost use Rattle.rules.specs.Common.{sees};
 ghost use Rattle.rules.specs.SettingsAndUnitTable.{POINT, is};
 ghost use Rattle.rules.specs.ReadingOnePart.{fraction-step, number-step};
@@ -9,6 +9,7 @@ use rules::Fract;
 use rules::Number;
 use rules::Refusal;
 use rules::Whole;
+use settings::fields::fractions;
 use value::digits::parse_digits;
 use value::digits::parse_digits_strip_zeros;
 
@@ -28,13 +29,13 @@ fn is_point(text: &[u8], place: usize) -> bool
 
 // A point may have no digits after it where there are some before it.
 fn parse_number_fraction(
-    fractions: bool,
+    settings: &[u64; 25],
     text: &[u8],
     any_whole: bool,
     whole: Whole,
     place: usize,
 ) -> NumberRead
-    ensures { λ r. ⌜ ((s : Settings) → s .fractions ≡ fractions → number r ≡ fraction-step s (now (text .entry)) «any_whole» whole place) ⌝ }
+    ensures { λ r. ⌜ number r ≡ fraction-step (settings-of (now (settings .entry))) (now (text .entry)) «any_whole» whole place ⌝ }
 {
     if !is_point(text, place) {
         return NumberRead::Got(Number {
@@ -46,7 +47,7 @@ fn parse_number_fraction(
             next: place,
         });
     }
-    if !fractions {
+    if !fractions(settings) {
         return NumberRead::Refused(Refusal::FractionOff(place));
     }
     let after = place + 1;
@@ -60,10 +61,10 @@ fn parse_number_fraction(
     NumberRead::Got(Number { whole, fract, next })
 }
 
-pub fn parse_number(fractions: bool, text: &[u8], place: usize) -> NumberRead
-    ensures { λ r. ⌜ ((s : Settings) → s .fractions ≡ fractions → number r ≡ number-step s (now (text .entry)) place) ⌝ }
+pub fn parse_number(settings: &[u64; 25], text: &[u8], place: usize) -> NumberRead
+    ensures { λ r. ⌜ number r ≡ number-step (settings-of (now (settings .entry))) (now (text .entry)) place ⌝ }
 {
     let whole = parse_digits_strip_zeros(text, place);
     let end = whole.end;
-    parse_number_fraction(fractions, text, place < end, whole, end)
+    parse_number_fraction(settings, text, place < end, whole, end)
 }

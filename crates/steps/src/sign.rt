@@ -1,15 +1,17 @@
 // Step 1: an optional sign.
 ghost use mathlib.Core.Path.{_≡_};
-ghost use Rattle.rules.specs.declared.Settings.{Settings};
+ghost use Rattle.rules.specs.NumbersHandedBack.{got};
+ghost use Rattle.rules.specs.SettingsAsWords.{settings-of};
+ghost use Rattle.rules.specs.SettingsAndUnitTable.{settings-check};
 ghost use Rattle.rules.specs.ReadingOnePart.{sign-step};
 ghost use Rattle.steps.specs.Outcomes.{signed};
 ghost use Rattle.steps.specs.Signs.{sign-at};
 use crate::Next;
 use crate::bytes::is_sign;
 use crate::delimiters::parse_number_delimiter;
-use rules::ByteSet;
 use rules::Refusal;
 use rules::Signed;
+use settings::fields::after_sign;
 
 pub enum SignRead {
     Got(Signed),
@@ -40,8 +42,9 @@ pub fn sign_at(text: &[u8], place: usize) -> Signed
 }
 
 // The sign, and the delimiters after it.
-pub fn parse_number_sign(after_sign: bool, inner: ByteSet, text: &[u8], place: usize) -> SignRead
-    ensures { λ r. ⌜ ((s : Settings) → s .«after_sign» ≡ «after_sign» → s .inner ≡ inner → signed r ≡ sign-step s (now (text .entry)) place) ⌝ }
+pub fn parse_number_sign(settings: &[u64; 25], text: &[u8], place: usize) -> SignRead
+    requires { ⌜ settings-check (settings-of (now settings)) ≡ got tt ⌝ }
+    ensures { λ r. ⌜ signed r ≡ sign-step (settings-of (now (settings .entry))) (now (text .entry)) place ⌝ }
 {
     let sign = sign_at(text, place);
     let after = sign.next;
@@ -51,7 +54,7 @@ pub fn parse_number_sign(after_sign: bool, inner: ByteSet, text: &[u8], place: u
     if text.len() <= after {
         return SignRead::Refused(Refusal::SignEnds(after));
     }
-    match parse_number_delimiter(after_sign, inner, text, after) {
+    match parse_number_delimiter(after_sign(settings), settings, text, after) {
         Next::Refused(cause) => SignRead::Refused(cause),
         Next::At(next) => SignRead::Got(Signed {
             negative: sign.negative,

@@ -1,28 +1,34 @@
 // Step 6: the unit, and `ago`.
 ghost use mathlib.Core.Path.{_≡_};
-ghost use mathlib.Core.Bool.{not};
-ghost use Prim.Native.Nat.{ℕ, _<_};
+ghost use Prim.Native.Nat.{_≤_, _<_};
+ghost use lib.ListN.{length};
 ghost use lib.Seq.{slice};
-ghost use Rattle.rules.specs.declared.Settings.{Settings};
-ghost use Rattle.rules.specs.SettingsAndUnitTable.{holds, lookup};
-ghost use Rattle.rules.specs.ReadingOnePart.{in-stretch, closes-unit, negated, ago-step, unit-step};
+ghost use Rattle.rules.specs.NumbersHandedBack.{got};
+ghost use Rattle.rules.specs.SettingsAsWords.{settings-of};
+ghost use Rattle.rules.specs.SettingsAndUnitTable.{settings-check, lookup};
+ghost use Rattle.rules.specs.ReadingOnePart.{closes-unit, negated, ago-step, unit-step};
+ghost use Rattle.settings.specs.Sets.{bytes-of};
 ghost use Rattle.steps.specs.Outcomes.{unit};
-ghost use Rattle.steps.specs.Units.{Readable};
+ghost use Rattle.steps.specs.Units.{Readable, stops-of};
 use crate::Next;
 use crate::bytes::is_next_duration;
 use crate::delimiters::is_delimiter;
 use crate::delimiters::past;
 use crate::delimiters::try_consume_delimiter;
-use crate::words::next_is_ignore_ascii_case;
+use crate::letters::next_is_ignore_ascii_case;
 use rows::fields::row_product;
-use rows::lookup::lookup;
-use rules::ByteSet;
+use rows::lookup::find;
 use rules::Found;
 use rules::Multiplier;
 use rules::Refusal;
 use rules::Unit;
+use settings::fields::ago;
+use settings::fields::default_kind;
+use settings::sets::AsciiSet;
 use settings::sets::either;
 use settings::sets::holds;
+use settings::sets::inner_delimiters;
+use settings::sets::outer_delimiters;
 use tables::kind_multiplier;
 
 pub enum UnitRead {
@@ -36,32 +42,33 @@ const NEXT_BYTES: u64 = 287_992_881_640_112_128;
 // Letters of `ago`.
 const AGO: usize = 3;
 
-// The bytes before which a unit's name ends, as one set: with ago on the inner delimiters are among them.
-fn stops(ago: bool, inner: ByteSet, outer: ByteSet) -> ByteSet
-    ensures { λ r. ⌜ ((s : Settings) → s .ago ≡ ago → s .inner ≡ inner → s .outer ≡ outer → (b : ℕ) → b < 256 → holds r b ≡ not (in-stretch s b)) ⌝ }
+// The bytes before which a unit's name ends, as one set: with ago on the inner delimiters are among them. It depends on the settings
+// alone, so that it is made once a text.
+pub fn stops(settings: &[u64; 25]) -> AsciiSet
+    requires { ⌜ settings-check (settings-of (now settings)) ≡ got tt ⌝ }
+    ensures { λ r. ⌜ bytes-of r ≡ stops-of (settings-of (now (settings .entry))) ⌝ }
 {
-    let next = ByteSet {
-        word0: NEXT_BYTES,
-        word1: 0,
-        word2: 0,
-        word3: 0,
+    let next = AsciiSet {
+        low: NEXT_BYTES,
+        high: 0,
     };
-    if ago {
-        either(either(outer, next), inner)
-    } else {
-        either(outer, next)
+    let outside = either(outer_delimiters(settings), next);
+    if ago(settings) {
+        return either(outside, inner_delimiters(settings));
     }
+    outside
 }
 
 // What `ago` must be followed by: the text's end, an outer delimiter, a digit or a sign.
-fn closes_unit(outer: ByteSet, text: &[u8], place: usize) -> bool
-    ensures { λ r. ⌜ ((s : Settings) → s .outer ≡ outer → r ≡ closes-unit s (now (text .entry)) place) ⌝ }
+fn closes_unit(settings: &[u64; 25], text: &[u8], place: usize) -> bool
+    requires { ⌜ settings-check (settings-of (now settings)) ≡ got tt ⌝ }
+    ensures { λ r. ⌜ r ≡ closes-unit (settings-of (now (settings .entry))) (now (text .entry)) place ⌝ }
 {
     if text.len() <= place {
         return true;
     }
     let byte = text[place];
-    holds(outer, byte) || is_next_duration(byte)
+    holds(outer_delimiters(settings), byte) || is_next_duration(byte)
 }
 
 fn negated(m: Multiplier) -> Multiplier
@@ -76,23 +83,18 @@ fn negated(m: Multiplier) -> Multiplier
 }
 
 // With ago on, delimiters and `ago` after a unit negate it; otherwise the place goes back to before the delimiters.
-fn parse_ago(
-    ago: bool,
-    inner: ByteSet,
-    outer: ByteSet,
-    text: &[u8],
-    m: Multiplier,
-    place: usize,
-) -> UnitRead
-    ensures { λ r. ⌜ ((s : Settings) → s .ago ≡ ago → s .inner ≡ inner → s .outer ≡ outer → unit r ≡ ago-step s (now (text .entry)) m place) ⌝ }
+fn parse_ago(settings: &[u64; 25], text: &[u8], m: Multiplier, place: usize) -> UnitRead
+    requires { ⌜ settings-check (settings-of (now settings)) ≡ got tt ⌝ }
+    ensures { λ r. ⌜ unit r ≡ ago-step (settings-of (now (settings .entry))) (now (text .entry)) m place ⌝ }
 {
     let back = Unit {
         multiplier: m,
         next: place,
     };
-    if !ago {
+    if !ago(settings) {
         return UnitRead::Got(back);
     }
+    let inner = inner_delimiters(settings);
     if !is_delimiter(inner, text, place) {
         return UnitRead::Got(back);
     }
@@ -103,7 +105,7 @@ fn parse_ago(
                 return UnitRead::Got(back);
             }
             let end = word + AGO;
-            if !closes_unit(outer, text, end) {
+            if !closes_unit(settings, text, end) {
                 return UnitRead::Got(back);
             }
             UnitRead::Got(Unit {
@@ -117,33 +119,34 @@ fn parse_ago(
 // The row that has the stretch as its name. A number often has no unit, and then no row is asked.
 fn find_unit(table: &[u8], text: &[u8], place: usize, end: usize) -> Found
     requires { ⌜ Readable (now table) ⌝ }
+    requires { ⌜ (place < end → end ≤ length (now text)) ⌝ }
     ensures { λ r. ⌜ r ≡ lookup (now (table .entry)) (slice place end (now (text .entry))) ⌝ }
 {
     if end <= place {
         return Found::Nowhere;
     }
-    lookup(table, text, place, end)
+    find(table, &text[place..end])
 }
 
 // The stretch looked up. Where no row has it as its name, the place goes back and the part has no unit.
 pub fn parse_time_unit(
-    default_kind: u8,
-    ago: bool,
-    inner: ByteSet,
-    outer: ByteSet,
+    settings: &[u64; 25],
+    stops: AsciiSet,
     table: &[u8],
     text: &[u8],
     place: usize,
 ) -> UnitRead
+    requires { ⌜ settings-check (settings-of (now settings)) ≡ got tt ⌝ }
+    requires { ⌜ bytes-of stops ≡ stops-of (settings-of (now settings)) ⌝ }
     requires { ⌜ Readable (now table) ⌝ }
-    ensures { λ r. ⌜ ((s : Settings) → s .«default_kind» ≡ «default_kind» → s .ago ≡ ago → s .inner ≡ inner → s .outer ≡ outer → unit r ≡ unit-step s (now (table .entry)) (now (text .entry)) place) ⌝ }
+    ensures { λ r. ⌜ unit r ≡ unit-step (settings-of (now (settings .entry))) (now (table .entry)) (now (text .entry)) place ⌝ }
 {
-    let end = past(stops(ago, inner, outer), false, text, place);
+    let end = past(stops, false, text, place);
     let Found::Row(i) = find_unit(table, text, place, end) else {
         return UnitRead::Got(Unit {
-            multiplier: kind_multiplier(default_kind),
+            multiplier: kind_multiplier(default_kind(settings)),
             next: place,
         });
     };
-    parse_ago(ago, inner, outer, text, row_product(table, i), end)
+    parse_ago(settings, text, row_product(table, i), end)
 }

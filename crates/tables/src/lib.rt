@@ -306,37 +306,88 @@ const CLASSES: [u8; 256] = [
     4, // byte 255
 ];
 
+// A table is read at fixed indexes alone, an arm of a match for each: read at any index it would be put on the stack first.
 pub fn pow10(n: usize) -> u64
     requires { ⌜ n < 20 ⌝ }
     ensures { λ r. ⌜ r ≡ 10 ^ n ⌝ }
 {
-    POW10[n]
+    match n {
+        0 => POW10[0],
+        1 => POW10[1],
+        2 => POW10[2],
+        3 => POW10[3],
+        4 => POW10[4],
+        5 => POW10[5],
+        6 => POW10[6],
+        7 => POW10[7],
+        8 => POW10[8],
+        9 => POW10[9],
+        10 => POW10[10],
+        11 => POW10[11],
+        12 => POW10[12],
+        13 => POW10[13],
+        14 => POW10[14],
+        15 => POW10[15],
+        16 => POW10[16],
+        17 => POW10[17],
+        18 => POW10[18],
+        _ => POW10[19],
+    }
 }
 
+// The bytes of a class stand in runs, of which the first byte's class is that of all.
 pub fn class_of(b: u8) -> u8
     ensures { λ r. ⌜ r ≡ class b ⌝ }
 {
-    CLASSES[b as usize]
+    match b {
+        b'0'..=b'9' => CLASSES[48],
+        b'+' | b'-' => CLASSES[43],
+        b'.' => CLASSES[46],
+        b'A'..=b'Z' | b'a'..=b'z' => CLASSES[65],
+        _ => CLASSES[0],
+    }
+}
+
+fn kind_coefficient(kind: u8) -> u64
+    ensures { λ r. ⌜ r ≡ getD kind-coefficients kind 0 ⌝ }
+{
+    match kind {
+        0 => KIND_COEFFICIENTS[0],
+        1 => KIND_COEFFICIENTS[1],
+        2 => KIND_COEFFICIENTS[2],
+        3 => KIND_COEFFICIENTS[3],
+        4 => KIND_COEFFICIENTS[4],
+        5 => KIND_COEFFICIENTS[5],
+        6 => KIND_COEFFICIENTS[6],
+        7 => KIND_COEFFICIENTS[7],
+        _ => 0,
+    }
+}
+
+fn kind_down(kind: u8) -> u16
+    ensures { λ r. ⌜ r ≡ getD kind-downs kind 0 ⌝ }
+{
+    match kind {
+        0 => KIND_DOWNS[0],
+        1 => KIND_DOWNS[1],
+        2 => KIND_DOWNS[2],
+        3 => KIND_DOWNS[3],
+        4 => KIND_DOWNS[4],
+        5 => KIND_DOWNS[5],
+        6 => KIND_DOWNS[6],
+        7 => KIND_DOWNS[7],
+        _ => 0,
+    }
 }
 
 // What a number without a unit, or a row, of this kind is multiplied by; nothing for a kind that there is not.
 pub fn kind_multiplier(kind: u8) -> Multiplier
     ensures { λ r. ⌜ r ≡ kind-multiplier kind ⌝ }
 {
-    let k = kind as usize;
-    if k < 8 {
-        Multiplier {
-            negative: false,
-            coefficient: KIND_COEFFICIENTS[k],
-            up: 0,
-            down: KIND_DOWNS[k],
-        }
-    } else {
-        Multiplier {
-            negative: false,
-            coefficient: 0,
-            up: 0,
-            down: 0,
-        }
+    Multiplier {
+        negative: false,
+        coefficient: kind_coefficient(kind),
+        up: 0,
+        down: kind_down(kind),
     }
 }

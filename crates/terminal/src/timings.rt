@@ -1,11 +1,11 @@
 // The four entries of document 01. C passes a slice as pointer and length, and an array by its pointer.
 ghost use mathlib.Core.Path.{_≡_};
+ghost use Rattle.rules.specs.SettingsAsWords.{settings-of};
 ghost use Rattle.rules.specs.WhatEveryEntryOwes.{part-answer, total-answer, write-answer, written-buffer, shift-answer};
-ghost use Rattle.c_words.specs.Words.{settings-of, length-of, answer-words, shifted-words};
+ghost use Rattle.c_words.specs.Words.{length-of, answer-words, shifted-words};
 use c_words::length_of;
 use c_words::put_answer;
 use c_words::put_total;
-use c_words::settings_of;
 use entries::read_part;
 use entries::read_total;
 use entries::shifted_total;
@@ -22,7 +22,7 @@ pub extern "C" fn herovinga_read_part(
     ensures { λ r. ⌜ r ≡ part-answer (settings-of (now (settings .entry))) (now (table .entry)) (now (text .entry)) place .number ⌝ }
     ensures { λ r. ⌜ now (answer .exit) ≡ answer-words (part-answer (settings-of (now (settings .entry))) (now (table .entry)) (now (text .entry)) place) ⌝ }
 {
-    put_answer(read_part(settings_of(settings), table, text, place), answer)
+    put_answer(read_part(settings, table, text, place), answer)
 }
 
 #[no_mangle]
@@ -35,7 +35,7 @@ pub extern "C" fn herovinga_read_total(
     ensures { λ r. ⌜ r ≡ total-answer (settings-of (now (settings .entry))) (now (table .entry)) (now (text .entry)) .number ⌝ }
     ensures { λ r. ⌜ now (answer .exit) ≡ answer-words (total-answer (settings-of (now (settings .entry))) (now (table .entry)) (now (text .entry))) ⌝ }
 {
-    put_answer(read_total(settings_of(settings), table, text), answer)
+    put_answer(read_total(settings, table, text), answer)
 }
 
 #[no_mangle]
@@ -67,7 +67,7 @@ pub extern "C" fn herovinga_add_total(
     ensures { λ r. ⌜ now (answer .exit) ≡ answer-words (shift-answer (length-of (now (total .entry))) (settings-of (now (settings .entry))) (now (table .entry)) (now (text .entry))) ⌝ }
     ensures { λ r. ⌜ now (total .exit) ≡ shifted-words (now (total .entry)) (settings-of (now (settings .entry))) (now (table .entry)) (now (text .entry)) ⌝ }
 {
-    let shifted = shifted_total(length_of(total), settings_of(settings), table, text);
+    let shifted = shifted_total(length_of(total), settings, table, text);
     if shifted.answer.number == 0 {
         put_total(shifted.total, total);
     }

@@ -1,6 +1,7 @@
 -- `c_words::length_of` meets its contract. Assumes nothing.
 use borrow.Author.Needs.{needs}
-use Rattle.c_words.specs.Words.{on, length-of}
+use Rattle.rules.specs.SettingsAsWords.{on}
+use Rattle.c_words.specs.Words.{length-of}
 use Rattle.c_words.proofs.length_of.Statement.{statement}
 use Rattle.c_words.proofs.length_of.Tie as tie
 

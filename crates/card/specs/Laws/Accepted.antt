@@ -1,57 +1,28 @@
--- What an accepted card has: delimiters of one class, conjunctions and a default kind within their limits, rows whose products are in
--- range, and names that are found where they stand. Assumes nothing.
+-- What an accepted card has besides accepted settings: rows whose products are in range, and names that are found where they stand.
+-- Assumes nothing.
 use mathlib.Core.Path.{_≡_, refl, sym, ap, _∙_}
-use mathlib.Core.Bool.{Bool, true, false, not, _||_, false≢true}
+use mathlib.Core.Bool.{Bool, true, false, false≢true}
 use mathlib.Core.List.{List, []}
 use Prim.Native.Nat.{ℕ, zero, suc, _+_, _%_, _≤_, _<_}
 use native.Mathlib.Nat.{add-zero, zero-add, suc-add, add-suc, le-of-suc-le-suc}
 use native.Mathlib.Numerals.{add-one}
 use native.Mathlib.Omega.{arith}
-use lib.Dec.{eqb, leb, ltb}
-use lib.ListN.{length, getD}
-use borrow.Author.Tests.{leb-true, eqb-true, leb-false, eqb-false}
-use Rattle.rules.specs.declared.ByteSet.{ByteSet}
-use Rattle.rules.specs.declared.Conjunction.{Conjunction}
+use lib.Dec.{eqb, leb}
+use lib.ListN.{length}
+use borrow.Author.Tests.{leb-true, eqb-true, eqb-false}
 use Rattle.rules.specs.declared.Settings.{Settings}
-use Rattle.rules.specs.declared.Refusal.{Refusal}
-use Rattle.rules.specs.declared.Refusal.the-variants.{Delimiters, Conjunctions, DefaultKind, TableSize, BadRow}
+use Rattle.rules.specs.declared.Refusal.the-variants.{TableSize, BadRow}
 use Rattle.rules.specs.declared.Found.{Found}
 use Rattle.rules.specs.declared.Found.the-variants.{Row, Nowhere}
-use Rattle.rules.specs.Common.{if_then_else_, between, all, same}
-use Rattle.rules.specs.NumbersHandedBack.{Outcome, got, refused, _>>_, unless}
-use Rattle.rules.specs.SettingsAndUnitTable.{LETTER, OTHER, class, letters-of, is, holds, may-delimit, delimits, delimiters-accepted, conjunction-accepted, conjunctions-accepted, conjunctions-of, most-conjunctions, most-letters, last-kind, settings-check, most-rows, row-size, rows, row, name, product, in-range, named, row-right, row-accepted, rows-check, table-check, card-check, lookup-from, lookup}
-use Rattle.rules.specs.Laws.Choices.{if-either, and-left, and-right, or-neither}
-use Rattle.rules.specs.Laws.Tests.{between-from, between-to}
-use Rattle.rules.specs.Laws.Lists.{all-index, runs-below}
+use Rattle.rules.specs.Common.{if_then_else_, same}
+use Rattle.rules.specs.NumbersHandedBack.{Outcome, got, refused}
+use Rattle.rules.specs.SettingsAndUnitTable.{settings-check, most-rows, row-size, rows, row, name, product, in-range, named, row-right, row-accepted, rows-check, table-check, card-check, lookup-from, lookup}
+use Rattle.rules.specs.Laws.Choices.{if-either, and-right, or-neither}
+use Rattle.settings.specs.Laws.Accepted.{not-refused, passed, passed-both}
 use Rattle.rows.specs.Laws.Lookup.{same-refl, same-equal, rest-of-lookup, lookup-start, lookup-here, lookup-next}
 use Rattle.rows.specs.Laws.Rows.{length-row}
 use Rattle.card.specs.Laws.Names.{name-some}
 use Rattle.card.specs.Laws.Table.{row-both, right-padded, right-unnamed, right-in-range}
-
--- ---- checks one after another
-
-is-got : Outcome (Unit {0}) → Bool
-is-got (got x) = true
-is-got (refused cause) = false
-
-not-refused : (cause : Refusal) → _≡_ {A = Outcome (Unit {0})} (refused cause) (got tt) → ⊥
-unfolding is-got
-not-refused cause e = false≢true (ap is-got e)
-
-passed : (cause : Refusal) (test : Bool) (more : Outcome (Unit {0})) → (unless cause test >> more) ≡ got tt → (test ≡ true) × (more ≡ got tt)
-unfolding unless _>>_
-passed cause true more e = (refl, e)
-passed cause false more e = absurd (not-refused cause e)
-
-passed-both : (first second : Outcome (Unit {0})) → (first >> second) ≡ got tt → (first ≡ got tt) × (second ≡ got tt)
-unfolding _>>_
-passed-both (got x) second e = (refl, e)
-passed-both (refused cause) second e = absurd (not-refused cause e)
-
-passed-last : (cause : Refusal) (test : Bool) → unless cause test ≡ got tt → test ≡ true
-unfolding unless
-passed-last cause true e = refl
-passed-last cause false e = absurd (not-refused cause e)
 
 pub card-settings : (s : Settings) (table : List ℕ) → card-check s table ≡ got tt → settings-check s ≡ got tt
 unfolding card-check
@@ -60,58 +31,6 @@ card-settings s table e = passed-both (settings-check s) (table-check s table) e
 pub card-table : (s : Settings) (table : List ℕ) → card-check s table ≡ got tt → table-check s table ≡ got tt
 unfolding card-check
 card-table s table e = passed-both (settings-check s) (table-check s table) e .1
-
--- ---- settings
-
-implied : (a b : Bool) → (not a || b) ≡ true → a ≡ true → b ≡ true
-implied true b e h = e
-implied false b e h = absurd (false≢true h)
-
-delimits-only : (set : ByteSet) (b : ℕ) → b < 256 → delimits set 0 256 ≡ true → holds set b ≡ true → may-delimit b ≡ true
-unfolding delimits
-delimits-only set b below e = implied (holds set b) (may-delimit b) (runs-below (λ k. not (holds set k) || may-delimit k) 256 b e below)
-
--- a byte that may delimit is of no class that the steps read
-pub delimiter-class : (b : ℕ) → may-delimit b ≡ true → class b ≡ OTHER
-unfolding may-delimit is
-delimiter-class b e = eqb-true (class b) OTHER (and-right (ltb b 128) (eqb (class b) OTHER) e)
-
-module _ (s : Settings) (good : settings-check s ≡ got tt) where
-  delimiters : delimiters-accepted s ≡ true
-  unfolding settings-check
-  delimiters = passed Delimiters (delimiters-accepted s) _ good .0
-
-  conjunctions : conjunctions-accepted s ≡ true
-  unfolding settings-check
-  conjunctions = passed Conjunctions (conjunctions-accepted s) _ (passed Delimiters (delimiters-accepted s) _ good .1) .0
-
-  pub default-most : s .«default_kind» ≤ last-kind
-  unfolding settings-check
-  default-most =
-      leb-true (s .«default_kind») last-kind (passed-last DefaultKind _ (passed Conjunctions (conjunctions-accepted s) _ (passed Delimiters (delimiters-accepted s) _ good .1) .1))
-
-  pub inner-delimits : (b : ℕ) → b < 256 → holds (s .inner) b ≡ true → may-delimit b ≡ true
-  unfolding delimiters-accepted
-  inner-delimits b below = delimits-only (s .inner) b below (and-left (delimits (s .inner) 0 256) (delimits (s .outer) 0 256) delimiters)
-
-  pub outer-delimits : (b : ℕ) → b < 256 → holds (s .outer) b ≡ true → may-delimit b ≡ true
-  unfolding delimiters-accepted
-  outer-delimits b below = delimits-only (s .outer) b below (and-right (delimits (s .inner) 0 256) (delimits (s .outer) 0 256) delimiters)
-
-  pub conjunctions-most : s .conjunctions ≤ most-conjunctions
-  unfolding conjunctions-accepted
-  conjunctions-most = leb-true (s .conjunctions) most-conjunctions (and-left _ _ conjunctions)
-
-  -- each conjunction is 1 to 8 letters
-  pub conjunction-good : (i : ℕ) (d : Conjunction) → i < length (conjunctions-of s) → conjunction-accepted (getD (conjunctions-of s) i d) ≡ true
-  unfolding conjunctions-accepted
-  conjunction-good i d below = all-index conjunction-accepted (conjunctions-of s) i d (and-right (leb (s .conjunctions) most-conjunctions) (all conjunction-accepted (conjunctions-of s)) conjunctions) below
-
-pub conjunction-sizes : (c : Conjunction) → conjunction-accepted c ≡ true → (1 ≤ c .size) × (c .size ≤ most-letters)
-unfolding conjunction-accepted
-conjunction-sizes c e =
-    let sizes = and-left (between 1 most-letters (c .size)) (all (is LETTER) (letters-of c)) e in
-    (between-from 1 most-letters (c .size) sizes, between-to 1 most-letters (c .size) sizes)
 
 -- ---- the table
 

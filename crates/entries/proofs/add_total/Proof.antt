@@ -1,6 +1,6 @@
 -- `entries::add_total` meets its contract: a walk of its MIR, by hand. The borrow is opened, the record is copied out and passed to `shifted_total`, the total that comes back is stored where
 -- the record stood, the borrow is closed at it, and the answer is returned. All that the proof knows of `shifted_total` is that it meets its contract.
--- The borrow stays open during the call: the callee is lent the table and the text alone, at their own lifetimes. Of these two, which can be copied, it gets one copy, and one is kept for the exit.
+-- The borrow stays open during the call: the callee is lent the settings, the table and the text alone, at their own lifetimes. Of these three, which can be copied, it gets one copy, and one is kept for the exit.
 -- Assumes nothing.
 use mathlib.Core.Path.{_≡_, refl, ap}
 use Prim.Native.Nat.{ℕ}
@@ -24,12 +24,13 @@ use types.Run.{look, init, store, forget, stop, hop, fld, from, load, of-opd, an
 use types.Part.{whole, sub, look-in}
 use types.SemTy.{Body}
 use sound.WpLaws.{FmC, fmOf, WpFn-mono}
-use denote.RattleType.{owns}
+use denote.RattleType.{RattleType, owns}
 use denote.Memory.{mem, cellAt}
 use denote.Laws.{Is, shows}
-use denote.Builtin.{u8}
-use denote.Ref.{RefT, MutRef, ptr-vals, mut-tells, now}
-use denote.Signature.{plain}
+use denote.Array.{Array}
+use denote.Builtin.{u8, u64, ArrayOf}
+use denote.Ref.{RefT, MutRef, ShrRef, ptr-vals, mut-tells, shr-tells, shr-lawful, shr-copy, now}
+use denote.Signature.{Slot, plain}
 use denote.Slice.{sliceVal, ShrSlice, slice-vals, shr-slice-tells, shr-slice-lawful, shr-slice-copy}
 use denote.Steps.{only, opens, closes, owned, peeks, heard, nothing}
 use denote.Struct.Steps.{spelt}
@@ -40,16 +41,14 @@ use denote.Triple.Clauses.{ensured, lasts}
 use denote.Triple.Entry.{Vals, onEntry}
 use denote.Triple.Spec.{Meets, tripleOf}
 use denote.Triple.Table.{entered, cited}
-use denote.Triple.Walked.{says, Stays, stay-ref, stay-none, stay-none-slice, walkOf, AllGo, goes-ref, goes-none, goes-none-slice, Walks, ends-at, walked, walk-meets}
+use denote.Triple.Walked.{says, Stays, stay-ref, stay-none-ref, stay-none-slice, walkOf, AllGo, goes-ref, goes-none-ref, goes-none-slice, Walks, ends-at, walked, walk-meets}
 use denote.Exit.{yes}
 use Rattle.rules.specs.declared.Length.{Length}
-use Rattle.rules.specs.declared.Settings.{Settings}
 use Rattle.rules.specs.declared.ShiftedTotal.{ShiftedTotal}
+use Rattle.rules.specs.SettingsAsWords.{settings-of}
 use Rattle.rules.specs.WhatEveryEntryOwes.{shift-answer, shifted-record}
 use Rattle.rules.proofs.Length as L
 use Rattle.rules.proofs.Length.Laws as L′
-use Rattle.rules.proofs.Settings as S
-use Rattle.rules.proofs.Settings.Laws as S′
 use Rattle.rules.proofs.Answer as N
 use Rattle.rules.proofs.Answer.Laws as N′
 use Rattle.rules.proofs.ShiftedTotal as R
@@ -70,12 +69,19 @@ length-val = LL.val L.the-type L′.the-laws
 abbrev slice-val : RefT (List ℕ) → Val
 slice-val s = sliceVal (s .ptr) (length (s .now))
 
+-- the words of the settings, as a type and in a signature
+abbrev words-row : RattleType
+words-row = Array u64 25
+
+abbrev words-slot : Slot 4
+words-slot = ArrayOf (plain (λ _. u64)) (λ _. tt) 25
+
 abbrev stayed : Stays (add.ended .signature .params) (add.ended .kept)
 stayed = (
   stay-ref (0 ∷ []) tt (plain (λ _. L.the-row)),
   (
-    stay-none (λ _. S.the-row) yes,
-    (stay-none-slice (1 ∷ []) tt (plain (λ _. u8)) yes, (stay-none-slice (2 ∷ []) tt (plain (λ _. u8)) yes, tt)),
+    stay-none-ref (1 ∷ []) tt words-slot yes,
+    (stay-none-slice (2 ∷ []) tt (plain (λ _. u8)) yes, (stay-none-slice (3 ∷ []) tt (plain (λ _. u8)) yes, tt)),
   ),
 )
 
@@ -83,67 +89,74 @@ stayed = (
 abbrev Shifted : {M : Type 1} (𝓤 : URA M) (H : Heap 𝓤) (A : Atoms 𝓤) (at-mem : Memory → SProp 𝓤) (run : Routine → Fun 𝓤) → Contract 𝓤
 Shifted 𝓤 H A at-mem run = tripleOf 𝓤 H A shifted.signature (shifted.spec 𝓤 H A at-mem run)
 
-module _ {M : Type 1} (𝓤 : URA M) (H : Heap 𝓤) (A : Atoms 𝓤) (W : Given 𝓤 H A) (at-mem : Memory → SProp 𝓤) (run : Routine → Fun 𝓤) (κ κ₁ κ₂ : Lft) (q q₁ q₂ : Share) (b o : ℕ) (γ : GName) (h : Length) (s : Settings) (table text : RefT (List ℕ)) where
+module _ {M : Type 1} (𝓤 : URA M) (H : Heap 𝓤) (A : Atoms 𝓤) (W : Given 𝓤 H A) (at-mem : Memory → SProp 𝓤) (run : Routine → Fun 𝓤) (κ κ₁ κ₂ κ₃ : Lft) (q q₁ q₂ q₃ : Share) (b o : ℕ) (γ : GName) (h : Length) (settings table text : RefT (List ℕ)) where
   abbrev settings-val : Val
-  settings-val = LL.val S.the-type S′.the-laws s
+  settings-val = vptr (settings .ptr .0) (settings .ptr .1)
 
   abbrev Arg : Type 0
-  Arg = RefT Length × (Settings × (RefT (List ℕ) × (RefT (List ℕ) × Unit {0})))
+  Arg = RefT Length × (RefT (List ℕ) × (RefT (List ℕ) × (RefT (List ℕ) × Unit {0})))
 
   abbrev x : Arg
-  x = (record { ptr = (b, o); name = γ; now = h }, (s, (table, (text, tt))))
+  x = (record { ptr = (b, o); name = γ; now = h }, (settings, (table, (text, tt))))
 
   abbrev at : List Val × (List Val × (List Val × (List Val × Unit {0})))
   at = (vptr b o ∷ [], (settings-val ∷ [], (slice-val table ∷ [], (slice-val text ∷ [], tt))))
 
-  abbrev κs : Lfts 3
-  κs = (κ, (κ₁, (κ₂, tt)))
+  abbrev κs : Lfts 4
+  κs = (κ, (κ₁, (κ₂, (κ₃, tt))))
 
-  abbrev qs : Share × (Share × (Share × Unit {0}))
-  qs = (q, (q₁, (q₂, tt)))
+  abbrev qs : Share × (Share × (Share × (Share × Unit {0})))
+  qs = (q, (q₁, (q₂, (q₃, tt))))
 
   abbrev Post : Val → SProp 𝓤
   Post = walkOf 𝓤 H A add.ended stayed (add.clauses 𝓤 H A at-mem run) .post ((κs, qs, tt, x, at), tt)
 
-  -- the tokens of the table's lifetime and of the text's; what the two own; and what all parameters beside the record own
+  -- the tokens of the lifetimes of settings, table and text; what each of the three owns; and what all of them do
   abbrev Tokens : Item 𝓤
-  Tokens = ‵ (flft κ₁ q₁) ⊛ ‵ (flft κ₂ q₂) ⊛ ‵ ftrue
+  Tokens = ‵ (flft κ₁ q₁) ⊛ ‵ (flft κ₂ q₂) ⊛ ‵ (flft κ₃ q₃) ⊛ ‵ ftrue
+
+  abbrev Words : Fml
+  Words = ShrRef (named 1) κ₁ words-row .own settings (settings-val ∷ [])
 
   abbrev Table : Fml
-  Table = ShrSlice (named 1) κ₁ u8 .own table (slice-val table ∷ [])
+  Table = ShrSlice (named 2) κ₂ u8 .own table (slice-val table ∷ [])
 
   abbrev Text : Fml
-  Text = ShrSlice (named 2) κ₂ u8 .own text (slice-val text ∷ [])
+  Text = ShrSlice (named 3) κ₃ u8 .own text (slice-val text ∷ [])
 
   abbrev Rest : Fml
-  Rest = owns (S.the-row ∷ ShrSlice (named 1) κ₁ u8 ∷ ShrSlice (named 2) κ₂ u8 ∷ []) (s, (table, (text, tt))) (settings-val ∷ [], (slice-val table ∷ [], (slice-val text ∷ [], tt)))
+  Rest = owns (ShrRef (named 1) κ₁ words-row ∷ ShrSlice (named 2) κ₂ u8 ∷ ShrSlice (named 3) κ₃ u8 ∷ []) (settings, (table, (text, tt))) (settings-val ∷ [], (slice-val table ∷ [], (slice-val text ∷ [], tt)))
 
   -- what `shifted_total`'s triple binds outside
-  abbrev κs′ : Lfts 2
-  κs′ = (κ₁, (κ₂, tt))
+  abbrev κs′ : Lfts 3
+  κs′ = (κ₁, (κ₂, (κ₃, tt)))
 
-  abbrev x′ : Length × (Settings × (RefT (List ℕ) × (RefT (List ℕ) × Unit {0})))
-  x′ = (h, (s, (table, (text, tt))))
+  abbrev qs′ : Share × (Share × (Share × Unit {0}))
+  qs′ = (q₁, (q₂, (q₃, tt)))
+
+  abbrev x′ : Length × (RefT (List ℕ) × (RefT (List ℕ) × (RefT (List ℕ) × Unit {0})))
+  x′ = (h, (settings, (table, (text, tt))))
 
   abbrev at′ : Vals shifted.signature κs′
   at′ = (length-val h ∷ [], (settings-val ∷ [], (slice-val table ∷ [], (slice-val text ∷ [], tt))))
 
   abbrev to : Shifted 𝓤 H A at-mem run .Ghost
-  to = ((κs′, (q₁, (q₂, tt)), tt, x′, at′), tt)
+  to = ((κs′, qs′, tt, x′, at′), tt)
 
-  asked : ent 𝓤 (onEntry 𝓤 H A shifted.signature κs′ (q₁, (q₂, tt)) x′ at′) (Shifted 𝓤 H A at-mem run .pre to)
+  asked : ent 𝓤 (onEntry 𝓤 H A shifted.signature κs′ qs′ x′ at′) (Shifted 𝓤 H A at-mem run .pre to)
   asked =
-      qed W (Tokens ∷ ‵ (owns (L.the-row ∷ S.the-row ∷ ShrSlice (named 0) κ₁ u8 ∷ ShrSlice (named 1) κ₂ u8 ∷ []) x′ at′) ∷ []) ∵
+      qed W (Tokens ∷ ‵ (owns (L.the-row ∷ ShrRef (named 0) κ₁ words-row ∷ ShrSlice (named 1) κ₂ u8 ∷ ShrSlice (named 2) κ₃ u8 ∷ []) x′ at′) ∷ []) ∵
       join ! $ frame ! $ done !
 
   -- the parameters beside the record give what `shifted_total` asks, and are kept
-  goes : Is L.the-row h (length-val h ∷ []) → Is S.the-row s (settings-val ∷ []) → ent 𝓤 (⋆ 𝓤 H A (Tokens ∷ ‵ Rest ∷ [])) (sep 𝓤 (Shifted 𝓤 H A at-mem run .pre to) (sem 𝓤 H A Rest))
-  goes is-h is-s =
-      qed W (Tokens ∷ ‵ Rest ∷ []) ∵ move ! (1 ∷ []) $ fsplit ! $ move ! (1 ∷ []) $ fsplit ! $
-      use1 W (‵ Table ⊛ ‵ Table) (shr-slice-copy 𝓤 H A W (named 1) κ₁ u8 .twice table (slice-val table ∷ [])) $ split ! $ move ! (2 ∷ []) $ fsplit ! $
-      use1 W (‵ Text ⊛ ‵ Text) (shr-slice-copy 𝓤 H A W (named 2) κ₂ u8 .twice text (slice-val text ∷ [])) $ split ! $
-      -- [text; text; true; table; table; the settings; the tokens]
-      move ! (0 ∷ 2 ∷ []) $ fjoin ! $ move ! (2 ∷ 0 ∷ []) $ fjoin ! $ owned ! S.the-row (Is S.the-row) (LL.makes S.the-type S′.the-plain 𝓤 H A) s _ is-s $ fjoin ! $
+  goes : Is L.the-row h (length-val h ∷ []) → ent 𝓤 (⋆ 𝓤 H A (Tokens ∷ ‵ Rest ∷ [])) (sep 𝓤 (Shifted 𝓤 H A at-mem run .pre to) (sem 𝓤 H A Rest))
+  goes is-h =
+      qed W (Tokens ∷ ‵ Rest ∷ []) ∵ move ! (1 ∷ []) $ fsplit ! $
+      use1 W (‵ Words ⊛ ‵ Words) (shr-copy 𝓤 H A W (named 1) κ₁ words-row .twice settings (settings-val ∷ [])) $ split ! $ move ! (2 ∷ []) $ fsplit ! $
+      use1 W (‵ Table ⊛ ‵ Table) (shr-slice-copy 𝓤 H A W (named 2) κ₂ u8 .twice table (slice-val table ∷ [])) $ split ! $ move ! (2 ∷ []) $ fsplit ! $
+      use1 W (‵ Text ⊛ ‵ Text) (shr-slice-copy 𝓤 H A W (named 3) κ₃ u8 .twice text (slice-val text ∷ [])) $ split ! $
+      -- [text; text; true; table; table; the settings; the settings; the tokens]
+      move ! (0 ∷ 2 ∷ []) $ fjoin ! $ move ! (2 ∷ 0 ∷ []) $ fjoin ! $ move ! (3 ∷ 0 ∷ []) $ fjoin ! $
       owned ! L.the-row (Is L.the-row) (LL.makes L.the-type L′.the-plain 𝓤 H A) h _ is-h $ fjoin ! $
       -- [what `shifted_total` is passed; text; table; the settings; the tokens]
       move ! (4 ∷ 0 ∷ []) $ use2 W (raw (Shifted 𝓤 H A at-mem run .pre to)) asked $ frame ! $
@@ -151,7 +164,7 @@ module _ {M : Type 1} (𝓤 : URA M) (H : Heap 𝓤) (A : Atoms 𝓤) (W : Given
 
   -- what `shifted_total` ensures, which is what the entry has to show
   abbrev Says : ShiftedTotal → Type 0
-  Says r = (r .answer ≡ shift-answer h s (now table) (now text)) × (r .total ≡ shifted-record h s (now table) (now text))
+  Says r = (r .answer ≡ shift-answer h (settings-of (now settings)) (now table) (now text)) × (r .total ≡ shifted-record h (settings-of (now settings)) (now table) (now text))
 
   said : (r : ShiftedTotal) → ent 𝓤 (ensured 𝓤 H A shifted.ended (shifted.clauses 𝓤 H A at-mem run) κs′ x′ tt r) (fact 𝓤 (Says r))
   said r = exE 𝓤 _ (λ ws. snd∗ 𝓤 (sem 𝓤 H A (lasts shifted.ended κs′ x′ ws)) (fact 𝓤 (Says r)))
@@ -176,14 +189,14 @@ module _ {M : Type 1} (𝓤 : URA M) (H : Heap 𝓤) (A : Atoms 𝓤) (W : Given
         owned ! N.the-row (Is N.the-row) (LL.makes N.the-type N′.the-plain 𝓤 H A) (r .answer) _ is-answer $ move ! (1 ∷ 0 ∷ []) $ done !
 
   module _ (C : Calls 𝓤 H) (Λ : Loops 𝓤 H) (fm : FmC 𝓤 H (W .laws) C) (known : Triple 𝓤 (C #entries·shifted-total) (Shifted 𝓤 H A at-mem run)) where
-    walk : Is S.the-row s (settings-val ∷ []) → Is (ShrSlice (named 1) κ₁ u8) table (slice-val table ∷ []) → Is (ShrSlice (named 2) κ₂ u8) text (slice-val text ∷ [])
+    walk : Is (ShrRef (named 1) κ₁ words-row) settings (settings-val ∷ []) → Is (ShrSlice (named 2) κ₂ u8) table (slice-val table ∷ []) → Is (ShrSlice (named 3) κ₃ u8) text (slice-val text ∷ [])
         → ent 𝓤 (onEntry 𝓤 H A add.signature κs qs x at) (WpFn 𝓤 H C Λ code.function (vptr b o ∷ settings-val ∷ slice-val table ∷ slice-val text ∷ []) Post)
-    walk is-s is-table is-text =
-        qed W ((‵ (flft κ q) ⊛ Tokens) ∷ ‵ (owns (MutRef (named 0) κ L.the-row ∷ S.the-row ∷ ShrSlice (named 1) κ₁ u8 ∷ ShrSlice (named 2) κ₂ u8 ∷ []) x at) ∷ []) ∵
+    walk is-settings is-table is-text =
+        qed W ((‵ (flft κ q) ⊛ Tokens) ∷ ‵ (owns (MutRef (named 0) κ L.the-row ∷ ShrRef (named 1) κ₁ words-row ∷ ShrSlice (named 2) κ₂ u8 ∷ ShrSlice (named 3) κ₃ u8 ∷ []) x at) ∷ []) ∵
         enter ! C Λ code.function (vptr b o ∷ settings-val ∷ slice-val table ∷ slice-val text ∷ []) _ $
         alloc1 ! (λ l₀. alloc1 ! (λ l₁. alloc1 ! (λ l₂. alloc1 ! (λ l₃. alloc1 ! (λ l₄. alloc1 ! (λ l₅. alloc1 ! (λ l₆. alloc0 ! $ params1 ! $ pass1 ! (init ! 10 refl (tt, tt)) $
-        pass1 ! (init ! 8 refl (LL.lawful S.the-type S′.the-laws 𝓤 H A W .typed s _ is-s .0)) $ pass1 ! (init ! 6 refl (shr-slice-lawful 𝓤 H A W (named 1) κ₁ u8 .typed table _ is-table .0)) $
-        pass1 ! (init ! 4 refl (shr-slice-lawful 𝓤 H A W (named 2) κ₂ u8 .typed text _ is-text .0)) $ pass0 ! $
+        pass1 ! (init ! 8 refl (shr-lawful 𝓤 H A W (named 1) κ₁ words-row .typed settings _ is-settings .0)) $ pass1 ! (init ! 6 refl (shr-slice-lawful 𝓤 H A W (named 2) κ₂ u8 .typed table _ is-table .0)) $
+        pass1 ! (init ! 4 refl (shr-slice-lawful 𝓤 H A W (named 3) κ₃ u8 .typed text _ is-text .0)) $ pass0 ! $
         -- the borrow is opened, and the record is copied out
         move ! (15 ∷ []) $ fsplit ! $ fsplit3 ! $ drop ! $ move ! (17 ∷ []) $ split ! $ move ! (2 ∷ 3 ∷ 0 ∷ []) $
         opens ! tt L.the-row {h = h} b o (λ vs. spelt ! L.the-row (Is L.the-row) (shows 𝓤 H A L.the-row) (LL.vals L.the-type L′.the-laws) (LL.tells L.the-type L′.the-laws) fullShare h vs b o $
@@ -192,7 +205,7 @@ module _ {M : Type 1} (𝓤 : URA M) (H : Heap 𝓤) (A : Atoms 𝓤) (W : Given
         -- [the record's cell; the open borrow; obs; auth; the other tokens; Rest; _6; …; _5; …; _4; …; _3; …; _2; …; _1; …; room for _0; …]
         assigns ! (of-opd ! (load ! (from ! (hop ! (look ! 16 refl) (stop !))) (look ! 0 refl))) (from ! (stop !)) (init ! 6 refl (LL.lawful L.the-type L′.the-laws 𝓤 H A W .typed h _ is-h .0)) $
         -- the call
-        move ! (4 ∷ 5 ∷ []) $ use2 W (raw (Shifted 𝓤 H A at-mem run .pre to) ⊛ ‵ Rest) (goes is-h is-s) $ split ! $
+        move ! (4 ∷ 5 ∷ []) $ use2 W (raw (Shifted 𝓤 H A at-mem run .pre to) ⊛ ‵ Rest) (goes is-h) $ split ! $
         calls-at ! fm (Shifted 𝓤 H A at-mem run) known to (and-then ! (load ! (from ! (stop !)) (look ! 6 refl)) (and-then ! (load ! (from ! (stop !)) (look ! 14 refl)) (and-then ! (load ! (from ! (stop !)) (look ! 12 refl)) (and-then ! (load ! (from ! (stop !)) (look ! 10 refl)) (no-more !))))) (λ w.
         use1 W (later (some (λ (r : ShiftedTotal). (Tokens ⊛ ‵ (R.the-row .own r (w ∷ []))) ⊛ raw (ensured 𝓤 H A shifted.ended (shifted.clauses 𝓤 H A at-mem run) κs′ x′ tt r)))) (id⊢ 𝓤 _) $ await ! tt $ pick ! (λ r.
         split ! $ move ! (1 ∷ []) $ use1 W (raw (fact 𝓤 (Says r))) (said r) $ heard ! (Says r) (λ e. split ! $ move ! (1 ∷ []) $
@@ -212,17 +225,17 @@ module _ {M : Type 1} (𝓤 : URA M) (H : Heap 𝓤) (A : Atoms 𝓤) (W : Given
 module _ {M : Type 1} (𝓤 : URA M) (H : Heap 𝓤) (A : Atoms 𝓤) (W : Given 𝓤 H A) (at-mem : Memory → SProp 𝓤) (run : Routine → Fun 𝓤) where
   add-walks : (C : Calls 𝓤 H) (Λ : Loops 𝓤 H) → FmC 𝓤 H (W .laws) C → Triple 𝓤 (C #entries·shifted-total) (Shifted 𝓤 H A at-mem run) → Walks 𝓤 H A add.ended stayed (WpFn 𝓤 H C Λ code.function) (add.clauses 𝓤 H A at-mem run)
   add-walks C Λ fm known =
-      walked 𝓤 H A add.ended stayed (add.clauses 𝓤 H A at-mem run) (WpFn 𝓤 H C Λ code.function) (λ κs. (ptr-vals, (LL.vals S.the-type S′.the-laws, (slice-vals, (slice-vals, tt)))))
-      (λ κs. (mut-tells (named 0) (κs .0) L.the-row, (LL.tells S.the-type S′.the-laws, (shr-slice-tells (named 1) (κs .1 .0) u8, (shr-slice-tells (named 2) (κs .1 .1 .0) u8, tt)))))
+      walked 𝓤 H A add.ended stayed (add.clauses 𝓤 H A at-mem run) (WpFn 𝓤 H C Λ code.function) (λ κs. (ptr-vals, (ptr-vals, (slice-vals, (slice-vals, tt)))))
+      (λ κs. (mut-tells (named 0) (κs .0) L.the-row, (shr-tells (named 1) (κs .1 .0) words-row, (shr-slice-tells (named 2) (κs .1 .1 .0) u8, (shr-slice-tells (named 3) (κs .1 .1 .1 .0) u8, tt)))))
       (λ κs qs bounds a g are. via 𝓤 _ (fst∗ 𝓤 _ (emp 𝓤))
-      (walk 𝓤 H A W at-mem run (κs .0) (κs .1 .0) (κs .1 .1 .0) (qs .0) (qs .1 .0) (qs .1 .1 .0) (a .0 .ptr .0) (a .0 .ptr .1) (a .0 .name) (a .0 .now) (a .1 .0) (a .1 .1 .0) (a .1 .1 .1 .0) C Λ fm known (are .1 .0) (are .1 .1 .0) (are .1 .1 .1 .0)))
+      (walk 𝓤 H A W at-mem run (κs .0) (κs .1 .0) (κs .1 .1 .0) (κs .1 .1 .1 .0) (qs .0) (qs .1 .0) (qs .1 .1 .0) (qs .1 .1 .1 .0) (a .0 .ptr .0) (a .0 .ptr .1) (a .0 .name) (a .0 .now) (a .1 .0) (a .1 .1 .0) (a .1 .1 .1 .0) C Λ fm known (are .1 .0) (are .1 .1 .0) (are .1 .1 .1 .0)))
 
-  all-go : AllGo 𝓤 H A W 3 (add.signature .params) (add.ended .kept) stayed
+  all-go : AllGo 𝓤 H A W 4 (add.signature .params) (add.ended .kept) stayed
   all-go = (
-    goes-ref 𝓤 H A W 3 0 tt (plain (λ _. L.the-row)),
+    goes-ref 𝓤 H A W 4 0 tt (plain (λ _. L.the-row)),
     (
-      goes-none 𝓤 H A W 3 (λ _. S.the-row) yes (λ κs x f. refl),
-      (goes-none-slice 𝓤 H A W 3 (1 ∷ []) tt (plain (λ _. u8)) yes, (goes-none-slice 𝓤 H A W 3 (2 ∷ []) tt (plain (λ _. u8)) yes, tt)),
+      goes-none-ref 𝓤 H A W 4 (1 ∷ []) tt words-slot yes,
+      (goes-none-slice 𝓤 H A W 4 (2 ∷ []) tt (plain (λ _. u8)) yes, (goes-none-slice 𝓤 H A W 4 (3 ∷ []) tt (plain (λ _. u8)) yes, tt)),
     ),
   )
 

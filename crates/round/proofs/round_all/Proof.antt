@@ -32,6 +32,9 @@ returns c = search needs
 one-more-requires : tie.Need-one-more-requires Inv-loop μ-loop
 one-more-requires c κs = search needs
 
+words-of-requires : tie.Need-words-of-requires Inv-loop μ-loop
+words-of-requires c κs = tt
+
 slice-aggregate-first-bytes : tie.Need-slice-aggregate-first-bytes Inv-loop μ-loop
 slice-aggregate-first-bytes c = search needs
 
@@ -66,6 +69,7 @@ round-all-spec =
     enum-told
     returns
     one-more-requires
+    words-of-requires
     slice-aggregate-first-bytes
     first-bytes-requires
     round-card-requires

@@ -1,6 +1,6 @@
 -- Laws of byte sets: bytes that may not delimit stand in runs, and a run of bytes is a run of bits of one word. Assumes nothing.
 use mathlib.Core.Path.{_≡_, refl, sym, ap, _∙_}
-use mathlib.Core.Bool.{Bool, true, false, not, _&&_, _||_, Bool·beq}
+use mathlib.Core.Bool.{Bool, true, false, not, _&&_, _||_, Bool·beq, false≢true}
 use Prim.Native.Nat.{ℕ, zero, suc, _+_, _*_, _-_, _/_, _%_, _^_, _≤_, _<_}
 use native.Mathlib.Nat.{mod-one, mod-lt, zero-div}
 use native.Mathlib.Numerals.{add-one}
@@ -8,15 +8,16 @@ use native.Mathlib.Omega.{arith}
 use lib.Dec.{eqb, lit<, lit≤}
 use lib.Bits.{bitOr, or-shr, or-mod}
 use lib.Pow.{shr-shr, mod-pow-add}
-use borrow.Author.Tests.{ne-eqb, not-true}
+use borrow.Author.Tests.{ne-eqb, not-true, eqb-true}
 use Rattle.rules.specs.declared.ByteSet.{ByteSet}
 use Rattle.rules.specs.Common.{if_then_else_, between}
 unfoldable pub use Rattle.rules.specs.Common.{runs}
 use Rattle.rules.specs.SettingsAndUnitTable.{LETTER, class, is, word, holds, may-delimit, delimits, empty}
 use Rattle.rules.specs.Laws.Choices.{and-left, and-right}
 use Rattle.rules.specs.Laws.Lists.{runs-add, runs-at}
-use Rattle.rules.specs.Laws.Tests.{or-true, or-false, eqb-iff}
-use Rattle.settings.specs.Sets.{either}
+use Rattle.rules.specs.Laws.Tests.{and-true, or-true, or-false, eqb-iff}
+use Rattle.settings.specs.declared.sets.AsciiSet.{AsciiSet}
+use Rattle.settings.specs.Sets.{bytes-of, either}
 
 -- one more bit is zero
 bit-more : (x n : ℕ) → eqb (x % 2 ^ suc n) 0 ≡ (not (eqb (x % 2) 1) && eqb (x / 2 % 2 ^ n) 0)
@@ -85,29 +86,6 @@ module _ (set : ByteSet) where
       rw (here, or-false)
       (ap (λ t. not (holds set b) && t) (delimits-none (suc b) n (and-right (not (may-delimit b)) (runs (λ k. not (may-delimit k)) (suc b) n) e)))
 
-  -- a set is empty exactly if its words are zero
-  pub empty-words :
-      set .word0 < 2 ^ 64
-      → set .word1 < 2 ^ 64
-      → set .word2 < 2 ^ 64
-      → set .word3 < 2 ^ 64
-      → empty set ≡ (eqb (set .word0) 0 && (eqb (set .word1) 0 && (eqb (set .word2) 0 && eqb (set .word3) 0)))
-  unfolding empty word
-  empty-words fits₀ fits₁ fits₂ fits₃ =
-      rw (
-        runs-add (λ k. not (holds set k)) 0 64 192,
-        runs-add (λ k. not (holds set k)) 64 64 128,
-        runs-add (λ k. not (holds set k)) 128 64 64,
-        none-bits 0 64 (lit≤ tt),
-        none-bits 64 64 (lit≤ tt),
-        none-bits 128 64 (lit≤ tt),
-        none-bits 192 64 (lit≤ tt),
-        whole-word (set .word0) fits₀,
-        whole-word (set .word1) fits₁,
-        whole-word (set .word2) fits₂,
-        whole-word (set .word3) fits₃,
-      )
-
   any-then : (b m n : ℕ) → runs may-delimit b m ≡ true → delimits set b (m + n) ≡ delimits set (b + m) n
   unfolding delimits
   any-then b m n e = rw (runs-add right b m n, delimits-any b m e)
@@ -137,6 +115,70 @@ module _ (set : ByteSet) where
         whole-word (set .word2) fits₂,
         whole-word (set .word3) fits₃,
       )
+
+-- ---- sets of two words
+
+last-two : (a b c d e f g : Bool) → (a && (b && (c && (d && (e && (f && g)))))) ≡ true → (f ≡ true) × (g ≡ true)
+last-two true true true true true true true h = (refl, refl)
+last-two true true true true true true false h = absurd (false≢true h)
+last-two true true true true true false g h = absurd (false≢true h)
+last-two true true true true false f g h = absurd (false≢true h)
+last-two true true true false e f g h = absurd (false≢true h)
+last-two true true false d e f g h = absurd (false≢true h)
+last-two true false c d e f g h = absurd (false≢true h)
+last-two false b c d e f g h = absurd (false≢true h)
+
+-- a set that may hold only delimiters has nothing in its upper words
+pub low-words : (set : ByteSet) → set .word2 < 2 ^ 64 → set .word3 < 2 ^ 64 → delimits set 0 256 ≡ true → (set .word2 ≡ 0) × (set .word3 ≡ 0)
+low-words set fits₂ fits₃ e =
+    let free = sym (delimits-runs set fits₂ fits₃) ∙ e in
+    let (second, third) =
+    last-two (eqb (set .word0 / 2 ^ 43 % 2) 0) (eqb (set .word0 / 2 ^ 45 % 2 ^ 2) 0) (eqb (set .word0 / 2 ^ 48 % 2 ^ 10) 0)
+    (eqb (set .word1 / 2 ^ 1 % 2 ^ 26) 0) (eqb (set .word1 / 2 ^ 33 % 2 ^ 26) 0) (eqb (set .word2) 0) (eqb (set .word3) 0) free in
+    (eqb-true (set .word2) 0 second, eqb-true (set .word3) 0 third)
+
+pub two-words : (set : ByteSet) → set .word2 < 2 ^ 64 → set .word3 < 2 ^ 64 → delimits set 0 256 ≡ true → bytes-of (record { low = set .word0; high = set .word1 }) ≡ set
+unfolding bytes-of
+two-words set fits₂ fits₃ e = let (second, third) = low-words set fits₂ fits₃ e in rw (second, third)
+
+none-set : (k : ℕ) → eqb (0 / 2 ^ k % 2) 1 ≡ false
+none-set k = rw (zero-div (2 ^ k))
+
+module _ (set : AsciiSet) (b : ℕ) where
+  pub holds-low : b < 64 → eqb (set .low / 2 ^ (b % 64) % 2) 1 ≡ holds (bytes-of set) b
+  unfolding holds bytes-of word
+  holds-low h = let here : b / 64 ≡ 0 = omega arith in rw here
+
+  pub holds-high : 64 ≤ b → b < 128 → eqb (set .high / 2 ^ (b % 64) % 2) 1 ≡ holds (bytes-of set) b
+  unfolding holds bytes-of word
+  holds-high from to = let here : b / 64 ≡ 1 = omega arith in rw here
+
+  pub holds-none : 128 ≤ b → b < 256 → false ≡ holds (bytes-of set) b
+  unfolding holds bytes-of word
+  holds-none from to = go (b / 64) (omega arith) (omega arith)
+    where
+      go : (i : ℕ) → 2 ≤ i → i < 4 → false ≡ eqb (word (bytes-of set) i / 2 ^ (b % 64) % 2) 1
+      go zero low high = absurd (omega arith)
+      go (suc zero) low high = absurd (omega arith)
+      go (suc (suc zero)) low high = sym (none-set (b % 64))
+      go (suc (suc (suc i))) low high = sym (none-set (b % 64))
+
+-- and is empty exactly if both words are zero
+pub empty-words : (set : AsciiSet) → set .low < 2 ^ 64 → set .high < 2 ^ 64 → empty (bytes-of set) ≡ (eqb (set .low) 0 && eqb (set .high) 0)
+unfolding empty word bytes-of
+empty-words set fits₀ fits₁ =
+    rw (
+      runs-add (λ k. not (holds (bytes-of set) k)) 0 64 192,
+      runs-add (λ k. not (holds (bytes-of set) k)) 64 64 128,
+      runs-add (λ k. not (holds (bytes-of set) k)) 128 64 64,
+      none-bits (bytes-of set) 0 64 (lit≤ tt),
+      none-bits (bytes-of set) 64 64 (lit≤ tt),
+      none-bits (bytes-of set) 128 64 (lit≤ tt),
+      none-bits (bytes-of set) 192 64 (lit≤ tt),
+      whole-word (set .low) fits₀,
+      whole-word (set .high) fits₁,
+      and-true,
+    )
 
 -- ---- two tests that agree at each byte of a run agree at a byte of it: one computation for the run
 
@@ -188,9 +230,6 @@ first-word w test low high b h = go (b / 64) refl
     set : ByteSet
     set = record { word0 = w; word1 = 0; word2 = 0; word3 = 0 }
 
-    none : (k : ℕ) → eqb (0 / 2 ^ k % 2) 1 ≡ false
-    none k = rw (zero-div (2 ^ k))
-
     above : 64 ≤ b → false ≡ test b
     above k = agree (λ b. false) test 64 192 high b k h
 
@@ -198,6 +237,6 @@ first-word w test low high b h = go (b / 64) refl
     go zero e =
         let same-bit : b % 64 ≡ b = omega arith in
         rw same-bit (agree (λ b. eqb (w / 2 ^ b % 2) 1) test 0 64 low b (omega arith) (omega arith))
-    go (suc zero) e = none (b % 64) ∙ above (omega arith)
-    go (suc (suc zero)) e = none (b % 64) ∙ above (omega arith)
-    go (suc (suc (suc i))) e = none (b % 64) ∙ above (omega arith)
+    go (suc zero) e = none-set (b % 64) ∙ above (omega arith)
+    go (suc (suc zero)) e = none-set (b % 64) ∙ above (omega arith)
+    go (suc (suc (suc i))) e = none-set (b % 64) ∙ above (omega arith)

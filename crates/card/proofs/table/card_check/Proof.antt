@@ -1,4 +1,5 @@
 -- `card::table::card_check` meets its contract: what the settings come to, and then what the table does. Assumes nothing.
+use mathlib.Core.Path.{sym, ap, _∙_}
 use borrow.Author.Needs.{needs}
 use Rattle.rules.specs.SettingsAndUnitTable.{card-check}
 use Rattle.rules.specs.NumbersHandedBack.{_>>_}
@@ -19,8 +20,10 @@ returns : tie.Need-returns
 unfolding card-check _>>_ outcome
 returns c = rw (← (c .before .before .settings-check .ensures), c .enum-told2 .given .1)
 
+-- the settings were accepted
 table-check-requires : tie.Need-table-check-requires
-table-check-requires c κs = search needs
+unfolding outcome
+table-check-requires c κs = sym (c .before .before .settings-check .ensures) ∙ ap outcome (c .enum-told .given .1)
 
 returns-2 : tie.Need-returns-2
 unfolding card-check _>>_ outcome

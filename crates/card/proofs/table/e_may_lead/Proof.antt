@@ -6,23 +6,34 @@ use Rattle.card.proofs.table.e_may_lead.Tie as tie
 
 returns : tie.Need-returns
 unfolding e-may-lead
-returns c = rw (c .if1 .taken)
+returns c = rw (← (c .before .exponents .ensures), c .if1 .taken)
 
 returns-2 : tie.Need-returns-2
 unfolding e-may-lead
-returns-2 c = rw (c .before .before .if1 .left, not-true (c .before .before .before .args .s .«before_unit») (c .if2 .taken))
-
-empty-requires : tie.Need-empty-requires
-empty-requires c κs = tt
+returns-2 c =
+    let exponents = c .before .before in
+    rw (
+      ← (exponents .before .exponents .ensures),
+      exponents .if1 .left,
+      ← (c .before .before-unit .ensures),
+      not-true (c .before .before-unit .result) (c .if2 .taken),
+    )
 
 returns-3 : tie.Need-returns-3
 unfolding e-may-lead
 returns-3 c =
+    let before-unit = c .before .before in
+    let exponents = before-unit .before .before in
     rw (
-      c .before .before .before .before .if1 .left,
-      not-false (c .before .before .before .before .before .args .s .«before_unit») (c .before .before .if2 .left),
+      ← (exponents .before .exponents .ensures),
+      exponents .if1 .left,
+      ← (before-unit .before .before-unit .ensures),
+      not-false (before-unit .before .before-unit .result) (before-unit .if2 .left),
       c .empty .ensures,
+      c .before .inner-delimiters .ensures,
     )
 
 pub e-may-lead-spec : {M : Type 1} → statement M
-e-may-lead-spec = tie.close (tie.spec returns returns-2 empty-requires returns-3)
+e-may-lead-spec =
+    tie.close
+    (tie.spec (λ c κs. tt) returns (λ c κs. tt) returns-2 (λ c κs. c .before .before .before .before .pre) (λ c κs. tt) returns-3)

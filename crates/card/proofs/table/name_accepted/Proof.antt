@@ -6,12 +6,13 @@ use native.Mathlib.Omega.{arith}
 use lib.ListN.{length, drop}
 use Rattle.rules.specs.Common.{all}
 use Rattle.rules.specs.Laws.Lists.{all-from, all-done}
+use Rattle.settings.specs.Sets.{bytes-of}
 use Rattle.card.specs.Fields.{outside}
 use Rattle.card.proofs.table.name_accepted.Statement.{statement}
 use Rattle.card.proofs.table.name_accepted.Tie as tie
 
 abbrev Inv-loop : tie.InvT-loop
-Inv-loop set name i₀ i = (i ≤ length name) × (all (outside set) (drop i name) ≡ all (outside set) name)
+Inv-loop set name i₀ i = (i ≤ length name) × (all (outside (bytes-of set)) (drop i name) ≡ all (outside (bytes-of set)) name)
 
 abbrev μ-loop : tie.MeasureT-loop
 μ-loop set name i₀ i = length name - i
@@ -30,7 +31,7 @@ unfolding outside
 returns c =
     let args = c .before .before .before .before .before .before .args in
     let loop = c .before .before .before .before .loop in
-    rw (← (loop .inv .1), all-from (outside (args .set)) (args .name .now) (loop .i) 0 (omega arith), ← (c .before .holds .ensures), c .if1 .taken)
+    rw (← (loop .inv .1), all-from (outside (bytes-of (args .set))) (args .name .now) (loop .i) 0 (omega arith), ← (c .before .holds .ensures), c .if1 .taken)
 
 add-i : tie.Need-add-i Inv-loop μ-loop
 add-i c = omega arith
@@ -43,14 +44,14 @@ unfolding outside
 loop-again c =
     let args = c .before .before .before .before .before .before .args in
     let loop = c .before .before .before .before .loop in
-    (omega arith, rw (← (loop .inv .1), all-from (outside (args .set)) (args .name .now) (loop .i) 0 (omega arith), ← (c .before .holds .ensures), c .if1 .left))
+    (omega arith, rw (← (loop .inv .1), all-from (outside (bytes-of (args .set))) (args .name .now) (loop .i) 0 (omega arith), ← (c .before .holds .ensures), c .if1 .left))
 
 returns-2 : tie.Need-returns-2 Inv-loop μ-loop
 returns-2 c =
     let start = c .before .before .before in
     rw (
       ← (c .before .loop .inv .1),
-      all-done (outside (start .args .set)) (start .args .name .now) (c .before .loop .i) (omega arith),
+      all-done (outside (bytes-of (start .args .set))) (start .args .name .now) (c .before .loop .i) (omega arith),
     )
 
 pub name-accepted-spec : {M : Type 1} → statement M

@@ -4,6 +4,7 @@ use mathlib.Core.Bool.{true}
 use lib.ListN.{length}
 use borrow.Author.Tests.{not-true, not-false}
 use borrow.Author.Needs.{needs}
+use Rattle.rules.specs.SettingsAsWords.{settings-of}
 use Rattle.rules.specs.SettingsAndUnitTable.{can-be-typed, row-right, row-accepted}
 use Rattle.rules.specs.Laws.Tests.{or-true, or-false}
 use Rattle.rows.specs.Laws.Rows.{length-row}
@@ -15,7 +16,7 @@ row-right-requires : tie.Need-row-right-requires
 row-right-requires c κs = (c .before .pre .0, (c .before .pre .1 .0, c .before .pre .1 .1 .0))
 
 -- the row passed document 01's tests
-right : (c : tie.Else1) → row-right (c .before .before .before .args .s) (c .before .before .before .args .table .now) (c .before .before .before .args .i) ≡ true
+right : (c : tie.Else1) → row-right (settings-of (c .before .before .before .args .settings .now)) (c .before .before .before .args .table .now) (c .before .before .before .args .i) ≡ true
 right c = sym (c .before .row-right .ensures) ∙ not-false (c .before .row-right .result) (c .if1 .left)
 
 returns : tie.Need-returns
@@ -35,7 +36,7 @@ led-by-e-requires : tie.Need-led-by-e-requires
 led-by-e-requires c κs =
     let start = c .before .before .before .before .before in (
       ap length (c .row-at .ensures) ∙ length-row (start .args .table .now) (start .args .i) (start .pre .0),
-      rw (c .row-at .ensures) (right-padded (start .args .s) (start .args .table .now) (start .args .i) (right (c .before .before))),
+      rw (c .row-at .ensures) (right-padded (settings-of (start .args .settings .now)) (start .args .table .now) (start .args .i) (right (c .before .before))),
     )
 
 returns-3 : tie.Need-returns-3

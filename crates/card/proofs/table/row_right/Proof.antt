@@ -7,6 +7,7 @@ use lib.ListN.{length, drop}
 use borrow.Author.Tests.{le-leb, lt-leb, not-true, not-false}
 use borrow.Author.Count.{below-more}
 use borrow.Author.Needs.{needs}
+use Rattle.rules.specs.SettingsAsWords.{settings-of}
 use Rattle.rules.specs.SettingsAndUnitTable.{row, row-size, kind, name, may-name}
 use Rattle.rules.specs.Common.{all}
 use Rattle.card.specs.Fields.{padded}
@@ -20,12 +21,12 @@ long : (c : tie.After-row-at) → length (c .row-at .result .now) ≡ row-size
 long c = ap length (c .row-at .ensures) ∙ length-row (c .before .before .args .table .now) (c .before .before .args .i) (c .before .before .pre .0)
 
 -- what was asked of the name's bytes
-asked : (c : tie.After-name-accepted) → c .name-accepted .result ≡ all (may-name (c .before .before .before .before .before .before .before .before .before .before .args .s)) (name (c .before .before .before .before .before .before .before .before .row-at .result .now))
+asked : (c : tie.After-name-accepted) → c .name-accepted .result ≡ all (may-name (settings-of (c .before .before .before .before .before .before .before .before .before .before .args .settings .now))) (name (c .before .before .before .before .before .before .before .before .row-at .result .now))
 asked c =
     let start = c .before .before .before .before .before .before .before .before .before .before in
     let own = c .before .before .before .before .before .before .before .before .row-at .result .now in
     c .name-accepted .ensures
-    ∙ rw (c .before .name-of .ensures, start .pre .1 .1) (names-outside (start .args .s) own (λ k. c .before .before .before .before .before .shared-slice-known2 .given k .fits))
+    ∙ rw (c .before .name-of .ensures, start .pre .1 .1) (names-outside (settings-of (start .args .settings .now)) own (λ k. c .before .before .before .before .before .shared-slice-known2 .given k .fits))
 
 -- ---- what each test that passed says of the row
 
@@ -39,7 +40,7 @@ good-kind c = rw (← (c .before .before .before .before .row-at .ensures)) (le-
 good-zeros : (c : tie.Else3) → all (eqb 0) (drop 28 (row (c .before .before .before .before .before .before .before .before .args .table .now) (c .before .before .before .before .before .before .before .before .args .i))) ≡ true
 good-zeros c = rw (← (c .before .before .before .before .before .before .row-at .ensures), ← (c .before .zeros .ensures)) (not-false (c .before .zeros .result) (c .if3 .left))
 
-good-name : (c : tie.Else4) → all (may-name (c .before .before .before .before .before .before .before .before .before .before .before .args .s)) (name (row (c .before .before .before .before .before .before .before .before .before .before .before .args .table .now) (c .before .before .before .before .before .before .before .before .before .before .before .args .i))) ≡ true
+good-name : (c : tie.Else4) → all (may-name (settings-of (c .before .before .before .before .before .before .before .before .before .before .before .args .settings .now))) (name (row (c .before .before .before .before .before .before .before .before .before .before .before .args .table .now) (c .before .before .before .before .before .before .before .before .before .before .before .args .i))) ≡ true
 good-name c = rw (← (c .before .before .before .before .before .before .before .before .before .row-at .ensures), ← (asked (c .before))) (not-false (c .before .name-accepted .result) (c .if4 .left))
 
 -- ---- the needs
@@ -54,7 +55,7 @@ returns : tie.Need-returns
 returns c =
     let start = c .before .before .before .before in
     rw (
-      row-right-parts (start .args .s) (start .args .table .now) (start .args .i),
+      row-right-parts (settings-of (start .args .settings .now)) (start .args .table .now) (start .args .i),
       ← (c .before .before .row-at .ensures),
       ← (c .before .padded .ensures),
       not-true (c .before .padded .result) (c .if1 .taken),
@@ -68,7 +69,7 @@ unfolding kind
 returns-2 c =
     let start = c .before .before .before .before .before .before in
     rw (
-      row-right-parts (start .args .s) (start .args .table .now) (start .args .i),
+      row-right-parts (settings-of (start .args .settings .now)) (start .args .table .now) (start .args .i),
       good-padded (c .before .before),
       ← (c .before .before .before .before .row-at .ensures),
       lt-leb _ _ (c .if2 .taken),
@@ -81,7 +82,7 @@ returns-3 : tie.Need-returns-3
 returns-3 c =
     let start = c .before .before .before .before .before .before .before .before in
     rw (
-      row-right-parts (start .args .s) (start .args .table .now) (start .args .i),
+      row-right-parts (settings-of (start .args .settings .now)) (start .args .table .now) (start .args .i),
       good-padded (c .before .before .before .before),
       good-kind (c .before .before),
       ← (c .before .before .before .before .before .before .row-at .ensures),
@@ -99,7 +100,7 @@ returns-4 : tie.Need-returns-4
 returns-4 c =
     let start = c .before .before .before .before .before .before .before .before .before .before .before in
     rw (
-      row-right-parts (start .args .s) (start .args .table .now) (start .args .i),
+      row-right-parts (settings-of (start .args .settings .now)) (start .args .table .now) (start .args .i),
       good-padded (c .before .before .before .before .before .before .before),
       good-kind (c .before .before .before .before .before),
       good-zeros (c .before .before .before),
@@ -117,7 +118,7 @@ returns-5 : tie.Need-returns-5
 returns-5 c =
     let start = c .before .before .before .before .before .before .before .before .before .before .before .before .before in
     rw (
-      row-right-parts (start .args .s) (start .args .table .now) (start .args .i),
+      row-right-parts (settings-of (start .args .settings .now)) (start .args .table .now) (start .args .i),
       good-padded (c .before .before .before .before .before .before .before .before .before),
       good-kind (c .before .before .before .before .before .before .before),
       good-zeros (c .before .before .before .before .before),
@@ -133,7 +134,7 @@ returns-6 : tie.Need-returns-6
 returns-6 c =
     let start = c .before .before .before .before .before .before .before .before .before .before .before .before .before .before in
     rw (
-      row-right-parts (start .args .s) (start .args .table .now) (start .args .i),
+      row-right-parts (settings-of (start .args .settings .now)) (start .args .table .now) (start .args .i),
       good-padded (c .before .before .before .before .before .before .before .before .before .before),
       good-kind (c .before .before .before .before .before .before .before .before),
       good-zeros (c .before .before .before .before .before .before),

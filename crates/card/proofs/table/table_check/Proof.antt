@@ -1,6 +1,5 @@
 -- `card::table::table_check` meets its contract: the size, then the rows. Assumes nothing.
 use borrow.Author.Tests.{eq-eqb, ne-eqb, le-leb, lt-leb}
-use borrow.Author.Needs.{needs}
 use Rattle.rules.specs.SettingsAndUnitTable.{rows, table-check}
 use Rattle.rules.specs.NumbersHandedBack.{_>>_, unless}
 use Rattle.rules.specs.Laws.Tests.{and-false}
@@ -17,7 +16,7 @@ unfolding outcome table-check unless _>>_ rows
 returns-2 c = rw (lt-leb _ _ (c .if2 .taken), and-false)
 
 rows-check-requires : tie.Need-rows-check-requires
-rows-check-requires c κs = search needs
+rows-check-requires c κs = c .before .before .before .pre
 
 returns-3 : tie.Need-returns-3
 unfolding outcome table-check unless _>>_ rows

@@ -1,7 +1,8 @@
 -- `reading::part::parse_part` meets its contract: the part, evaluated, and tested. Assumes nothing.
-use mathlib.Core.Path.{_≡_, refl, sym, ap, _∙_}
+use mathlib.Core.Path.{_≡_, sym, ap, _∙_}
 use borrow.Author.Needs.{needs}
 use Rattle.rules.specs.NumbersHandedBack.{got}
+use Rattle.rules.specs.SettingsAsWords.{settings-of}
 use Rattle.rules.specs.ReadingOnePart.{part}
 use Rattle.rules.specs.Evaluation.{part-reading, allowed}
 use Rattle.rules.specs.Laws.Outcomes.{all-of, bind-got, bind-refused}
@@ -14,23 +15,11 @@ use Rattle.reading.proofs.part.parse_part.Tie as tie
 got-part :
     (c : tie.After-part)
     → let args = c .before .before .before .before .before .args in
-    part (args .s) (args .table .now) (args .text .now) (args .place) ≡ got (c .part .given .0 .0)
+    part (settings-of (args .settings .now)) (args .table .now) (args .text .now) (args .place) ≡ got (c .part .given .0 .0)
 got-part c = sym (c .before .before .connected-part .ensures) ∙ ap outcomes.part (c .part .given .1)
 
-connected-part-requires : tie.Need-connected-part-requires
-connected-part-requires c κs = search needs
-
-enum-known-cause : tie.Need-enum-known-cause
-enum-known-cause c = search needs
-
-enum-known-part : tie.Need-enum-known-part
-enum-known-part c = search needs
-
 evaluate-requires : tie.Need-evaluate-requires
-evaluate-requires c κs = all-of (part-spans _ _ _ _) (got-part (c .before))
-
-allowed-requires : tie.Need-allowed-requires
-allowed-requires c κs = search needs
+evaluate-requires c κs = all-of (part-spans (settings-of (c .before .before .before .before .before .before .args .settings .now)) _ _ _) (got-part (c .before))
 
 returns : tie.Need-returns
 unfolding part-reading
@@ -41,18 +30,18 @@ returns-2 : tie.Need-returns-2
 unfolding part-reading
 returns-2 c =
     let args = c .before .before .before .before .before .before .before .before .args in
-    c .allowed .ensures (args .s) refl
-    ∙ ap (allowed (args .s) (args .place) (c .before .before .before .part .given .0 .0 .next)) (c .before .evaluate .ensures)
+    c .allowed .ensures
+    ∙ ap (allowed (settings-of (args .settings .now)) (args .place) (c .before .before .before .part .given .0 .0 .next)) (c .before .evaluate .ensures)
     ∙ sym (bind-got _ (got-part (c .before .before .before)))
 
 pub parse-part-spec : {M : Type 1} → statement M
 parse-part-spec =
     tie.close
     (tie.spec
-    connected-part-requires
-    enum-known-cause
-    enum-known-part
+    (λ c κs. c .before .before .pre)
+    (λ c. search needs)
+    (λ c. search needs)
     evaluate-requires
-    allowed-requires
+    (λ c κs. tt)
     returns
     returns-2)

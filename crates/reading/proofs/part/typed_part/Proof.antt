@@ -1,7 +1,8 @@
 -- `reading::part::typed_part` meets its contract: the start, and then the number or the word after the sign. Assumes nothing.
-use mathlib.Core.Path.{_≡_, refl, sym, ap, _∙_}
+use mathlib.Core.Path.{_≡_, sym, ap, _∙_}
 use borrow.Author.Needs.{needs}
 use Rattle.rules.specs.NumbersHandedBack.{got}
+use Rattle.rules.specs.SettingsAsWords.{settings-of}
 use Rattle.rules.specs.Laws.Outcomes.{bind-got, bind-refused}
 use Rattle.reading.specs.Outcomes.{started}
 use Rattle.reading.specs.Typed.{typed-part, start-class, part-start}
@@ -12,27 +13,19 @@ use Rattle.reading.proofs.part.typed_part.Tie as tie
 got-start :
     (c : tie.After-start)
     → let args = c .before .before .before .before .before .args in
-    part-start (args .s) (args .text .now) (args .place) ≡ got (c .start .given .0 .0)
-got-start c = sym (c .before .before .part-start .ensures _ refl refl) ∙ ap started (c .start .given .1)
-
-part-start-requires : tie.Need-part-start-requires
-part-start-requires c κs = search needs
-
-enum-known-cause : tie.Need-enum-known-cause
-enum-known-cause c = search needs
-
-enum-known-start : tie.Need-enum-known-start
-enum-known-start c = search needs
+    part-start (settings-of (args .settings .now)) (args .text .now) (args .place) ≡ got (c .start .given .0 .0)
+got-start c = sym (c .before .before .part-start .ensures) ∙ ap started (c .start .given .1)
 
 unsigned-part-requires : tie.Need-unsigned-part-requires
 unsigned-part-requires c κs =
     let entry = c .before .before .before .before .before .before in
-    (entry .pre, start-class (entry .args .s) _ _ (got-start (c .before)))
+    let pre = entry .pre in
+    (pre .0, (pre .1 .0, (pre .1 .1, start-class (settings-of (entry .args .settings .now)) _ _ (got-start (c .before)))))
 
 returns : tie.Need-returns
 unfolding typed-part
 returns c =
-    sym (bind-refused _ (sym (c .before .before .before .part-start .ensures _ refl refl) ∙ ap started (c .before .cause .given .1)))
+    sym (bind-refused _ (sym (c .before .before .before .part-start .ensures) ∙ ap started (c .before .cause .given .1)))
 
 returns-2 : tie.Need-returns-2
 unfolding typed-part
@@ -42,9 +35,9 @@ pub typed-part-spec : {M : Type 1} → statement M
 typed-part-spec =
     tie.close
     (tie.spec
-    part-start-requires
-    enum-known-cause
-    enum-known-start
+    (λ c κs. c .before .before .pre .0)
+    (λ c. search needs)
+    (λ c. search needs)
     unsigned-part-requires
     returns
     returns-2)

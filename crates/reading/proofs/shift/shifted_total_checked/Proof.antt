@@ -7,6 +7,8 @@ use Rattle.rules.specs.ThePartOfTheCrateWeTake.{well-formed}
 use Rattle.rules.specs.NumbersHandedBack.{done}
 use Rattle.rules.specs.Laws.Outcomes.{all-of}
 use Rattle.rules.specs.Laws.Totals.{total-well-formed}
+use Rattle.rules.specs.SettingsAsWords.{settings-of}
+use Rattle.card.specs.Laws.Accepted.{card-settings}
 use Rattle.answers.specs.Outcomes.{total}
 use Rattle.reading.specs.Entries.{card-readable}
 use Rattle.reading.specs.Shifts.{malformed-refused, long-refused, total-refused, total-added, kept, added}
@@ -37,7 +39,10 @@ returns-2 c =
     (c .kept2 .ensures .0 ∙ laws .0, c .kept2 .ensures .1 ∙ laws .1)
 
 parse-multiple-requires : tie.Need-parse-multiple-requires
-parse-multiple-requires c κs = card-readable _ _ (c .before .before .before .before .before .pre)
+parse-multiple-requires c κs =
+    let start = c .before .before .before .before .before in
+    let s = settings-of (start .args .settings .now) in
+    (card-settings s _ (start .pre), card-readable s _ (start .pre))
 
 enum-known-cause : tie.Need-enum-known-cause
 enum-known-cause c = search needs

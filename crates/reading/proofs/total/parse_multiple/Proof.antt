@@ -8,6 +8,7 @@ use borrow.Author.Needs.{needs}
 use lib.ListN.{length}
 use Rattle.rules.specs.ThePartOfTheCrateWeTake.{well-formed}
 use Rattle.rules.specs.NumbersHandedBack.{got}
+use Rattle.rules.specs.SettingsAsWords.{settings-of}
 use Rattle.rules.specs.Evaluation.{total, part-reading}
 use Rattle.rules.specs.Laws.Totals.{total-from, total-is, reading-beyond, reading-well-formed}
 use Rattle.rules.specs.Laws.Lengths.{zero-well-formed, sum-well-formed}
@@ -18,55 +19,48 @@ use Rattle.reading.proofs.total.parse_multiple.Statement.{statement}
 use Rattle.reading.proofs.total.parse_multiple.Tie as tie
 
 abbrev Inv-loop : tie.InvT-loop
-Inv-loop s table text sum₀ place₀ sum place =
-    (total-from s table text sum place ≡ total s table text) × (well-formed sum ≡ true)
+Inv-loop settings table text stops sum₀ place₀ sum place =
+    (total-from (settings-of settings) table text sum place ≡ total (settings-of settings) table text) × (well-formed sum ≡ true)
 
 abbrev μ-loop : tie.MeasureT-loop
-μ-loop s table text sum₀ place₀ sum place = length text - place
+μ-loop settings table text stops sum₀ place₀ sum place = length text - place
 
 -- the part that was read, as its definition has it
 got-reading :
     (c : tie.After-reading Inv-loop μ-loop)
-    → let args = c .before .before .before .before .before .before .before .args in
-    part-reading (args .s) (args .table .now) (args .text .now) (c .before .before .before .loop .place) ≡ got (c .reading .given .0 .0)
+    → let args = c .before .before .before .before .before .before .before .before .args in
+    part-reading (settings-of (args .settings .now)) (args .table .now) (args .text .now) (c .before .before .before .loop .place) ≡ got (c .reading .given .0 .0)
 got-reading c = sym (c .before .before .parse-part .ensures) ∙ ap reading (c .reading .given .1)
 
-zero-requires : tie.Need-zero-requires Inv-loop μ-loop
-zero-requires c κs = search needs
-
 loop-holds : tie.Need-loop-holds Inv-loop μ-loop
-loop-holds c = (rw (c .zero .ensures) (sym (total-is _ _ _)), rw (c .zero .ensures) zero-well-formed)
+loop-holds c = (rw (c .zero .ensures) (sym (total-is (settings-of (c .before .before .before .before .args .settings .now)) _ _)), rw (c .zero .ensures) zero-well-formed)
 
 parse-part-requires : tie.Need-parse-part-requires Inv-loop μ-loop
-parse-part-requires c κs = search needs
-
-enum-known-cause : tie.Need-enum-known-cause Inv-loop μ-loop
-enum-known-cause c = search needs
+parse-part-requires c κs =
+    let start = c .before .before .before .before .before in
+    (start .pre .0, (c .before .before .stops .ensures, start .pre .1))
 
 returns : tie.Need-returns Inv-loop μ-loop
 returns c =
-    total-refuses _ _ _ _ _ (sym (c .before .before .before .parse-part .ensures) ∙ ap reading (c .before .cause .given .1))
+    total-refuses (settings-of (c .before .before .before .before .before .before .before .before .before .args .settings .now)) _ _ _ _ (sym (c .before .before .before .parse-part .ensures) ∙ ap reading (c .before .cause .given .1))
     ∙ c .before .before .before .before .loop .inv .0
-
-enum-known-reading : tie.Need-enum-known-reading Inv-loop μ-loop
-enum-known-reading c = search needs
 
 saturating-add-requires : tie.Need-saturating-add-requires Inv-loop μ-loop
 saturating-add-requires c κs =
-    (c .before .before .before .before .loop .inv .1, all-of (reading-well-formed _ _ _ _) (got-reading (c .before)))
+    (c .before .before .before .before .loop .inv .1, all-of (reading-well-formed (settings-of (c .before .before .before .before .before .before .before .before .before .args .settings .now)) _ _ _) (got-reading (c .before)))
 
 returns-2 : tie.Need-returns-2 Inv-loop μ-loop
 returns-2 c =
-    total-ends _ _ _ _ _ (got-reading (c .before .before .before .before)) (c .before .before .saturating-add .ensures) (c .if1 .taken)
+    total-ends (settings-of (c .before .before .before .before .before .before .before .before .before .before .before .before .args .settings .now)) _ _ _ _ (got-reading (c .before .before .before .before)) (c .before .before .saturating-add .ensures) (c .if1 .taken)
     ∙ c .before .before .before .before .before .before .before .loop .inv .0
 
 loop-less : tie.Need-loop-less Inv-loop μ-loop
 loop-less c =
-    omega (arith, c .if1 .left, all-of (reading-beyond _ _ _ _) (got-reading (c .before .before .before .before)) .past)
+    omega (arith, c .if1 .left, all-of (reading-beyond (settings-of (c .before .before .before .before .before .before .before .before .before .before .before .before .args .settings .now)) _ _ _) (got-reading (c .before .before .before .before)) .past)
 
 loop-again : tie.Need-loop-again Inv-loop μ-loop
 loop-again c = (
-  total-goes-on _ _ _ _ _ (got-reading (c .before .before .before .before)) (c .before .before .saturating-add .ensures) (c .if1 .left)
+  total-goes-on (settings-of (c .before .before .before .before .before .before .before .before .before .before .before .before .args .settings .now)) _ _ _ _ (got-reading (c .before .before .before .before)) (c .before .before .saturating-add .ensures) (c .if1 .left)
       ∙ c .before .before .before .before .before .before .before .loop .inv .0,
   rw (c .before .before .saturating-add .ensures) (sum-well-formed _ _),
 )
@@ -77,12 +71,13 @@ parse-multiple-spec =
     (tie.spec
     Inv-loop
     μ-loop
-    zero-requires
+    (λ c κs. c .before .before .pre .0)
+    (λ c κs. tt)
     loop-holds
     parse-part-requires
-    enum-known-cause
+    (λ c. search needs)
     returns
-    enum-known-reading
+    (λ c. search needs)
     saturating-add-requires
     returns-2
     loop-less

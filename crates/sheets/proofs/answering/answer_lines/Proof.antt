@@ -4,6 +4,7 @@ use Prim.Native.Nat.{_-_, _≤_}
 use native.Mathlib.Omega.{arith}
 use borrow.Author.Needs.{needs}
 use lib.ListN.{length, take, drop}
+use Rattle.rules.specs.SettingsAsWords.{settings-of}
 use Rattle.rules.specs.WhatEveryEntryOwes.{total-answer}
 use Rattle.printing.specs.Lines.{line-end, line-at, end-from}
 use Rattle.sheets.specs.Answering.{answered-to, on-end, Answered, none-answered, answered-length, full, more}
@@ -11,7 +12,7 @@ use Rattle.sheets.proofs.answering.answer_lines.Statement.{statement}
 use Rattle.sheets.proofs.answering.answer_lines.Tie as tie
 
 abbrev Inv-loop : tie.InvT-loop
-Inv-loop settings table sheet out₀ read₀ printed₀ out read printed = Answered settings table sheet out₀ out read printed
+Inv-loop settings table sheet out₀ read₀ printed₀ out read printed = Answered (settings-of settings) table sheet out₀ out read printed
 
 abbrev μ-loop : tie.MeasureT-loop
 μ-loop settings table sheet out₀ read₀ printed₀ out read printed = length sheet - read
@@ -26,20 +27,20 @@ line-answer :
     (c : tie.After-read-total-checked Inv-loop μ-loop)
     → let turn = c .before .before .before .before in
     let args = turn .before .before .before .before .args in
-    c .read-total-checked .result ≡ total-answer (args .settings) (args .table .now) (line-at (args .sheet .now) (turn .loop .read))
+    c .read-total-checked .result ≡ total-answer (settings-of (args .settings .now)) (args .table .now) (line-at (args .sheet .now) (turn .loop .read))
 line-answer c =
     let ended = c .before .before .before in
     let turn = ended .before in
     let args = turn .before .before .before .before .args in
     c .read-total-checked .ensures
-    ∙ ap (λ e. total-answer (args .settings) (args .table .now) (take (e - turn .loop .read) (drop (turn .loop .read) (args .sheet .now)))) (ended .line-end .ensures)
+    ∙ ap (λ e. total-answer (settings-of (args .settings .now)) (args .table .now) (take (e - turn .loop .read) (drop (turn .loop .read) (args .sheet .now)))) (ended .line-end .ensures)
 
 -- a line that has no room is the last, and leaves the buffer as it was
 no-more :
     (c : tie.Then2 Inv-loop μ-loop)
     → let turn = c .before .before .before .before .before .before .before .before .before in
     let args = turn .before .before .before .before .args in
-    (record { read = turn .loop .read; printed = turn .loop .printed } ≡ answered-to (args .settings) (args .table .now) (args .sheet .now) (length (args .out .now)))
+    (record { read = turn .loop .read; printed = turn .loop .printed } ≡ answered-to (settings-of (args .settings .now)) (args .table .now) (args .sheet .now) (length (args .out .now)))
     × (turn .loop .out ≡ c .before .before .before .put-answer .last .1 .0)
 no-more c =
     let put = c .before .before .before in

@@ -1,10 +1,11 @@
 -- `steps::connection::try_consume_connection` meets its contract: no delimiter, a run that ends the text, a run alone, and a run with a conjunction. Assumes nothing.
-use mathlib.Core.Path.{_≡_, refl, sym, ap, _∙_}
+use mathlib.Core.Path.{_≡_, sym, ap, _∙_}
 use mathlib.Core.Bool.{true}
 use native.Mathlib.Omega.{arith}
 use borrow.Author.Needs.{needs}
 use borrow.Author.Tests.{not-true, not-false}
 use Rattle.rules.specs.Common.{sees}
+use Rattle.rules.specs.SettingsAsWords.{settings-of}
 use Rattle.rules.specs.NumbersHandedBack.{got}
 use Rattle.rules.specs.SettingsAndUnitTable.{holds}
 use Rattle.rules.specs.ReadingOnePart.{delimiters}
@@ -15,74 +16,65 @@ use Rattle.steps.proofs.connection.try_consume_connection.Statement.{st
 use Rattle.steps.proofs.connection.try_consume_connection.Tie as tie
 
 -- past the first test a delimiter stands at the place, and the run that it begins was got
-there : (c : tie.Else1) → let args = c .before .before .before .before .args in sees (holds (args .s .outer)) (args .text .now) (args .place) ≡ true
-there c = sym (c .before .is-delimiter .ensures) ∙ not-false _ (c .if1 .left)
+there : (c : tie.Else1) → let args = c .before .before .before .before .args in sees (holds (settings-of (args .settings .now) .outer)) (args .text .now) (args .place) ≡ true
+there c = rw (← (c .before .before .outer-delimiters .ensures)) (sym (c .before .is-delimiter .ensures) ∙ not-false _ (c .if1 .left))
 
 got-word :
     (c : tie.After-run)
     → let args = c .before .before .before .before .before .before .before .args in
-    delimiters (args .s .outer) (args .text .now) (args .place) ≡ got (c .run .given .0 .0)
-got-word c = sym (c .before .before .try-consume-delimiter .ensures) ∙ ap next (c .run .given .1)
-
-is-delimiter-requires : tie.Need-is-delimiter-requires
-is-delimiter-requires c κs = search needs
+    delimiters (settings-of (args .settings .now) .outer) (args .text .now) (args .place) ≡ got (c .run .given .0 .0)
+got-word c =
+    rw (← (c .before .before .before .before .before .outer-delimiters .ensures))
+    (sym (c .before .before .try-consume-delimiter .ensures) ∙ ap next (c .run .given .1))
 
 returns : tie.Need-returns
-returns c = connection-none _ _ _ (sym (c .before .is-delimiter .ensures) ∙ not-true _ (c .if1 .taken))
+returns c =
+    connection-none (settings-of (c .before .before .before .before .args .settings .now)) _ _
+    (rw (← (c .before .before .outer-delimiters .ensures)) (sym (c .before .is-delimiter .ensures) ∙ not-true _ (c .if1 .taken)))
 
 try-consume-delimiter-requires : tie.Need-try-consume-delimiter-requires
-try-consume-delimiter-requires c κs = search needs
-
-enum-told : tie.Need-enum-told
-enum-told c = search needs
-
-enum-known-run : tie.Need-enum-known-run
-enum-known-run c = search needs
-
-conjunction-size-requires : tie.Need-conjunction-size-requires
-conjunction-size-requires c κs = search needs
-
-cast-size : tie.Need-cast-size
-cast-size c = search needs
+try-consume-delimiter-requires c κs = sym (c .before .is-delimiter .ensures) ∙ not-false _ (c .if1 .left)
 
 returns-2 : tie.Need-returns-2
 returns-2 c =
     let found = c .before .before .before in
-    connection-plain _ _ _ (there (found .before .before .before)) (got-word found) (c .before .conjunction-size .ensures) (c .if2 .taken)
+    connection-plain (settings-of (found .before .before .before .before .before .before .before .args .settings .now)) _ _
+    (there (found .before .before .before)) (got-word found) (c .before .conjunction-size .ensures) (c .if2 .taken)
 
 add-after-conjunction : tie.Need-add-after-conjunction
 add-after-conjunction c =
     let found = c .before .before .before in
     omega (arith, delimiters-within _ _ _ (there (found .before .before .before)) (got-word found))
 
-after-conjunction-requires : tie.Need-after-conjunction-requires
-after-conjunction-requires c κs = search needs
-
 returns-3 : tie.Need-returns-3
 returns-3 c =
     let refusal = ap next (c .enum-told .given .1) in
+    let run = c .before .before in
     refusal
-    ∙ connection-refused _ _ _ (there (c .before .before .before)) (sym (c .before .before .try-consume-delimiter .ensures) ∙ refusal)
+    ∙ connection-refused (settings-of (run .before .before .before .before .before .args .settings .now)) _ _ (there (run .before))
+    (rw (← (run .before .before .before .outer-delimiters .ensures)) (sym (run .try-consume-delimiter .ensures) ∙ refusal))
 
 returns-4 : tie.Need-returns-4
 returns-4 c =
     let found = c .before .before .before .before in
-    c .after-conjunction .ensures _ refl
-    ∙ connection-joined _ _ _ (there (found .before .before .before)) (got-word found) (c .before .before .conjunction-size .ensures) (c .before .if2 .left)
+    c .after-conjunction .ensures
+    ∙ connection-joined (settings-of (found .before .before .before .before .before .before .before .args .settings .now)) _ _
+    (there (found .before .before .before)) (got-word found) (c .before .before .conjunction-size .ensures) (c .before .if2 .left)
 
 pub try-consume-connection-spec : {M : Type 1} → statement M
 try-consume-connection-spec =
     tie.close
     (tie.spec
-    is-delimiter-requires
+    (λ c κs. c .before .pre)
+    (λ c κs. tt)
     returns
     try-consume-delimiter-requires
-    enum-told
-    enum-known-run
-    conjunction-size-requires
-    cast-size
+    (λ c. search needs)
+    (λ c. search needs)
+    (λ c κs. c .before .before .before .before .before .before .before .before .pre)
+    (λ c. search needs)
     returns-2
     add-after-conjunction
-    after-conjunction-requires
+    (λ c κs. c .before .before .before .before .before .before .before .before .before .before .pre)
     returns-3
     returns-4)

@@ -6,12 +6,13 @@ use borrow.Author.Needs.{needs}
 use lib.ListN.{length}
 use Rattle.rules.specs.Common.{run}
 use Rattle.value.specs.Digits.{run-end}
+use Rattle.settings.specs.Sets.{bytes-of}
 use Rattle.steps.specs.Sets.{passes, passes-on, passes-off}
 use Rattle.steps.proofs.delimiters.past.Statement.{statement}
 use Rattle.steps.proofs.delimiters.past.Tie as tie
 
 abbrev Inv-loop : tie.InvT-loop
-Inv-loop set held text place next₀ next = run (passes set held) text next ≡ run (passes set held) text place
+Inv-loop set held text place next₀ next = run (passes (bytes-of set) held) text next ≡ run (passes (bytes-of set) held) text place
 
 abbrev μ-loop : tie.MeasureT-loop
 μ-loop set held text place next₀ next = length text - next

@@ -1,6 +1,7 @@
 -- `steps::number::parse_number` meets its contract: there are whole digits exactly if their run goes on from the place. Assumes nothing.
 use mathlib.Core.Path.{_∙_}
 use borrow.Author.Needs.{needs}
+use Rattle.rules.specs.SettingsAsWords.{settings-of}
 use Rattle.steps.specs.Numbers.{number-whole}
 use Rattle.steps.proofs.number.parse_number.Statement.{statement}
 use Rattle.steps.proofs.number.parse_number.Tie as tie
@@ -12,7 +13,9 @@ parse-number-fraction-requires : tie.Need-parse-number-fraction-requires
 parse-number-fraction-requires c κs = search needs
 
 returns : tie.Need-returns
-returns c s f = c .parse-number-fraction .ensures s f ∙ number-whole s _ _ (c .before .parse-digits-strip-zeros .ensures)
+returns c =
+    c .parse-number-fraction .ensures
+    ∙ number-whole (settings-of (c .before .before .before .args .settings .now)) _ _ (c .before .parse-digits-strip-zeros .ensures)
 
 pub parse-number-spec : {M : Type 1} → statement M
 parse-number-spec =

@@ -1,28 +1,34 @@
 -- `steps::unit::stops` meets its contract: outer delimiters, the bytes that begin a part, and with ago on inner delimiters. Assumes nothing.
-use mathlib.Core.Path.{ap, _∙_}
-use borrow.Author.Needs.{needs}
-use Rattle.rules.specs.SettingsAndUnitTable.{holds}
-use Rattle.steps.specs.Units.{stops-with, stops-without}
+use mathlib.Core.Path.{refl, _∙_}
+use Rattle.rules.specs.Common.{if_then_else_}
+use Rattle.rules.specs.SettingsAsWords.{settings-of}
+use Rattle.settings.specs.Sets.{bytes-of, either}
+use Rattle.steps.specs.Units.{stops-of}
 use Rattle.steps.proofs.unit.stops.Statement.{statement}
 use Rattle.steps.proofs.unit.stops.Tie as tie
 
-either-requires : tie.Need-either-requires
-either-requires c κs = search needs
-
-either-requires-2 : tie.Need-either-requires-2
-either-requires-2 c κs = search needs
-
-either-requires-3 : tie.Need-either-requires-3
-either-requires-3 c κs = search needs
-
 returns : tie.Need-returns
-returns c s a i o b h =
-    ap (λ set. holds set b) (c .either2 .ensures ∙ rw (c .before .either .ensures))
-    ∙ stops-with s i o b h (a ∙ c .before .before .if1 .taken)
+unfolding stops-of if_then_else_ bytes-of
+returns c =
+    let asked = c .before .before .before in
+    let outer = asked .before in
+    rw (← (asked .ago .ensures), c .before .before .if1 .taken, ← (outer .before .outer-delimiters .ensures), ← (c .before .inner-delimiters .ensures))
+    (c .either2 .ensures ∙ rw (outer .either .ensures))
 
 returns-2 : tie.Need-returns-2
-returns-2 c s a i o b h = ap (λ set. holds set b) (c .either3 .ensures) ∙ stops-without s i o b h (a ∙ c .before .if1 .left)
+unfolding stops-of if_then_else_ bytes-of
+returns-2 c =
+    let asked = c .before in
+    rw (← (asked .ago .ensures), c .if1 .left, ← (asked .before .before .outer-delimiters .ensures)) (asked .before .either .ensures)
 
 pub stops-spec : {M : Type 1} → statement M
 stops-spec =
-    tie.close (tie.spec either-requires either-requires-2 either-requires-3 returns returns-2)
+    tie.close
+    (tie.spec
+    (λ c κs. c .pre)
+    (λ c κs. tt)
+    (λ c κs. tt)
+    (λ c κs. c .before .before .before .before .pre)
+    (λ c κs. tt)
+    returns
+    returns-2)

@@ -2,32 +2,21 @@
 use mathlib.Core.Path.{_≡_, sym, ap, _∙_}
 use mathlib.Core.Logic.{⊎-elim}
 use borrow.Author.Needs.{needs}
-use Rattle.rules.specs.declared.Length.{Length}
 use Rattle.rules.specs.declared.Answer.{Answer}
-use Rattle.rules.specs.declared.Settings.{Settings}
+use Rattle.rules.specs.SettingsAsWords.{settings-of}
 use Rattle.rules.specs.WhatEveryEntryOwes.{shift-answer, shifted-record}
-use Rattle.c_words.specs.Words.{settings-of, length-of, length-words}
+use Rattle.c_words.specs.Words.{length-of, length-words}
 use Rattle.c_words.specs.Laws.{handed, shifted-done, shifted-kept}
 use Rattle.terminal.proofs.timings.herovinga_add_total.Statement.{statement}
 use Rattle.terminal.proofs.timings.herovinga_add_total.Tie as tie
 
--- what is made of two values is made of their equals
-of-equals : {A : Type 0} (f : Length → Settings → A) {l m : Length} {s t : Settings} → l ≡ m → s ≡ t → f l s ≡ f m t
-of-equals f p q = rw (p, q)
-
 -- what the total by value gives, said of the words
 shifted :
     (c : tie.After-shifted-total)
-    → let args = c .before .before .before .before .before .before .args in
+    → let args = c .before .before .before .before .before .args in
     (c .shifted-total .result .answer ≡ shift-answer (length-of (args .total .now)) (settings-of (args .settings .now)) (args .table .now) (args .text .now))
     × (c .shifted-total .result .total ≡ shifted-record (length-of (args .total .now)) (settings-of (args .settings .now)) (args .table .now) (args .text .now))
-shifted c =
-    let args = c .before .before .before .before .before .before .args in
-    let total = c .before .before .length-of .ensures in
-    let settings = c .before .settings-of .ensures in (
-      c .shifted-total .ensures .0 ∙ of-equals (λ l s. shift-answer l s (args .table .now) (args .text .now)) total settings,
-      c .shifted-total .ensures .1 ∙ of-equals (λ l s. shifted-record l s (args .table .now) (args .text .now)) total settings,
-    )
+shifted c = rw (c .before .length-of .ensures) at (c .shifted-total .ensures)
 
 returns : tie.Need-returns
 returns c =
@@ -44,4 +33,4 @@ returns c =
     )
 
 pub herovinga-add-total-spec : {M : Type 1} → statement M
-herovinga-add-total-spec = tie.close (tie.spec (λ c κs. search needs) (λ c κs. search needs) (λ c κs. search needs) (λ c κs. search needs) (λ c κs. search needs) returns)
+herovinga-add-total-spec = tie.close (tie.spec (λ c κs. tt) (λ c κs. tt) (λ c κs. tt) (λ c κs. tt) returns)

@@ -1,0 +1,2 @@
+-- Laws of a match whose arms read a table.
+pub mod Arms
