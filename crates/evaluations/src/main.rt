@@ -12,10 +12,11 @@ use lists::fields::word_at;
 use lists::lines::read_line;
 use rules::DurationRepr;
 use rules::Exponent;
+use rules::Fract;
 use rules::Length;
 use rules::Multiplier;
-use value::digits::parse_digits;
 use value::digits::parse_digits_strip_zeros;
+use value::digits::sum_digits;
 use value::evaluation::evaluate;
 
 const LINE: usize = 112;
@@ -78,13 +79,14 @@ fn rest_at(line: &[u8], place: usize) -> Rest {
 
 // Whether a line's number comes to the length that stands in it. A line without a point is no case, and so does not.
 fn agrees(line: &[u8]) -> bool {
-    let whole = parse_digits_strip_zeros(line, 0);
+    let before = parse_digits_strip_zeros(line, 0);
+    let whole = before.whole;
     let point = whole.end;
     if line.len() <= point {
         return false;
     }
-    let fract = parse_digits(line, point + 1);
-    let rest = rest_at(line, fract.end);
+    let after = sum_digits(before.number, line, point + 1);
+    let rest = rest_at(line, after.end);
     let exponent = rest.exponent;
     let multiplier = rest.multiplier;
     let length = rest.length;
@@ -92,11 +94,14 @@ fn agrees(line: &[u8]) -> bool {
         negative: rest.negative,
         infinite: false,
         whole,
-        fract,
+        fract: Fract {
+            start: point + 1,
+            end: after.end,
+        },
         exponent,
         multiplier,
     };
-    same_length(evaluate(line, typed), length)
+    same_length(evaluate(line, typed, after.number), length)
 }
 
 // What the next line of the list says, if there is one.

@@ -33,7 +33,7 @@ use Rattle.card.specs.Laws.Table.{right-padded, right-name}
 use Rattle.settings.specs.Laws.Accepted.{delimiter-class, inner-delimits}
 use Rattle.card.specs.Laws.Accepted.{own-name}
 use Rattle.rows.specs.Laws.Rows.{length-row}
-use Rattle.card.specs.Laws.Names.{name-some, size-most, name-length}
+use Rattle.card.specs.Laws.Names.{name-some, size-most, name-bytes}
 use Rattle.findable.specs.TheTextForARow.{first-held, joint, text-for}
 use Rattle.findable.specs.WhereAPartFindsItsUnit.{number-unit, unsigned-unit, unit-of, units, among, among-got, finds}
 
@@ -304,7 +304,7 @@ module _ (s : Settings) (table : List ℕ) (i : ℕ) (below : i < rows table) (r
   text-short =
       let at-most = size-most (row table i) long padded-row in
       if-either (λ l. suc (length (l ++ name (row table i))) ≤ 19) (not (led-by-e (name (row table i)))) {x = []} {y = _}
-      (λ _. omega (arith, at-most, name-length (row table i) long padded-row))
+      (λ _. omega (arith, at-most, name-bytes (row table i) long padded-row))
       (λ _.
       if-either (λ l. suc (length (l ++ name (row table i))) ≤ 19) (s .exponents) {x = 101 ∷ 48 ∷ []} {y = first-held (s .inner) 0 256 ∷ []}
-      (λ _. omega (arith, at-most, name-length (row table i) long padded-row)) (λ _. omega (arith, at-most, name-length (row table i) long padded-row)))
+      (λ _. omega (arith, at-most, name-bytes (row table i) long padded-row)) (λ _. omega (arith, at-most, name-bytes (row table i) long padded-row)))

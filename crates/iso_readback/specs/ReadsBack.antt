@@ -20,12 +20,11 @@ use Rattle.rules.specs.ThePartOfTheCrateWeTake.{nanoseconds-per-second, seconds
 use Rattle.rules.specs.SettingsAndUnitTable.{DIGIT, is, kind-coefficients}
 use Rattle.rules.specs.Evaluation.{spelled, length-of}
 use Rattle.rules.specs.WriterAndShiftTotal.{whole-digits, fraction-digits, written-fraction}
-use Rattle.rules.specs.Laws.Apart.{proper}
+use Rattle.rules.specs.Laws.Apart.{few-seconds, proper, length-of-size}
 use Rattle.rules.specs.Laws.Choices.{and-both, if-either}
 use Rattle.rules.specs.Laws.Written.{whole-digits-only, fraction-digits-only}
 use Rattle.writing.specs.Digits.{ten-pos, whole-some, whole-few}
 use Rattle.writing.specs.Forms.{all-zeros}
-use Rattle.readback.specs.OnePart.{few-seconds, length-of-size}
 use Rattle.readback.specs.Spelled.{spelled-whole, spelled-fraction, fraction-few}
 use Rattle.iso.specs.IsoTimings.{Component, SECONDS, MINUTES, HOURS, none, digits, is-mark, right-fraction, right-number, closes, right-after, right, decimals, seconds-of, nanoseconds-of, read-iso, component, components-of, iso-written, writing-iso, iso-buffer-after, iso-written-buffer}
 use Rattle.iso.specs.Laws.Right.{reads-exactly}

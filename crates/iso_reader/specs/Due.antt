@@ -5,12 +5,12 @@ use mathlib.Core.List.{List}
 use Prim.Native.Nat.{ℕ, _+_, _*_, _-_, _/_, _%_, _^_, _≤_, _<_}
 use native.Mathlib.Nat.{le-trans, le-add-left, le-mul-of-pos-right, div-lt-iff-lt-mul, le-div-iff-mul-le}
 use native.Mathlib.Omega.{arith}
-use borrow.Author.Tests.{lt-ltb, le-ltb, ltb-false, eqb-true, eqb-false}
-use lib.Dec.{ltb, eqb}
+use borrow.Author.Tests.{lt-ltb, le-ltb, ltb-false}
+use lib.Dec.{ltb}
 use Rattle.rules.specs.declared.Length.{Length}
 use Rattle.rules.specs.declared.Refusal.the-variants.{TooLarge}
 use Rattle.rules.specs.Common.{if_then_else_}
-use Rattle.rules.specs.ThePartOfTheCrateWeTake.{nanoseconds-per-second, zero-length}
+use Rattle.rules.specs.ThePartOfTheCrateWeTake.{nanoseconds-per-second}
 use Rattle.rules.specs.NumbersHandedBack.{Outcome, got, refused}
 use Rattle.rules.specs.Evaluation.{length-of}
 use Rattle.rules.specs.Laws.Apart.{apart}
@@ -72,22 +72,6 @@ add-fits s w unit some below h = omega (arith, le-div-iff-mul-le some .0 h)
 
 -- ---- what is due, as a length
 
-nothing : length-of false 0 ≡ record { negative = false; seconds = 0; nanoseconds = 0 }
-unfolding length-of zero-length if_then_else_
-nothing = refl
-
--- seconds and nanoseconds with a plus
-plus : (s n : ℕ) → s < 2 ^ 64 → n < 10 ^ 9 → length-of false (s * 10 ^ 9 + n) ≡ record { negative = false; seconds = s; nanoseconds = n }
-plus s n hs hn = go (eqb (s * 10 ^ 9 + n) 0) refl
-  where
-    go : (b : Bool) → eqb (s * 10 ^ 9 + n) 0 ≡ b → length-of false (s * 10 ^ 9 + n) ≡ record { negative = false; seconds = s; nanoseconds = n }
-    go true e =
-        let zero : s * 10 ^ 9 + n ≡ 0 = eqb-true (s * 10 ^ 9 + n) 0 e in
-        let no-seconds : s ≡ 0 = omega arith in
-        let no-nanoseconds : n ≡ 0 = omega arith in
-        rw (zero, no-seconds, no-nanoseconds) nothing
-    go false e = apart false s n hs hn (eqb-false (s * 10 ^ 9 + n) 0 e)
-
 module _ (s n : ℕ) where
   pub held-over : 2 ^ 64 - 1 - s < n / 10 ^ 9 → refused TooLarge ≡ due (Word.Fits s) n
   unfolding due held if_then_else_
@@ -98,4 +82,4 @@ module _ (s n : ℕ) where
   held-is below h =
       let sum : (s + n / 10 ^ 9) * 10 ^ 9 + n % 10 ^ 9 ≡ s * nanoseconds-per-second + n = omega arith in
       rw (lt-ltb (s * nanoseconds-per-second + n) (2 ^ 64 * nanoseconds-per-second) (omega arith))
-      (ap got (sym (plus (s + n / 10 ^ 9) (n % 10 ^ 9) (omega arith) (omega arith)) ∙ ap (length-of false) sum))
+      (ap got (sym (apart false (s + n / 10 ^ 9) (n % 10 ^ 9) (omega arith) (omega arith) (λ _. refl)) ∙ ap (length-of false) sum))

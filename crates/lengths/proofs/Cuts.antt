@@ -26,7 +26,7 @@ cut-twice {w} {n} {p} h a b = rw (seconds, nanoseconds)
     nanoseconds : p .remainder ≡ value w / 10 ^ 9 % 10 ^ 9
     nanoseconds = b .remainder ∙ ap (λ (x : ℕ). x % 10 ^ 9) (a .quotient)
 
-pub cut-below : {z : Size} (n : ℕ) → z ≡ cut n → z .nanoseconds < 2 * 10 ^ 9
+pub cut-below : {z : Size} (n : ℕ) → z ≡ cut n → z .nanoseconds < 10 ^ 9
 unfolding cut
 cut-below n e = rw e (omega arith)
 

@@ -1,7 +1,7 @@
 // Lengths: what a multiplied number comes to, and the sum. Both stay between MIN and MAX, and zero is always plus.
 // Seconds and nanoseconds stay apart: as one number of nanoseconds a length does not fit a word.
 ghost use mathlib.Core.Path.{_≡_};
-ghost use mathlib.Core.Bool.{true};
+ghost use mathlib.Core.Bool.{true, false};
 ghost use Prim.Native.Nat.{_+_, _*_, _-_, _^_, _<_};
 ghost use lib.Dec.{leb};
 ghost use Rattle.rules.specs.ThePartOfTheCrateWeTake.{zero-length, largest, size, well-formed};
@@ -76,18 +76,26 @@ fn signed(negative: bool, seconds: u64, nanoseconds: u32) -> Length
 }
 
 // The nanoseconds may hold one second more, and then have what is left after it: a test and a difference, and no division.
-// Whether the seconds fit is known before they are added.
+// Whether the seconds fit is known before they are added. Zero has its plus already.
 fn limited(negative: bool, seconds: u64, extra: u64, nanoseconds: u32) -> Length
-    requires { ⌜ nanoseconds < 2 * 10 ^ 9 ⌝ }
+    requires { ⌜ (nanoseconds < 2 * 10 ^ 9) × ((seconds + extra) * 10 ^ 9 + nanoseconds ≡ 0 → negative ≡ false) ⌝ }
     ensures { λ r. ⌜ r ≡ length-of negative ((seconds + extra) * 10 ^ 9 + nanoseconds) ⌝ }
 {
     if extra <= u64::MAX - seconds {
         let sum = seconds + extra;
         if nanoseconds < NANOS_PER_SEC {
-            return signed(negative, sum, nanoseconds);
+            return Length {
+                negative,
+                seconds: sum,
+                nanoseconds,
+            };
         }
         if sum < u64::MAX {
-            return signed(negative, sum + 1, nanoseconds - NANOS_PER_SEC);
+            return Length {
+                negative,
+                seconds: sum + 1,
+                nanoseconds: nanoseconds - NANOS_PER_SEC,
+            };
         }
     }
     largest(negative)
@@ -120,8 +128,8 @@ fn cut_words(attos: Wide) -> Size
 }
 
 // The coefficient times seconds and attoseconds, and only then cut to nanoseconds. Most units have the coefficient 1, most
-// numbers are whole, and most products fit one word: each of these has a short way. The sign of the coefficient is in
-// `is_negative` already.
+// numbers are whole, and most products fit one word: each of these has a short way. With no whole seconds nothing is
+// added, and with some the length is not zero. The sign of the coefficient is in `is_negative` already.
 pub fn calculate_duration(is_negative: bool, seconds: u64, attos: u64, coefficient: u64) -> Length
     requires { ⌜ attos < 10 ^ 18 ⌝ }
     ensures { λ r. ⌜ r ≡ length-of «is_negative» (nanos coefficient (seconds * 10 ^ 18 + attos)) ⌝ }
@@ -145,6 +153,9 @@ pub fn calculate_duration(is_negative: bool, seconds: u64, attos: u64, coefficie
     } else {
         cut_words(wide::product(coefficient, attos))
     };
+    if whole == 0 {
+        return signed(is_negative, size.seconds, size.nanoseconds);
+    }
     limited(is_negative, whole, size.seconds, size.nanoseconds)
 }
 

@@ -1,13 +1,13 @@
 -- One written length is read as itself, wherever it stands: behind it the text ends, or a sign begins the next. Assumes nothing.
 use mathlib.Core.Path.{_≡_, refl, sym, ap, _∙_, ap₂}
-use mathlib.Core.Bool.{Bool, true, false, not, _&&_, _||_, false≢true, xor}
+use mathlib.Core.Bool.{Bool, true, false, _||_, false≢true, xor}
 use mathlib.Core.Logic.{_⊎_, inl, inr, ⊎-elim}
 use mathlib.Core.List.{List, [], _∷_, _++_, append-assoc}
 use Prim.Native.Nat.{ℕ, _+_, _*_, _-_, _/_, _^_, _≤_, _<_}
 use native.Mathlib.Nat.{add-zero, mul-assoc, mul-div-cancel}
 use native.Mathlib.Omega.{arith}
-use borrow.Author.Tests.{eqb-true, eqb-false, ne-eqb, ltb-true, lt-leb}
-use lib.Dec.{eqb, ltb, lit<}
+use borrow.Author.Tests.{eqb-true, eqb-false, ne-eqb, lt-leb}
+use lib.Dec.{eqb, lit<}
 use lib.ListN.{length, drop, length-append}
 use lib.Seq.{slice, slice-empty}
 use Rattle.rules.specs.declared.ByteSet.{ByteSet}
@@ -18,15 +18,15 @@ use Rattle.rules.specs.declared.Settings.{Settings}
 use Rattle.rules.specs.declared.Whole.{Whole}
 use Rattle.rules.specs.Common.{if_then_else_, between, starts, sees, run, ends}
 use Rattle.rules.specs.NumbersHandedBack.{got, _>>=_}
-use Rattle.rules.specs.ThePartOfTheCrateWeTake.{size, well-formed, zero-length}
+use Rattle.rules.specs.ThePartOfTheCrateWeTake.{size, well-formed}
 use Rattle.rules.specs.SettingsAndUnitTable.{DIGIT, SIGN, POINT, OTHER, class, is, is-next-duration, lower, holds, may-delimit, kind-multiplier, card-check, kind-coefficients, kind-downs}
-use Rattle.rules.specs.ReadingOnePart.{same-letter, gap, delimiters, fraction-step, number-step, exponent-step, in-stretch, unit-found, unit-step, connection, finite-part, unsigned-part, part, sign-step}
+use Rattle.rules.specs.ReadingOnePart.{same-letter, gap, fraction-step, number-step, exponent-step, in-stretch, unit-found, unit-step, connection, finite-part, unsigned-part, part, sign-step}
 use Rattle.rules.specs.Evaluation.{spelled, attos, length-of, digits-of, up, down, nanos, evaluate, allowed, part-reading}
 use Rattle.rules.specs.WriterAndShiftTotal.{decimals, no-leading-zeros, second-digits, sign-byte, whole-digits, fraction-digits, written-fraction, written}
 use Rattle.rules.specs.Laws.Texts.{run-stop, sees-in, sees-or}
 use Rattle.rules.specs.Laws.Written.{Digits, decimals-digits, whole-digits-only, fraction-digits-only, written-sign}
-use Rattle.rules.specs.Laws.Apart.{proper, apart, none as no-length}
-use Rattle.rules.specs.Laws.Choices.{if-either, all-first, all-others, and-left, and-right}
+use Rattle.rules.specs.Laws.Apart.{few-seconds, proper, length-of-size}
+use Rattle.rules.specs.Laws.Choices.{if-either, all-first, all-others}
 use Rattle.value.specs.Digits.{ten-pos, ten-sum, digit-high}
 use Rattle.settings.specs.Laws.Accepted.{delimiter-class, inner-delimits, outer-delimits}
 use Rattle.card.specs.Laws.Accepted.{card-settings, card-table, lookup-empty}
@@ -46,35 +46,6 @@ attos-nine n f h =
     let product : n * 10 ^ 18 ≡ n * 10 ^ (9 - f) * 10 ^ 9 * 10 ^ f =
     ap (λ p. n * p) power ∙ sym (mul-assoc n (10 ^ (9 - f) * 10 ^ 9) (10 ^ f)) ∙ ap (λ m. m * 10 ^ f) moved in
     ap (λ k. n * 10 ^ 18 / 10 ^ k) (add-zero f) ∙ ap (λ m. m / 10 ^ f) product ∙ mul-div-cancel (n * 10 ^ (9 - f) * 10 ^ 9) (ten-pos f)
-
-pub few-seconds : (l : Length) → well-formed l ≡ true → l .seconds < 2 ^ 64
-unfolding well-formed
-few-seconds l well = ltb-true (l .seconds) (2 ^ 64) (and-left (ltb (l .seconds) (2 ^ 64)) (ltb (l .nanoseconds) (10 ^ 9)) (and-left _ (not (l .negative && eqb (size l) 0)) well))
-
-zero-plus : (l : Length) → well-formed l ≡ true → eqb (size l) 0 ≡ true → l .negative ≡ false
-unfolding well-formed
-zero-plus l well e = only (l .negative) (and-right (ltb (l .seconds) (2 ^ 64) && ltb (l .nanoseconds) (10 ^ 9)) (not (l .negative && eqb (size l) 0)) well)
-  where
-    only : (b : Bool) → not (b && eqb (size l) 0) ≡ true → b ≡ false
-    only true h = absurd (false≢true (sym (ap not e) ∙ h))
-    only false h = refl
-
--- a well-formed length is what its sign and its nanoseconds come to
-pub length-of-size : (l : Length) → well-formed l ≡ true → length-of (l .negative) (size l) ≡ l
-unfolding size zero-length
-length-of-size l well = go (eqb (size l) 0) refl
-  where
-    go : (b : Bool) → eqb (size l) 0 ≡ b → length-of (l .negative) (size l) ≡ l
-    go true e =
-        let none : l .seconds * 10 ^ 9 + l .nanoseconds ≡ 0 = eqb-true (size l) 0 e in
-        let seconds : 0 ≡ l .seconds = omega (arith, none) in
-        let nanoseconds : 0 ≡ l .nanoseconds = omega (arith, none) in
-        ap (length-of (l .negative)) none
-        ∙ no-length (l .negative)
-        ∙ ap (λ b. record { negative = b; seconds = 0; nanoseconds = 0 }) (sym (zero-plus l well e))
-        ∙ ap (λ n. record { negative = l .negative; seconds = n; nanoseconds = 0 }) seconds
-        ∙ ap (λ n. record { negative = l .negative; seconds = l .seconds; nanoseconds = n }) nanoseconds
-    go false e = apart (l .negative) (l .seconds) (l .nanoseconds) (few-seconds l well) (proper l well) (eqb-false (size l) 0 e)
 
 -- ---- the steps, where a sign or nothing stands at the place
 

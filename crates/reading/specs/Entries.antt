@@ -14,14 +14,14 @@ use Rattle.rules.specs.NumbersHandedBack.{got, refused, _>>_, unless, done, ref
 use Rattle.rules.specs.SettingsAndUnitTable.{card-check}
 use Rattle.rules.specs.Evaluation.{part-reading, total}
 use Rattle.rules.specs.WhatEveryEntryOwes.{read-part, part-answer, read-total, total-answer}
-use Rattle.card.specs.Laws.Accepted.{card-table, row-in-range, lookup-empty}
+use Rattle.card.specs.Laws.Accepted.{card-table, row-sized, row-in-range, lookup-empty}
 use Rattle.steps.specs.Units.{Readable}
 
 -- an accepted card's table can be read
 pub card-readable : (s : Settings) (table : List ℕ) → card-check s table ≡ got tt → Readable table
 card-readable s table good =
     let accepted = card-table s table good in
-    record { products = row-in-range s table accepted; named = lookup-empty s table accepted }
+    record { sizes = row-sized s table accepted; products = row-in-range s table accepted; named = lookup-empty s table accepted }
 
 module _ (s : Settings) (table text : List ℕ) where
   module _ (place : ℕ) where

@@ -1,5 +1,6 @@
 -- What the contracts of reading need besides the definitions of document 01, and laws of those definitions.
 pub mod Outcomes
+pub mod Sums
 pub mod Typed
 pub mod Spans
 pub mod Allowed

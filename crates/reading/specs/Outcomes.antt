@@ -1,10 +1,10 @@
 -- What each function answers, as the definitions have it. Assumes nothing.
-use Rattle.rules.specs.declared.Part.{Part}
 use Rattle.rules.specs.declared.Reading.{Reading}
 use Rattle.rules.specs.NumbersHandedBack.{Outcome, got, refused}
 use Rattle.reading.specs.declared.start.Start.{Start}
 use Rattle.reading.specs.declared.start.StartRead.{StartRead}
 use Rattle.reading.specs.declared.start.StartRead.the-variants as StartRead
+use Rattle.reading.specs.declared.typed.SummedPart.{SummedPart}
 use Rattle.reading.specs.declared.typed.PartRead.{PartRead}
 use Rattle.reading.specs.declared.typed.PartRead.the-variants as PartRead
 use Rattle.reading.specs.declared.part.ReadingRead.{ReadingRead}
@@ -14,7 +14,7 @@ abbrev pub started : StartRead → Outcome Start
 started (StartRead.Got found) = got found
 started (StartRead.Refused cause) = refused cause
 
-abbrev pub part : PartRead → Outcome Part
+abbrev pub part : PartRead → Outcome SummedPart
 part (PartRead.Got found) = got found
 part (PartRead.Refused cause) = refused cause
 

@@ -8,10 +8,12 @@ ghost use Rattle.rules.specs.Evaluation.{allowed, part-reading};
 ghost use Rattle.settings.specs.Sets.{bytes-of};
 ghost use Rattle.steps.specs.Units.{Readable, stops-of};
 ghost use Rattle.reading.specs.Outcomes as outcomes;
+ghost use Rattle.reading.specs.Sums.{sums};
 ghost use Rattle.reading.specs.Typed.{typed-part};
 use crate::start::StartRead;
 use crate::start::part_start;
 use crate::typed::PartRead;
+use crate::typed::SummedPart;
 use crate::typed::unsigned_part;
 use rules::Length;
 use rules::Part;
@@ -39,7 +41,7 @@ fn typed_part(
     requires { ⌜ settings-check (settings-of (now settings)) ≡ got tt ⌝ }
     requires { ⌜ bytes-of stops ≡ stops-of (settings-of (now settings)) ⌝ }
     requires { ⌜ Readable (now table) ⌝ }
-    ensures { λ r. ⌜ outcomes.part r ≡ typed-part (settings-of (now (settings .entry))) (now (table .entry)) (now (text .entry)) place ⌝ }
+    ensures { λ r. ⌜ outcomes.part r ≡ sums (now (text .entry)) (typed-part (settings-of (now (settings .entry))) (now (table .entry)) (now (text .entry)) place) ⌝ }
 {
     match part_start(settings, text, place) {
         StartRead::Refused(cause) => PartRead::Refused(cause),
@@ -65,15 +67,18 @@ fn connected_part(
     requires { ⌜ settings-check (settings-of (now settings)) ≡ got tt ⌝ }
     requires { ⌜ bytes-of stops ≡ stops-of (settings-of (now settings)) ⌝ }
     requires { ⌜ Readable (now table) ⌝ }
-    ensures { λ r. ⌜ outcomes.part r ≡ part (settings-of (now (settings .entry))) (now (table .entry)) (now (text .entry)) place ⌝ }
+    ensures { λ r. ⌜ outcomes.part r ≡ sums (now (text .entry)) (part (settings-of (now (settings .entry))) (now (table .entry)) (now (text .entry)) place) ⌝ }
 {
     match typed_part(settings, stops, table, text, place) {
         PartRead::Refused(cause) => PartRead::Refused(cause),
-        PartRead::Got(typed) => match try_consume_connection(settings, text, typed.next) {
+        PartRead::Got(typed) => match try_consume_connection(settings, text, typed.part.next) {
             Next::Refused(cause) => PartRead::Refused(cause),
             Next::At(next) => {
-                let repr = typed.repr;
-                PartRead::Got(Part { repr, next })
+                let repr = typed.part.repr;
+                PartRead::Got(SummedPart {
+                    part: Part { repr, next },
+                    number: typed.number,
+                })
             }
         },
     }
@@ -105,6 +110,10 @@ pub fn parse_part(
 {
     match connected_part(settings, stops, table, text, place) {
         PartRead::Refused(cause) => ReadingRead::Refused(cause),
-        PartRead::Got(part) => allowed(settings, place, part.next, evaluate(text, part.repr)),
+        PartRead::Got(summed) => {
+            let part = summed.part;
+            let length = evaluate(text, part.repr, summed.number);
+            allowed(settings, place, part.next, length)
+        }
     }
 }

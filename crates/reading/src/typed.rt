@@ -6,6 +6,7 @@ ghost use Rattle.rules.specs.SettingsAndUnitTable.{settings-check};
 ghost use Rattle.settings.specs.Sets.{bytes-of};
 ghost use Rattle.steps.specs.Units.{Readable, stops-of};
 ghost use Rattle.reading.specs.Outcomes.{part};
+ghost use Rattle.reading.specs.Sums.{sums};
 ghost use Rattle.reading.specs.Typed.{class-at, typed-finite, typed-word, typed-unsigned};
 use rules::DurationRepr;
 use rules::Exponent;
@@ -32,15 +33,21 @@ use tables::LETTER;
 use tables::POINT;
 use tables::kind_multiplier;
 
+// What was typed of a part, and the sum of its digits.
+pub struct SummedPart {
+    pub part: Part,
+    pub number: u64,
+}
+
 pub enum PartRead {
-    Got(Part),
+    Got(SummedPart),
     Refused(Refusal),
 }
 
 // `inf` or `infinity`, if allowed; any other word is no number.
 fn infinite_part(settings: &[u64; 25], text: &[u8], negative: bool, place: usize) -> PartRead
     requires { ⌜ settings-check (settings-of (now settings)) ≡ got tt ⌝ }
-    ensures { λ r. ⌜ part r ≡ typed-word (settings-of (now (settings .entry))) (now (text .entry)) negative place ⌝ }
+    ensures { λ r. ⌜ part r ≡ sums (now (text .entry)) (typed-word (settings-of (now (settings .entry))) (now (text .entry)) negative place) ⌝ }
 {
     if !infinity(settings) {
         return PartRead::Refused(Refusal::NoNumber(place));
@@ -50,25 +57,28 @@ fn infinite_part(settings: &[u64; 25], text: &[u8], negative: bool, place: usize
     }
     match parse_infinity_remainder(settings, text, place) {
         Next::Refused(cause) => PartRead::Refused(cause),
-        Next::At(next) => PartRead::Got(Part {
-            repr: DurationRepr {
-                negative,
-                infinite: true,
-                whole: Whole {
-                    start: place,
-                    end: place,
+        Next::At(next) => PartRead::Got(SummedPart {
+            part: Part {
+                repr: DurationRepr {
+                    negative,
+                    infinite: true,
+                    whole: Whole {
+                        start: place,
+                        end: place,
+                    },
+                    fract: Fract {
+                        start: place,
+                        end: place,
+                    },
+                    exponent: Exponent {
+                        negative: false,
+                        power: 0,
+                    },
+                    multiplier: kind_multiplier(default_kind(settings)),
                 },
-                fract: Fract {
-                    start: place,
-                    end: place,
-                },
-                exponent: Exponent {
-                    negative: false,
-                    power: 0,
-                },
-                multiplier: kind_multiplier(default_kind(settings)),
+                next,
             },
-            next,
+            number: 0,
         }),
     }
 }
@@ -85,13 +95,14 @@ fn finite_part(
     requires { ⌜ settings-check (settings-of (now settings)) ≡ got tt ⌝ }
     requires { ⌜ bytes-of stops ≡ stops-of (settings-of (now settings)) ⌝ }
     requires { ⌜ Readable (now table) ⌝ }
-    ensures { λ r. ⌜ part r ≡ typed-finite (settings-of (now (settings .entry))) (now (table .entry)) (now (text .entry)) negative place ⌝ }
+    ensures { λ r. ⌜ part r ≡ sums (now (text .entry)) (typed-finite (settings-of (now (settings .entry))) (now (table .entry)) (now (text .entry)) negative place) ⌝ }
 {
-    let number = match parse_number(settings, text, place) {
-        NumberRead::Got(number) => number,
+    let summed = match parse_number(settings, text, place) {
+        NumberRead::Got(summed) => summed,
         NumberRead::Refused(cause) => return PartRead::Refused(cause),
     };
-    let scaled = match parse_number_exponent(settings, text, number.next) {
+    let typed = summed.typed;
+    let scaled = match parse_number_exponent(settings, text, typed.next) {
         ScaledRead::Got(scaled) => scaled,
         ScaledRead::Refused(cause) => return PartRead::Refused(cause),
     };
@@ -103,20 +114,23 @@ fn finite_part(
         UnitRead::Got(unit) => unit,
         UnitRead::Refused(cause) => return PartRead::Refused(cause),
     };
-    let whole = number.whole;
-    let fract = number.fract;
+    let whole = typed.whole;
+    let fract = typed.fract;
     let exponent = scaled.exponent;
     let multiplier = unit.multiplier;
-    PartRead::Got(Part {
-        repr: DurationRepr {
-            negative,
-            infinite: false,
-            whole,
-            fract,
-            exponent,
-            multiplier,
+    PartRead::Got(SummedPart {
+        part: Part {
+            repr: DurationRepr {
+                negative,
+                infinite: false,
+                whole,
+                fract,
+                exponent,
+                multiplier,
+            },
+            next: unit.next,
         },
-        next: unit.next,
+        number: summed.number,
     })
 }
 
@@ -134,7 +148,7 @@ pub fn unsigned_part(
     requires { ⌜ bytes-of stops ≡ stops-of (settings-of (now settings)) ⌝ }
     requires { ⌜ Readable (now table) ⌝ }
     requires { ⌜ class ≡ class-at (now text) place ⌝ }
-    ensures { λ r. ⌜ part r ≡ typed-unsigned (settings-of (now (settings .entry))) (now (table .entry)) (now (text .entry)) negative place ⌝ }
+    ensures { λ r. ⌜ part r ≡ sums (now (text .entry)) (typed-unsigned (settings-of (now (settings .entry))) (now (table .entry)) (now (text .entry)) negative place) ⌝ }
 {
     match class {
         DIGIT | POINT => finite_part(settings, stops, table, text, negative, place),

@@ -1,9 +1,11 @@
 // Lookup of a unit's name, byte for byte.
 ghost use mathlib.Core.Path.{_≡_};
+ghost use Prim.Native.Nat.{ℕ, _<_, _≤_};
+ghost use lib.ListN.{length};
 ghost use Rattle.rules.specs.Common.{same};
-ghost use Rattle.rules.specs.SettingsAndUnitTable.{lookup};
+ghost use Rattle.rules.specs.SettingsAndUnitTable.{row-size, name-room, rows, row, name-size, name, lookup};
+use crate::fields::NAME_AT;
 use crate::fields::ROW_SIZE;
-use crate::fields::name_of;
 use crate::fields::row_at;
 use rules::Found;
 
@@ -24,14 +26,29 @@ fn same(a: &[u8], b: &[u8]) -> bool
     true
 }
 
-// The first row that has the name.
+// Whether a row has the name. The size is asked first, since most rows have another; a row that was accepted has as many bytes as it
+// says.
+fn has_name(row: &[u8], wanted: &[u8]) -> bool
+    requires { ⌜ (length (now row) ≡ row-size) × (name-size (now row) ≤ name-room) ⌝ }
+    ensures { λ r. ⌜ r ≡ same (name (now (row .entry))) (now (wanted .entry)) ⌝ }
+{
+    let size = row[0] as usize;
+    if size != wanted.len() {
+        return false;
+    }
+    let end = NAME_AT + size;
+    same(&row[NAME_AT..end], wanted)
+}
+
+// The first row that has the name, in a table of which no row claims a longer name than it has room for.
 pub fn find(table: &[u8], wanted: &[u8]) -> Found
+    requires { ⌜ ((i : ℕ) → i < rows (now table) → name-size (row (now table) i) ≤ name-room) ⌝ }
     ensures { λ r. ⌜ r ≡ lookup (now (table .entry)) (now (wanted .entry)) ⌝ }
 {
     let count = table.len() / ROW_SIZE;
     let mut i = 0;
     while i < count {
-        if same(name_of(row_at(table, i)), wanted) {
+        if has_name(row_at(table, i), wanted) {
             return Found::Row(i);
         }
         i += 1;

@@ -6,6 +6,7 @@ pub mod Sets
 pub mod Delimiters
 pub mod Letters
 pub mod Signs
+pub mod Sums
 pub mod Numbers
 pub mod Exponents
 pub mod Infinity

@@ -1,5 +1,5 @@
 -- Laws of the number step: the digits before a point, the point, and the digits after it. Assumes nothing.
-use mathlib.Core.Path.{_≡_, refl, ap, sym}
+use mathlib.Core.Path.{_≡_, refl, sym}
 use mathlib.Core.Bool.{Bool, true, false}
 use mathlib.Core.List.{List}
 use Prim.Native.Nat.{ℕ, _+_, _<_}
@@ -8,7 +8,6 @@ use borrow.Author.Tests.{ltb-true, ltb-false}
 use lib.Dec.{eqb, ltb}
 use Rattle.rules.specs.declared.Settings.{Settings}
 use Rattle.rules.specs.declared.Whole.{Whole}
-use Rattle.rules.specs.declared.Fract.{Fract}
 use Rattle.rules.specs.declared.Refusal.the-variants.{FractionOff, FractionEmpty}
 use Rattle.rules.specs.Common.{if_then_else_, sees, run}
 use Rattle.rules.specs.NumbersHandedBack.{got, refused}
@@ -33,9 +32,9 @@ module _ (s : Settings) (text : List ℕ) (any-whole : Bool) (whole : Whole) (pl
 
     module _
         (on : s .fractions ≡ true)
-        {fract : Fract} (f : fract ≡ record { start = place + 1; end = run (is DIGIT) text (place + 1) }) where
+        {end : ℕ} (f : end ≡ run (is DIGIT) text (place + 1)) where
       pub fraction-empty :
-          fract .end ≡ place + 1
+          end ≡ place + 1
           → any-whole ≡ false
           → refused (FractionEmpty place) ≡ fraction-step s text any-whole whole place
       unfolding fraction-step if_then_else_
@@ -43,18 +42,18 @@ module _ (s : Settings) (text : List ℕ) (any-whole : Bool) (whole : Whole) (pl
 
       pub fraction-after :
           any-whole ≡ true
-          → got (record { whole = whole; fract = fract; next = fract .end }) ≡ fraction-step s text any-whole whole place
+          → got (record { whole = whole; fract = record { start = place + 1; end = end }; next = end }) ≡ fraction-step s text any-whole whole place
       unfolding fraction-step if_then_else_
       fraction-after w = rw (e, on, w, f)
 
       pub fraction-some :
-          (fract .end ≡ place + 1 → ⊥)
-          → got (record { whole = whole; fract = fract; next = fract .end }) ≡ fraction-step s text any-whole whole place
+          (end ≡ place + 1 → ⊥)
+          → got (record { whole = whole; fract = record { start = place + 1; end = end }; next = end }) ≡ fraction-step s text any-whole whole place
       unfolding fraction-step if_then_else_
-      fraction-some h = rw (e, on, sees-run (is DIGIT) text (place + 1) (beyond (ap (λ x. x .end) f)), or-true, f)
+      fraction-some h = rw (e, on, sees-run (is DIGIT) text (place + 1) beyond, or-true, f)
         where
-          beyond : fract .end ≡ run (is DIGIT) text (place + 1) → place + 1 < run (is DIGIT) text (place + 1)
-          beyond g = omega (arith, run-from (is DIGIT) text (place + 1))
+          beyond : place + 1 < run (is DIGIT) text (place + 1)
+          beyond = omega (arith, run-from (is DIGIT) text (place + 1))
 
 module _
     (s : Settings) (text : List ℕ) (place : ℕ)

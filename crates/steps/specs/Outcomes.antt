@@ -1,7 +1,6 @@
 -- What each step answers, as the definitions have it. Assumes nothing.
 use Prim.Native.Nat.{ℕ}
 use Rattle.rules.specs.declared.Signed.{Signed}
-use Rattle.rules.specs.declared.Number.{Number}
 use Rattle.rules.specs.declared.Scaled.{Scaled}
 use Rattle.rules.specs.declared.Unit as declared-unit
 use Rattle.rules.specs.NumbersHandedBack.{Outcome, got, refused}
@@ -9,6 +8,7 @@ use Rattle.steps.specs.declared.Next.{Next}
 use Rattle.steps.specs.declared.Next.the-variants as Next
 use Rattle.steps.specs.declared.sign.SignRead.{SignRead}
 use Rattle.steps.specs.declared.sign.SignRead.the-variants as SignRead
+use Rattle.steps.specs.declared.number.SummedNumber.{SummedNumber}
 use Rattle.steps.specs.declared.number.NumberRead.{NumberRead}
 use Rattle.steps.specs.declared.number.NumberRead.the-variants as NumberRead
 use Rattle.steps.specs.declared.exponent.ScaledRead.{ScaledRead}
@@ -24,7 +24,7 @@ abbrev pub signed : SignRead → Outcome Signed
 signed (SignRead.Got found) = got found
 signed (SignRead.Refused cause) = refused cause
 
-abbrev pub number : NumberRead → Outcome Number
+abbrev pub number : NumberRead → Outcome SummedNumber
 number (NumberRead.Got found) = got found
 number (NumberRead.Refused cause) = refused cause
 

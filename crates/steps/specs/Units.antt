@@ -18,7 +18,7 @@ use Rattle.rules.specs.declared.Found.the-variants.{Row, Nowhere}
 use Rattle.rules.specs.declared.Refusal.{Refusal}
 use Rattle.rules.specs.Common.{if_then_else_, between, ascii, ends, sees, front, run}
 use Rattle.rules.specs.NumbersHandedBack.{Outcome, got, refused}
-use Rattle.rules.specs.SettingsAndUnitTable.{class, is, is-next-duration, holds, kind-multiplier, rows, row, product, in-range, lookup}
+use Rattle.rules.specs.SettingsAndUnitTable.{class, is, is-next-duration, holds, kind-multiplier, name-room, rows, row, name-size, product, in-range, lookup}
 use Rattle.rules.specs.ReadingOnePart.{says, delimiters, in-stretch, closes-unit, negated, ago-step, unit-found, unit-step}
 use Rattle.rules.specs.Laws.Ahead.{says-within}
 use Rattle.rules.specs.Laws.Lists.{Bytes}
@@ -30,8 +30,9 @@ use Rattle.settings.specs.Sets.{either}
 use Rattle.settings.specs.Laws.Sets.{runs, either-holds, first-word}
 use Rattle.steps.specs.Sets.{passes}
 
--- what an accepted table has: kind times row is in range, of each row, and none has an empty name
+-- what an accepted table has: room for each row's name, kind times row in range, of each row, and none has an empty name
 pub record Readable (table : List ℕ) : Type 0 where
+  pub sizes : (i : ℕ) → i < rows table → name-size (row table i) ≤ name-room
   pub products : (i : ℕ) → i < rows table → in-range (product (row table i)) ≡ true
   pub named : lookup table [] ≡ Nowhere
 

@@ -1,8 +1,8 @@
 // The fixed tables: powers of ten, the eight unit kinds and the 256 byte classes.
 ghost use mathlib.Core.Path.{_≡_};
+ghost use mathlib.Core.Bool.{false};
 ghost use Prim.Native.Nat.{_<_, _^_};
-ghost use lib.ListN.{getD};
-ghost use Rattle.rules.specs.SettingsAndUnitTable.{class, kind-coefficients, kind-downs, kind-multiplier};
+ghost use Rattle.rules.specs.SettingsAndUnitTable.{class, kind-multiplier};
 use rules::Multiplier;
 
 // The powers of ten that a u64 holds.
@@ -348,35 +348,15 @@ pub fn class_of(b: u8) -> u8
     }
 }
 
-fn kind_coefficient(kind: u8) -> u64
-    ensures { λ r. ⌜ r ≡ getD kind-coefficients kind 0 ⌝ }
+// The multiplier of a kind: its power of ten is never above zero.
+fn multiplier(coefficient: u64, down: u16) -> Multiplier
+    ensures { λ r. ⌜ r ≡ record { negative = false; coefficient = coefficient; up = 0; down = down } ⌝ }
 {
-    match kind {
-        0 => KIND_COEFFICIENTS[0],
-        1 => KIND_COEFFICIENTS[1],
-        2 => KIND_COEFFICIENTS[2],
-        3 => KIND_COEFFICIENTS[3],
-        4 => KIND_COEFFICIENTS[4],
-        5 => KIND_COEFFICIENTS[5],
-        6 => KIND_COEFFICIENTS[6],
-        7 => KIND_COEFFICIENTS[7],
-        _ => 0,
-    }
-}
-
-fn kind_down(kind: u8) -> u16
-    ensures { λ r. ⌜ r ≡ getD kind-downs kind 0 ⌝ }
-{
-    match kind {
-        0 => KIND_DOWNS[0],
-        1 => KIND_DOWNS[1],
-        2 => KIND_DOWNS[2],
-        3 => KIND_DOWNS[3],
-        4 => KIND_DOWNS[4],
-        5 => KIND_DOWNS[5],
-        6 => KIND_DOWNS[6],
-        7 => KIND_DOWNS[7],
-        _ => 0,
+    Multiplier {
+        negative: false,
+        coefficient,
+        up: 0,
+        down,
     }
 }
 
@@ -384,10 +364,15 @@ fn kind_down(kind: u8) -> u16
 pub fn kind_multiplier(kind: u8) -> Multiplier
     ensures { λ r. ⌜ r ≡ kind-multiplier kind ⌝ }
 {
-    Multiplier {
-        negative: false,
-        coefficient: kind_coefficient(kind),
-        up: 0,
-        down: kind_down(kind),
+    match kind {
+        0 => multiplier(KIND_COEFFICIENTS[0], KIND_DOWNS[0]),
+        1 => multiplier(KIND_COEFFICIENTS[1], KIND_DOWNS[1]),
+        2 => multiplier(KIND_COEFFICIENTS[2], KIND_DOWNS[2]),
+        3 => multiplier(KIND_COEFFICIENTS[3], KIND_DOWNS[3]),
+        4 => multiplier(KIND_COEFFICIENTS[4], KIND_DOWNS[4]),
+        5 => multiplier(KIND_COEFFICIENTS[5], KIND_DOWNS[5]),
+        6 => multiplier(KIND_COEFFICIENTS[6], KIND_DOWNS[6]),
+        7 => multiplier(KIND_COEFFICIENTS[7], KIND_DOWNS[7]),
+        _ => multiplier(0, 0),
     }
 }

@@ -7,16 +7,17 @@ use Prim.Native.Nat.{ℕ, zero, suc, _+_, _*_, _-_, _^_, _≤_, _<_, min}
 use native.Mathlib.Nat.{add-assoc, add-zero, zero-add, suc-add, add-suc, mul-assoc, zero-mul, add-mul, pow-succ', le-refl, le-trans, lt-of-lt-of-le, one-le-pow, pow-le-pow-right, min-eq-left, zero-min, min-zero, suc-min-suc, sub-zero, zero-sub, suc-sub-suc}
 use native.Mathlib.Numerals.{add-one}
 use native.Mathlib.Omega.{arith}
-use borrow.Author.Tests.{le-leb, leb-true, leb-false, eqb-true, eqb-false}
-use lib.Dec.{leb, eqb, lit<}
-use lib.ListN.{length, getD, take, drop, length-take, length-drop, drop-of-length-le}
+use borrow.Author.Tests.{le-leb, leb-true, leb-false, lt-ltb, le-ltb, ltb-true, ltb-false, eqb-true, eqb-false}
+use lib.Dec.{leb, ltb, eqb, lit<}
+use lib.ListN.{length, getD, take, drop, length-take, length-drop, take-append-drop, drop-of-length-le}
 use lib.Pow.{pow-add}
-use lib.Seq.{slice, slice-cons, take-nil, drop-nil, drop-drop}
+use lib.Seq.{slice, slice-empty, slice-cons, length-take-le, take-nil, drop-nil, drop-drop}
 use Rattle.rules.specs.Common.{if_then_else_, between, all, front, run}
 use Rattle.rules.specs.SettingsAndUnitTable.{DIGIT, class, is}
 use Rattle.rules.specs.Evaluation.{spelled}
-use Rattle.rules.specs.Laws.Choices.{and-left, and-right, and-both, all-first, all-others}
-use Rattle.rules.specs.Laws.Texts.{sees-here, sees-end, run-more, run-stop, run-from, slice-shift}
+use Rattle.rules.specs.Laws.Choices.{and-left, and-right, and-both, if-either, all-first, all-others}
+use Rattle.rules.specs.Laws.Texts.{sees-here, sees-end, run-more, run-stop, run-from, run-within, slice-shift}
+use Rattle.value.specs.Numbers.{summed}
 
 -- ---- powers of ten
 
@@ -313,14 +314,17 @@ spelled-from n [] = omega arith
 spelled-from n (d ∷ ds) =
     rw (spelled-from (n * 10 + (d - 48)) ds, spelled-from (0 * 10 + (d - 48)) ds, pow-succ' 10 (length ds), add-mul (n * 10) (d - 48) _, mul-assoc n 10 (10 ^ length ds), zero-mul 10, zero-add (d - 48), add-assoc)
 
+-- a digit after a number of k places makes one of k + 1
+pub digit-below : (k n d : ℕ) → is DIGIT d ≡ true → n < 10 ^ k → n * 10 + (d - 48) < 10 ^ suc k
+digit-below k n d e h = rw (pow-succ' 10 k) (omega (arith, digit-small d e))
+
 -- digits after a number of k places spell a number of as many places more
 pub spelled-below : (k n : ℕ) (ds : List ℕ) → all (is DIGIT) ds ≡ true → n < 10 ^ k → spelled n ds < 10 ^ (k + length ds)
 unfolding spelled
 spelled-below k n [] e h = rw (add-zero k) h
 spelled-below k n (d ∷ ds) e h =
     rw (add-suc k (length ds), ← (suc-add k (length ds)))
-    (spelled-below (suc k) (n * 10 + (d - 48)) ds (all-others (is DIGIT) d ds e)
-    (rw (pow-succ' 10 k) (omega (arith, digit-high d (all-first (is DIGIT) d ds e)))))
+    (spelled-below (suc k) (n * 10 + (d - 48)) ds (all-others (is DIGIT) d ds e) (digit-below k n d (all-first (is DIGIT) d ds e) h))
 
 -- digits for which there is room, of k places in all, leave the room that is left
 pub spelled-in-room : (k n room : ℕ) (ds : List ℕ) → room ≤ k → n < 10 ^ (k - room) → all (is DIGIT) ds ≡ true → spelled n (take room ds) < 10 ^ (k - (room - length ds))
@@ -330,3 +334,82 @@ spelled-in-room k n room ds h b e =
 
 pub spelled-in-all : (k n room : ℕ) (ds : List ℕ) → room ≤ k → n < 10 ^ (k - room) → all (is DIGIT) ds ≡ true → spelled n (take room ds) < 10 ^ k
 spelled-in-all k n room ds h b e = lt-of-lt-of-le (spelled-in-room k n room ds h b e) (ten-grows {i = k - (room - length ds)} {j = k} (omega arith))
+
+-- ---- digits summed up for as long as a word surely holds one more
+
+-- one more digit, and none after the last that is sure to fit
+summed-next : (n d : ℕ) (ds : List ℕ) → n < 10 ^ 18 → summed n (d ∷ ds) ≡ summed (n * 10 + (d - 48)) ds
+unfolding summed if_then_else_
+summed-next n d ds h = rw (lt-ltb n (10 ^ 18) h)
+
+summed-full : (n : ℕ) (ds : List ℕ) → 10 ^ 18 ≤ n → summed n ds ≡ n
+unfolding summed if_then_else_
+summed-full n [] h = refl
+summed-full n (d ∷ ds) h = rw (le-ltb n (10 ^ 18) h)
+
+-- digits go on from a sum as from those that it was summed up from
+pub summed-append : (n : ℕ) (ds es : List ℕ) → summed (summed n ds) es ≡ summed n (ds ++ es)
+unfolding summed if_then_else_
+summed-append n [] es = refl
+summed-append n (d ∷ ds) es = go (ltb n (10 ^ 18)) refl (summed-append (n * 10 + (d - 48)) ds es)
+  where
+    go : (c : Bool) → ltb n (10 ^ 18) ≡ c → summed (summed (n * 10 + (d - 48)) ds) es ≡ summed (n * 10 + (d - 48)) (ds ++ es) → summed (if c then summed (n * 10 + (d - 48)) ds else n) es ≡ (if c then summed (n * 10 + (d - 48)) (ds ++ es) else n)
+    go true e more = more
+    go false e more = summed-full n es (ltb-false n (10 ^ 18) e)
+
+-- it has at most nineteen places
+pub summed-below : (n : ℕ) (ds : List ℕ) → all (is DIGIT) ds ≡ true → n < 10 ^ 19 → summed n ds < 10 ^ 19
+unfolding summed
+summed-below n [] e h = h
+summed-below n (d ∷ ds) e h =
+    if-either (λ s. s < 10 ^ 19) (ltb n (10 ^ 18))
+    (λ f. summed-below (n * 10 + (d - 48)) ds (all-others (is DIGIT) d ds e) (digit-below 18 n d (all-first (is DIGIT) d ds e) (ltb-true n (10 ^ 18) f)))
+    (λ f. h)
+
+-- digits that make at most nineteen places with those before them are all summed up
+summed-in-room : (k n : ℕ) (ds : List ℕ) → all (is DIGIT) ds ≡ true → n < 10 ^ k → k + length ds ≤ 19 → summed n ds ≡ spelled n ds
+unfolding summed spelled
+summed-in-room k n [] e h room = refl
+summed-in-room k n (d ∷ ds) e h room =
+    summed-next n d ds (lt-of-lt-of-le h (ten-grows {i = k} {j = 18} (omega arith)))
+    ∙ summed-in-room (suc k) (n * 10 + (d - 48)) ds (all-others (is DIGIT) d ds e) (digit-below k n d (all-first (is DIGIT) d ds e) h) (omega arith)
+
+pub summed-few : (ds : List ℕ) → all (is DIGIT) ds ≡ true → length ds ≤ 19 → summed 0 ds ≡ spelled 0 ds
+summed-few ds e h = summed-in-room 0 0 ds e (ten-pos 0) (omega arith)
+
+-- of more, if the first is not `0`, it is the first nineteen
+pub summed-many : (ds : List ℕ) → all (is DIGIT) ds ≡ true → 19 ≤ length ds → (getD ds 0 0 ≡ 48 → ⊥) → summed 0 ds ≡ spelled 0 (take 19 ds)
+unfolding spelled
+summed-many [] e h some = absurd (omega arith)
+summed-many (d ∷ ds) e h some =
+    let few = summed-few (take 19 (d ∷ ds)) (all-take (is DIGIT) 19 (d ∷ ds) e) (omega (arith, length-take 19 (d ∷ ds))) in
+    ap (summed 0) (sym (take-append-drop 19 (d ∷ ds)))
+    ∙ sym (summed-append 0 (take 19 (d ∷ ds)) (drop 19 (d ∷ ds)))
+    ∙ ap (λ n. summed n (drop 19 (d ∷ ds))) few
+    ∙ summed-full (spelled 0 (take 19 (d ∷ ds))) (drop 19 (d ∷ ds)) large
+  where
+    large : 10 ^ 18 ≤ spelled 0 (take 19 (d ∷ ds))
+    large = rw (spelled-from (0 * 10 + (d - 48)) (take 18 ds), length-take-le 18 ds (omega arith)) (omega (arith, digit-low d (all-first (is DIGIT) d ds e)))
+
+-- what is left to sum of a run of digits, which after the number so far comes to the whole sum
+pub record Unsummed (text : List ℕ) (end whole number place : ℕ) : Type 0 where
+  pub ends : run (is DIGIT) text place ≡ end
+  pub sums : summed number (slice place end text) ≡ whole
+
+module _ {text : List ℕ} {end whole number place : ℕ} (u : Unsummed text end whole number place) where
+  pub unsummed-done : run (is DIGIT) text place ≡ place → number ≡ whole
+  unfolding summed
+  unsummed-done e = rw (← (u .ends), e, slice-empty place text) at (u .sums)
+
+  pub unsummed-full : 10 ^ 18 ≤ number → number ≡ whole
+  unsummed-full h = sym (summed-full number _ h) ∙ u .sums
+
+  pub unsummed-more : place < length text → is DIGIT (getD text place 0) ≡ true → number < 10 ^ 18 → Unsummed text end whole (number * 10 + (getD text place 0 - 48)) (place + 1)
+  unsummed-more h d sure =
+      let on = sym (run-on (is DIGIT) text place h d) ∙ u .ends in
+      let inside : place < end = omega (arith, on, run-from (is DIGIT) text (place + 1)) in
+      let within : end ≤ length text = rw (← (u .ends)) (run-within (is DIGIT) text place (omega arith)) in
+      record {
+        ends = on;
+        sums = rw (add-one place) (sym (summed-next number (getD text place 0) (slice (suc place) end text) sure) ∙ (rw (slice-cons place end text 0 inside within) at (u .sums)));
+      }

@@ -27,6 +27,14 @@ module _ (text : List ℕ) (d : DurationRepr) where
   unfolding attos-of up down if_then_else_
   typed-up e f g = rw (f, g, e, add-zero)
 
+  -- one of zero changes neither
+  pub typed-none : d .exponent .power ≤ 0 → {above below : ℕ} → above ≡ d .multiplier .up → below ≡ d .multiplier .down → typed-attos text (d .whole) (d .fract) above below ≡ attos-of text d
+  typed-none z {above} {below} f g = go (d .exponent .negative) refl
+    where
+      go : (b : Bool) → d .exponent .negative ≡ b → typed-attos text (d .whole) (d .fract) above below ≡ attos-of text d
+      go true e = typed-down e f (omega arith)
+      go false e = typed-up e (omega arith) g
+
   -- ---- what the length is, case by case
 
   pub evaluate-infinite : d .infinite ≡ true → evaluate text d ≡ largest (d .negative)

@@ -1,7 +1,7 @@
 -- What the numbers of a text come to in words of 64 bits. Assumes nothing.
 use mathlib.Core.Path.{_≡_}
 use mathlib.Core.Bool.{true}
-use mathlib.Core.List.{List}
+use mathlib.Core.List.{List, [], _∷_}
 use Prim.Native.Nat.{ℕ, _+_, _*_, _-_, _/_, _%_, _^_, _≤_, min}
 use lib.Dec.{ltb}
 use lib.ListN.{length, take}
@@ -21,6 +21,11 @@ use Rattle.value.specs.declared.number.Shifted.the-variants as shifted
 -- a number, if 64 bits hold it
 unfoldable pub as-word : ℕ → Word
 as-word n = if ltb n (2 ^ 64) then Fits n else TooLarge
+
+-- digits summed up after those that spelled n, for as long as a word surely holds one more
+unfoldable pub summed : ℕ → List ℕ → ℕ
+summed n [] = n
+summed n (d ∷ digits) = if ltb n (10 ^ 18) then summed (n * 10 + (d - 48)) digits else n
 
 -- the first digits that there is room for, after those that spelled so-far, and the room left
 unfoldable pub taken : ℕ → ℕ → List ℕ → Taken
@@ -64,3 +69,8 @@ attos-of text d = typed-attos text (d .whole) (d .fract) (up (d .exponent) (d .m
 -- so many attoseconds, if 64 bits hold their seconds
 unfoldable pub shifted-of : ℕ → Shifted
 shifted-of a = if ltb (a / 10 ^ 18) (2 ^ 64) then shifted.Fits (a / 10 ^ 18) (a % 10 ^ 18) else shifted.TooLarge
+
+-- seconds as a word, with the attoseconds behind them
+abbrev pub with-attos : Word → ℕ → Shifted
+with-attos (Fits seconds) attos = shifted.Fits seconds attos
+with-attos TooLarge attos = shifted.TooLarge

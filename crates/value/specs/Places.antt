@@ -4,14 +4,14 @@ use mathlib.Core.Path.{_≡_, refl, ap, ap₂, sym, _∙_}
 use mathlib.Core.Bool.{Bool, true, false}
 use mathlib.Core.List.{List, _++_, append-assoc}
 use Prim.Native.Nat.{ℕ, _+_, _*_, _-_, _/_, _%_, _^_, _≤_, _<_, min}
-use native.Mathlib.Nat.{zero-add, mul-assoc, zero-mul, add-mul, le-refl, le-trans, lt-of-lt-of-le, lt-of-le-of-lt, mul-lt-mul-of-pos-right, div-eq-of-lt, mul-div-cancel, le-mul-of-pos-right, sub-add-eq}
+use native.Mathlib.Nat.{zero-add, mul-assoc, mul-one, zero-mul, add-mul, le-refl, le-trans, lt-of-lt-of-le, mul-lt-mul-of-pos-right, div-eq-of-lt, div-lt-iff-lt-mul, div-one, div-add-mod', mod-lt, mul-div-mul-right, le-mul-of-pos-right, sub-add-eq}
 use native.Mathlib.Omega.{arith}
 use borrow.Author.Tests.{ltb-true, ltb-false, lt-ltb, le-ltb, leb-true, leb-false}
 use lib.Arith.{digits-div, digits-mod}
-use lib.Dec.{leb, ltb, eqb, lit≤}
-use lib.ListN.{length, take, drop, length-append, length-take, length-drop, take-append-drop, drop-of-length-le}
+use lib.Dec.{leb, ltb, eqb, lit<}
+use lib.ListN.{length, getD, take, drop, length-append, length-take, length-drop, take-append-drop, drop-of-length-le}
 use lib.Pow.{pow-add}
-use lib.Seq.{slice, slice-empty, length-slice, take-add, take-all, take-nil}
+use lib.Seq.{slice, slice-empty, slice-cons, length-slice, take-add, take-all, take-append-le, take-nil}
 use Rattle.rules.specs.declared.Whole.{Whole}
 use Rattle.rules.specs.declared.Fract.{Fract}
 use Rattle.rules.specs.Common.{if_then_else_, all, run}
@@ -23,10 +23,9 @@ use Rattle.value.specs.declared.digits.Word.{Word}
 use Rattle.value.specs.declared.digits.Word.the-variants.{Fits, TooLarge}
 use Rattle.value.specs.declared.digits.Taken.{Taken}
 use Rattle.value.specs.declared.number.Cut.{Cut}
-use Rattle.value.specs.declared.number.Shifted.{Shifted}
 use Rattle.value.specs.declared.number.Shifted.the-variants as shifted
-use Rattle.value.specs.Numbers.{as-word, taken, places, whole-size, fract-size, cut-at, Spans, shifted-of, typed-attos}
-use Rattle.value.specs.Digits.{ten-pos, ten-grows, ten-sum, run-passes, run-after-zeros, zeros-first, all-take, all-drop, all-left, all-right, take-both, drop-both, slice-before, slice-after, passes-before, passes-after, cut-within, cut-left, spelled-append, spelled-from, spelled-grows, spelled-below, spelled-in-room}
+use Rattle.value.specs.Numbers.{as-word, summed, taken, places, whole-size, fract-size, cut-at, Spans, shifted-of, with-attos, typed-attos}
+use Rattle.value.specs.Digits.{ten-pos, ten-grows, ten-sum, run-passes, run-after-zeros, zeros-first, all-take, all-drop, all-left, all-right, take-both, drop-both, slice-before, slice-after, passes-before, passes-after, cut-within, cut-left, spelled-append, spelled-from, spelled-grows, spelled-below, spelled-in-room, summed-below, summed-few, summed-many}
 
 -- ---- a number as a word of 64 bits
 
@@ -207,8 +206,8 @@ module _ {text : List ℕ} {whole : Whole} {fract : Fract} (s : Spans text whole
       digits = all-append (is DIGIT) _ _ (passes-after (whole .start) (whole .end) k text at (is DIGIT) whole-digits) fract-digits;
     }
 
-    pub spelled-rest : {first : Taken} → first ≡ taken 0 k (whole-of text whole) → spelled (first .number) (digits-of text (record { start = cut; end = whole .end }) fract) ≡ spelled 0 (digits-of text whole fract)
-    unfolding digits-of taken
+    pub spelled-rest : {first : ℕ} → first ≡ spelled 0 (take k (whole-of text whole)) → spelled first (digits-of text (record { start = cut; end = whole .end }) fract) ≡ spelled 0 (digits-of text whole fract)
+    unfolding digits-of
     spelled-rest e =
         rw (e, ← (slice-after (whole .start) (whole .end) k text at), ← (spelled-append 0 (take k (whole-of text whole)) (drop k (whole-of text whole) ++ fract-of text fract)), ← (append-assoc (take k (whole-of text whole)) (drop k (whole-of text whole)) (fract-of text fract)), take-append-drop k (whole-of text whole))
 
@@ -257,11 +256,6 @@ module _ {text : List ℕ} {whole : Whole} {fract : Fract} (s : Spans text whole
 
 -- ---- a number moved by a power of ten
 
--- seconds as a word, with the attoseconds behind them
-abbrev pub with-attos : Word → ℕ → Shifted
-with-attos (Fits seconds) attos = shifted.Fits seconds attos
-with-attos TooLarge attos = shifted.TooLarge
-
 shifted-word : (a : ℕ) → shifted-of a ≡ with-attos (as-word (a / 10 ^ 18)) (a % 10 ^ 18)
 unfolding as-word shifted-of if_then_else_
 shifted-word a = go (ltb (a / 10 ^ 18) (2 ^ 64))
@@ -275,37 +269,75 @@ pub shifted-is : (seconds : ℕ) {a attos : ℕ} → a ≡ seconds * 10 ^ 18 + a
 shifted-is seconds {a} {attos} sum below e f =
     sym (ap shifted-of sum ∙ shifted-word (seconds * 10 ^ 18 + attos) ∙ ap₂ with-attos (ap as-word (digits-div seconds below) ∙ sym e ∙ f) (digits-mod seconds below))
 
--- with k decimals, of which there are no more than eighteen, nothing is cut off
-pub attos-exact : (n f up down k : ℕ) → f + down ≡ up + k → k ≤ 18 → n * 10 ^ (18 - k) ≡ attos n f up down
-unfolding attos
-attos-exact n f up down k e h =
-    sym (rw (ten-sum (18 - k) (f + down) (18 + up) (omega arith), ← (mul-assoc n (10 ^ (18 - k)) (10 ^ (f + down)))) (mul-div-cancel (n * 10 ^ (18 - k)) (ten-pos (f + down))))
+-- powers of ten that stand on both sides fall away, and if they are all of the lower ones nothing is cut off
+powers-both : (n u d k above below : ℕ) → above ≡ u + k → below ≡ d + k → n * 10 ^ u / 10 ^ d ≡ n * 10 ^ above / 10 ^ below
+powers-both n u d k above below e f = sym (rw (ten-sum u k above e, ten-sum d k below f, ← (mul-assoc n (10 ^ u) (10 ^ k))) (mul-div-mul-right (n * 10 ^ u) (10 ^ d) (ten-pos k)))
 
--- with none, and with as many as stand behind the point
+powers-exact : (n u d above : ℕ) → above ≡ u + d → n * 10 ^ u ≡ n * 10 ^ above / 10 ^ d
+powers-exact n u d above e = sym (div-one (n * 10 ^ u)) ∙ powers-both n u 0 d above d e (sym (zero-add d))
+
+powers-twice : (n a b : ℕ) → n * 10 ^ a * 10 ^ b ≡ n * 10 ^ (a + b)
+powers-twice n a b = mul-assoc n (10 ^ a) (10 ^ b) ∙ ap (λ p. n * p) (sym (pow-add 10 a b))
+
 pub attos-whole : (n f up down : ℕ) → up ≡ f + down → n * 10 ^ 18 ≡ attos n f up down
-attos-whole n f up down e = attos-exact n f up down 0 (omega arith) (omega arith)
+unfolding attos
+attos-whole n f up down e = powers-exact n 18 (f + down) (18 + up) (omega arith)
 
-pub attos-few : (n f up down : ℕ) → up < f + down → f + down - up ≤ 9 → n * 10 ^ (18 - (f + down - up)) ≡ attos n f up down
-attos-few n f up down h few = attos-exact n f up down (f + down - up) (omega arith) (omega arith)
+-- a number that moves by powers of ten either way: zeros are put in, or the last digits are decimals
+module _ (n before after : ℕ) where
+  pub word-raised : after ≤ before → n * 10 ^ (before - after) * 10 ^ 18 ≡ n * 10 ^ (18 + before) / 10 ^ after
+  word-raised h = powers-twice n (before - after) 18 ∙ powers-exact n (before - after + 18) after (18 + before) (omega arith)
 
--- with no more than nine they are whole nanoseconds
-pub nanos-attos : (n k : ℕ) → k ≤ 9 → {nanos : ℕ} → nanos ≡ n * 10 ^ (9 - k) → n * 10 ^ (18 - k) ≡ nanos / 10 ^ 9 * 10 ^ 18 + nanos % 10 ^ 9 * 10 ^ 9
-nanos-attos n k h {nanos} e = rw (ten-sum (9 - k) 9 (18 - k) (omega arith), ← (mul-assoc n (10 ^ (9 - k)) (10 ^ 9)), ← e) (omega arith)
+  pub word-lowered : before ≤ after → n * 10 ^ 18 / 10 ^ (after - before) ≡ n * 10 ^ (18 + before) / 10 ^ after
+  word-lowered h = powers-both n 18 (after - before) before (18 + before) after refl (omega arith)
+
+module _ (n decimals : ℕ) where
+  -- at most eighteen decimals are all attoseconds, and with more there are no seconds
+  module _ (few : decimals ≤ 18) {power zeros : ℕ} (e : power ≡ 10 ^ decimals) (f : zeros ≡ 10 ^ (18 - decimals)) where
+    pub few-sum : n * 10 ^ 18 / 10 ^ decimals ≡ n / power * 10 ^ 18 + n % power * zeros
+    few-sum =
+        sym (powers-exact n (18 - decimals) decimals 18 (omega arith))
+        ∙ ap₂ _*_ (sym (div-add-mod' n power)) (sym f)
+        ∙ add-mul (n / power * power) (n % power) zeros
+        ∙ ap (λ m. m + n % power * zeros) (mul-assoc (n / power) power zeros ∙ ap (λ p. n / power * p) both)
+      where
+        both : power * zeros ≡ 10 ^ 18
+        both = sym (rw (e, f) (ten-sum decimals (18 - decimals) 18 (omega arith)))
+
+    pub few-below : n % power * zeros < 10 ^ 18
+    few-below = rw (e, f, ten-sum decimals (18 - decimals) 18 (omega arith)) (mul-lt-mul-of-pos-right (mod-lt n (ten-pos decimals)) (ten-pos (18 - decimals)))
+
+  module _ (more : 18 < decimals) {power : ℕ} (e : power ≡ 10 ^ (decimals - 18)) where
+    pub more-sum : n * 10 ^ 18 / 10 ^ decimals ≡ 0 * 10 ^ 18 + n / power
+    more-sum = sym (powers-both n 0 (decimals - 18) 18 18 decimals refl (omega arith)) ∙ rw (mul-one n, e) (sym (zero-add _))
+
+    pub more-below : n < 10 ^ 19 → n / power < 10 ^ 18
+    more-below h =
+        rw e
+        (div-lt-iff-lt-mul (ten-pos (decimals - 18)) .1
+        (lt-of-lt-of-le h (rw (← (pow-add 10 18 (decimals - 18))) (ten-grows {i = 19} {j = 18 + (decimals - 18)} (omega arith)))))
+
+    pub more-none : n < 10 ^ 19 → 36 < decimals → n / power ≡ 0
+    more-none h most = rw e (div-eq-of-lt (lt-of-lt-of-le h (ten-grows {i = 19} {j = decimals - 18} (omega arith))))
 
 module _ {text : List ℕ} {whole : Whole} {fract : Fract} (s : Spans text whole fract) where
-  -- nineteen digits fit a word, also if the last are zeros put in
-  pub few-fit : (k : ℕ) → k ≤ 9 → whole-size whole + fract-size fract ≤ 10 + k → spelled 0 (digits-of text whole fract) * 10 ^ (9 - k) < 2 ^ 64
-  few-fit k h few =
-      let count = length (digits-of text whole fract) in
-      let n = spelled-below 0 0 (digits-of text whole fract) (s .digits) (ten-pos 0) in
-      lt-of-lt-of-le (mul-lt-mul-of-pos-right n (ten-pos (9 - k)))
-      (rw (← (ten-sum (0 + count) (9 - k) (0 + count + (9 - k)) refl)) (le-trans (ten-grows {i = 0 + count + (9 - k)} {j = 19} (omega (arith, digits-length s))) (lit≤ tt)))
+  module _ {number : ℕ} (sum : number ≡ summed 0 (digits-of text whole fract)) where
+    pub sum-below : number < 10 ^ 19
+    sum-below = rw sum (summed-below 0 (digits-of text whole fract) (s .digits) (lit< tt))
 
-  pub few-never : (k : ℕ) → k ≤ 9 → whole-size whole + fract-size fract ≤ 10 + k → TooLarge ≡ as-word (spelled 0 (digits-of text whole fract)) → ⊥
-  few-never k h few e =
-      let n = spelled 0 (digits-of text whole fract) in
-      let z : _≡_ {A = ℕ} 0 1 = cc (word-fits (refl {a = n}) (lt-of-le-of-lt (le-mul-of-pos-right n (ten-pos (9 - k))) (few-fit k h few))) in
-      omega arith
+    -- the sum is all digits of few, and the first nineteen of many that start with no `0`
+    pub sum-moved : whole-size whole + fract-size fract ≤ 19 → (up down : ℕ) → number * 10 ^ (18 + up) / 10 ^ (fract-size fract + down) ≡ typed-attos text whole fract up down
+    unfolding attos
+    sum-moved few up down = rw (sum ∙ summed-few (digits-of text whole fract) (s .digits) (omega (arith, digits-length s)))
+
+    pub sum-first : 19 ≤ whole-size whole → (getD text (whole .start) 0 ≡ 48 → ⊥) → number ≡ spelled 0 (take 19 (whole-of text whole))
+    unfolding digits-of
+    sum-first many some =
+        let size = whole-length s in
+        let here : getD (digits-of text whole fract) 0 0 ≡ getD text (whole .start) 0 = rw (slice-cons (whole .start) (whole .end) text 0 (omega arith) (s .whole-ends)) in
+        sum
+        ∙ summed-many (digits-of text whole fract) (s .digits) (omega (arith, digits-length s)) (λ e. some (sym here ∙ e))
+        ∙ rw (take-append-le 19 (whole-of text whole) (fract-of text fract) (omega arith))
 
   module _ (up down : ℕ) {point room : ℕ} (here : point ≡ whole-size whole + up - down) (left : room ≡ 18 - (down - (whole-size whole + up))) where
     -- A of document 01, for a typed number: its places before the point, and eighteen after it, less the zeros that come first

@@ -8,7 +8,7 @@ ghost use lib.Seq.{slice};
 ghost use Rattle.rules.specs.Common.{all, between, run};
 ghost use Rattle.rules.specs.SettingsAndUnitTable.{DIGIT, is};
 ghost use Rattle.rules.specs.Evaluation.{spelled};
-ghost use Rattle.value.specs.Numbers.{as-word, taken};
+ghost use Rattle.value.specs.Numbers.{as-word, summed, taken};
 ghost use Rattle.value.specs.Digits.{last};
 use rules::Fract;
 use rules::Whole;
@@ -21,6 +21,18 @@ pub enum Word {
     TooLarge,
 }
 
+// A number, and where the digits that it was summed up from end.
+pub struct Summed {
+    pub number: u64,
+    pub end: usize,
+}
+
+// The digits before a point, and the number that they were summed up to.
+pub struct SummedWhole {
+    pub whole: Whole,
+    pub number: u64,
+}
+
 // A number of a few digits, and how many more it has room for.
 pub struct Taken {
     pub number: u64,
@@ -31,6 +43,9 @@ pub struct Taken {
 const MOST_TENS: u64 = 1_844_674_407_370_955_161;
 
 const LAST_DIGIT: u64 = 5;
+
+// Below this a u64 has room for one more digit, whatever it is.
+const SURE: u64 = 1_000_000_000_000_000_000;
 
 // The byte `0`.
 const ZERO: u64 = 48;
@@ -70,7 +85,7 @@ fn eight(zeros: bool, text: &[u8], at: usize) -> bool
     eight_digits(text, at)
 }
 
-// Digits, or zeros, passed eight at a time while there are so many: the run goes on from there.
+// Digits, or zeros, passed eight and eight at a time while there are so many: the run goes on from there.
 fn past_eights(zeros: bool, text: &[u8], place: usize) -> usize
     ensures { λ r. ⌜ run (between 48 (last zeros)) (now (text .entry)) r ≡ run (between 48 (last zeros)) (now (text .entry)) place ⌝ }
 {
@@ -78,23 +93,70 @@ fn past_eights(zeros: bool, text: &[u8], place: usize) -> usize
         return place;
     }
     let mut next = place;
-    while text.len() - next >= 8 {
+    while text.len() - next >= 16 {
         if !eight(zeros, text, next) {
             return next;
         }
-        next += 8;
+        if !eight(zeros, text, next + 8) {
+            return next + 8;
+        }
+        next += 16;
     }
     next
 }
 
-// Leading zeros spell nothing: the number starts after them, and the digits go on from there.
-pub fn parse_digits_strip_zeros(text: &[u8], place: usize) -> Whole
-    ensures { λ r. ⌜ r ≡ record { start = run (eqb 48) (now (text .entry)) place; end = run (is DIGIT) (now (text .entry)) place } ⌝ }
+// The digits from a place on, summed up after those that spelled so_far for as long as a word surely holds one more, so that
+// no digit is read twice; those after them are only passed.
+pub fn sum_digits(so_far: u64, text: &[u8], place: usize) -> Summed
+    ensures { λ r. ⌜ (r .end ≡ run (is DIGIT) (now (text .entry)) place) × (r .number ≡ summed «so_far» (slice place (r .end) (now (text .entry)))) ⌝ }
 {
-    let start = past(text, past_eights(true, text, place), b'0', b'0');
-    Whole {
-        start,
-        end: past(text, past_eights(false, text, start), b'0', b'9'),
+    let mut number = so_far;
+    let mut next = place;
+    while next < text.len() {
+        let byte = text[next];
+        if byte < b'0' {
+            return Summed { number, end: next };
+        }
+        if b'9' < byte {
+            return Summed { number, end: next };
+        }
+        if SURE <= number {
+            return Summed {
+                number,
+                end: past(text, past_eights(false, text, next), b'0', b'9'),
+            };
+        }
+        number = number * 10 + (wide(byte) - ZERO);
+        next += 1;
+    }
+    Summed { number, end: next }
+}
+
+// The place after the zeros that stand at the place and after it. Most numbers start with none.
+fn past_zeros(text: &[u8], place: usize) -> usize
+    ensures { λ r. ⌜ r ≡ run (eqb 48) (now (text .entry)) place ⌝ }
+{
+    if text.len() <= place {
+        return place;
+    }
+    if text[place] != b'0' {
+        return place;
+    }
+    past(text, past_eights(true, text, place), b'0', b'0')
+}
+
+// Leading zeros spell nothing: the number starts after them, and the digits go on from there.
+pub fn parse_digits_strip_zeros(text: &[u8], place: usize) -> SummedWhole
+    ensures { λ r. ⌜ (r .whole ≡ record { start = run (eqb 48) (now (text .entry)) place; end = run (is DIGIT) (now (text .entry)) place }) × (r .number ≡ summed 0 (slice (r .whole .start) (r .whole .end) (now (text .entry)))) ⌝ }
+{
+    let start = past_zeros(text, place);
+    let digits = sum_digits(0, text, start);
+    SummedWhole {
+        whole: Whole {
+            start,
+            end: digits.end,
+        },
+        number: digits.number,
     }
 }
 

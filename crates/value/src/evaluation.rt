@@ -1,7 +1,7 @@
 // From what was typed to a length: the number moved by its powers of ten, multiplied and rounded down.
 ghost use mathlib.Core.Path.{_≡_};
-ghost use Rattle.rules.specs.Evaluation.{evaluate};
-ghost use Rattle.value.specs.Numbers.{Spans, attos-of, shifted-of};
+ghost use Rattle.rules.specs.Evaluation.{digits-of, evaluate};
+ghost use Rattle.value.specs.Numbers.{Spans, attos-of, shifted-of, summed};
 use crate::number::Shifted;
 use crate::number::shift_number;
 use lengths::duration::calculate_duration;
@@ -10,25 +10,29 @@ use lengths::duration::zero;
 use rules::DurationRepr;
 use rules::Length;
 
-// The typed number times its powers of ten, those of the unit and the typed one.
-fn shift_typed(text: &[u8], d: DurationRepr) -> Shifted
+// The typed number times its powers of ten, those of the unit and the typed one. Most numbers have no exponent.
+fn shift_typed(text: &[u8], d: DurationRepr, number: u64) -> Shifted
     requires { ⌜ Spans (now text) (d .whole) (d .fract) ⌝ }
+    requires { ⌜ number ≡ summed 0 (digits-of (now text) (d .whole) (d .fract)) ⌝ }
     ensures { λ r. ⌜ r ≡ shifted-of (attos-of (now (text .entry)) d) ⌝ }
 {
     let mut up = d.multiplier.up as u32;
     let mut down = d.multiplier.down as u32;
     let typed = d.exponent.power as u32;
-    if d.exponent.negative {
-        down += typed;
-    } else {
-        up += typed;
+    if 0 < typed {
+        if d.exponent.negative {
+            down += typed;
+        } else {
+            up += typed;
+        }
     }
-    shift_number(text, d.whole, d.fract, up, down)
+    shift_number(text, d.whole, d.fract, number, up, down)
 }
 
 // A coefficient of zero makes any number zero, also one that is too large.
-pub fn evaluate(text: &[u8], d: DurationRepr) -> Length
+pub fn evaluate(text: &[u8], d: DurationRepr, number: u64) -> Length
     requires { ⌜ Spans (now text) (d .whole) (d .fract) ⌝ }
+    requires { ⌜ number ≡ summed 0 (digits-of (now text) (d .whole) (d .fract)) ⌝ }
     ensures { λ r. ⌜ r ≡ evaluate (now (text .entry)) d ⌝ }
 {
     if d.infinite {
@@ -39,7 +43,7 @@ pub fn evaluate(text: &[u8], d: DurationRepr) -> Length
         return zero();
     }
     let negative = d.negative != d.multiplier.negative;
-    let Shifted::Fits { seconds, attos } = shift_typed(text, d) else {
+    let Shifted::Fits { seconds, attos } = shift_typed(text, d, number) else {
         return largest(negative);
     };
     calculate_duration(negative, seconds, attos, coefficient)

@@ -1,9 +1,9 @@
 // A typed number moved by a power of ten, as seconds and attoseconds. Digits move across the point and zeros are put in or
 // cut off, so that no number on the way is wider than 64 bits.
 ghost use mathlib.Core.Path.{_≡_};
-ghost use Prim.Native.Nat.{_+_, _-_, _*_, _≤_, _^_};
+ghost use Prim.Native.Nat.{_+_, _-_, _*_, _/_, _≤_, _<_, _^_};
 ghost use Rattle.rules.specs.Evaluation.{spelled, digits-of, attos};
-ghost use Rattle.value.specs.Numbers.{Spans, as-word, cut-at, places, shifted-of, whole-size, fract-size};
+ghost use Rattle.value.specs.Numbers.{Spans, as-word, cut-at, places, shifted-of, summed, with-attos};
 use crate::digits::Word;
 use crate::digits::append_digits;
 use crate::digits::place_within;
@@ -28,10 +28,8 @@ struct Cut {
 // How many decimals a number keeps.
 const DECIMALS: usize = 18;
 
-// How many decimals nanoseconds have, and how many digits may stand before those for MOST_DIGITS in all.
-const NANO_DECIMALS: usize = 9;
-
-const WHOLE_DIGITS: usize = 10;
+// With more decimals nothing is left of MOST_DIGITS digits.
+const MOST_DECIMALS: usize = 36;
 
 // The largest power of ten that a u64 holds.
 const MOST_ZEROS: usize = 19;
@@ -39,14 +37,7 @@ const MOST_ZEROS: usize = 19;
 // As many digits a u64 holds whatever they are.
 const MOST_DIGITS: usize = 19;
 
-// Up to here it costs less to test each digit than to go through the first ones apart.
-const FEW_DIGITS: usize = 8;
-
 const LARGEST: u64 = 18_446_744_073_709_551_615;
-
-const NANOS_PER_SEC: u64 = 1_000_000_000;
-
-const ATTOS_PER_NANO: u64 = 1_000_000_000;
 
 // Zero with zeros put in is zero, however many; any other number is tested before it is multiplied. Most numbers take no
 // zeros, and are spared the division.
@@ -104,20 +95,24 @@ fn typed_digits(so_far: u64, text: &[u8], whole: Whole, fract: Fract) -> Word
     append_digits(front, text, fract.start, fract.end)
 }
 
-// The same of a number that may have many digits, of which the first fit untested.
-fn whole_digits(text: &[u8], whole: Whole, fract: Fract) -> Word
+// The same of a number that may have many digits. The sum of those that start with no `0` stops at the nineteenth, and what is
+// left goes on from there.
+fn whole_digits(text: &[u8], whole: Whole, fract: Fract, number: u64) -> Word
     requires { ⌜ Spans (now text) whole fract ⌝ }
+    requires { ⌜ number ≡ summed 0 (digits-of (now text) whole fract) ⌝ }
     ensures { λ r. ⌜ r ≡ as-word (spelled 0 (digits-of (now (text .entry)) whole fract)) ⌝ }
 {
-    if whole.end - whole.start <= FEW_DIGITS {
-        return typed_digits(0, text, whole, fract);
+    let start = whole.start;
+    if whole.end - start >= MOST_DIGITS {
+        if text[start] != b'0' {
+            let rest = Whole {
+                start: start + MOST_DIGITS,
+                end: whole.end,
+            };
+            return typed_digits(number, text, rest, fract);
+        }
     }
-    let first = take_digits(0, MOST_DIGITS, text, whole.start, whole.end);
-    let rest = Whole {
-        start: place_within(whole.start, whole.end, MOST_DIGITS),
-        end: whole.end,
-    };
-    typed_digits(first.number, text, rest, fract)
+    typed_digits(0, text, whole, fract)
 }
 
 // The digits before a point, and zeros.
@@ -183,52 +178,88 @@ fn shift_large(text: &[u8], whole: Whole, fract: Fract, up: u32, down: u32) -> S
     }
 }
 
-// A number with no decimals.
-fn shift_whole(text: &[u8], whole: Whole, fract: Fract) -> Shifted
-    requires { ⌜ Spans (now text) whole fract ⌝ }
-    ensures { λ r. ⌜ r ≡ shifted-of (spelled 0 (digits-of (now (text .entry)) whole fract) * 10 ^ 18) ⌝ }
+// A number with no decimals, if its seconds fit.
+fn seconds_alone(word: Word) -> Shifted
+    ensures { λ r. ⌜ r ≡ with-attos word 0 ⌝ }
 {
-    let Word::Fits(seconds) = whole_digits(text, whole, fract) else {
+    let Word::Fits(seconds) = word else {
         return Shifted::TooLarge;
     };
     Shifted::Fits { seconds, attos: 0 }
 }
 
-// A number with at most nine decimals, of so few digits that a word holds its nanoseconds. The index of the power is known
-// to be at most 9, so that the compiler puts no larger powers on the stack.
-fn shift_few(text: &[u8], whole: Whole, fract: Fract, decimals: usize) -> Shifted
+// A number of which all digits are seconds.
+fn shift_whole(text: &[u8], whole: Whole, fract: Fract, number: u64) -> Shifted
     requires { ⌜ Spans (now text) whole fract ⌝ }
-    requires { ⌜ (decimals ≤ 9) × (whole-size whole + fract-size fract ≤ 10 + decimals) ⌝ }
-    ensures { λ r. ⌜ r ≡ shifted-of (spelled 0 (digits-of (now (text .entry)) whole fract) * 10 ^ (18 - decimals)) ⌝ }
+    requires { ⌜ number ≡ summed 0 (digits-of (now text) whole fract) ⌝ }
+    ensures { λ r. ⌜ r ≡ shifted-of (spelled 0 (digits-of (now (text .entry)) whole fract) * 10 ^ 18) ⌝ }
 {
-    let Word::Fits(number) = typed_digits(0, text, whole, fract) else {
-        return Shifted::TooLarge;
-    };
-    let nanos = number * pow10(NANO_DECIMALS - decimals);
+    seconds_alone(whole_digits(text, whole, fract, number))
+}
+
+// A number with zeros put in.
+fn raise(number: u64, zeros: usize) -> Shifted
+    ensures { λ r. ⌜ r ≡ shifted-of (number * 10 ^ zeros * 10 ^ 18) ⌝ }
+{
+    seconds_alone(put_zeros(number, zeros))
+}
+
+// A number of which the last digits are decimals. Beyond eighteen of them there are no seconds, and the last are cut off.
+fn lower(number: u64, decimals: usize) -> Shifted
+    requires { ⌜ number < 10 ^ 19 ⌝ }
+    ensures { λ r. ⌜ r ≡ shifted-of (number * 10 ^ 18 / 10 ^ decimals) ⌝ }
+{
+    if decimals <= DECIMALS {
+        let power = pow10(decimals);
+        return Shifted::Fits {
+            seconds: number / power,
+            attos: number % power * pow10(DECIMALS - decimals),
+        };
+    }
+    if decimals <= MOST_DECIMALS {
+        return Shifted::Fits {
+            seconds: 0,
+            attos: number / pow10(decimals - DECIMALS),
+        };
+    }
     Shifted::Fits {
-        seconds: nanos / NANOS_PER_SEC,
-        attos: nanos % NANOS_PER_SEC * ATTOS_PER_NANO,
+        seconds: 0,
+        attos: 0,
     }
 }
 
-// The typed number times ten to the power up - down. Most numbers have no decimals left, or few digits.
-pub fn shift_number(text: &[u8], whole: Whole, fract: Fract, up: u32, down: u32) -> Shifted
+// A number that fits moves by word arithmetic, either way.
+fn shift_word(number: u64, before: usize, after: usize) -> Shifted
+    requires { ⌜ number < 10 ^ 19 ⌝ }
+    ensures { λ r. ⌜ r ≡ shifted-of (number * 10 ^ (18 + before) / 10 ^ after) ⌝ }
+{
+    if before < after {
+        return lower(number, after - before);
+    }
+    raise(number, before - after)
+}
+
+// The typed number times ten to the power up - down. Most numbers have few digits, and then their sum is all of them.
+pub fn shift_number(
+    text: &[u8],
+    whole: Whole,
+    fract: Fract,
+    number: u64,
+    up: u32,
+    down: u32,
+) -> Shifted
     requires { ⌜ Spans (now text) whole fract ⌝ }
+    requires { ⌜ number ≡ summed 0 (digits-of (now text) whole fract) ⌝ }
     ensures { λ r. ⌜ r ≡ shifted-of (attos (spelled 0 (digits-of (now (text .entry)) whole fract)) (fract .end - fract .start) up down) ⌝ }
 {
     let behind = fract.end - fract.start;
     let before = up as usize;
     let after = behind + down as usize;
-    if before == after {
-        return shift_whole(text, whole, fract);
+    if whole.end - whole.start + behind <= MOST_DIGITS {
+        return shift_word(number, before, after);
     }
-    if before < after {
-        let decimals = after - before;
-        if decimals <= NANO_DECIMALS {
-            if whole.end - whole.start + behind <= WHOLE_DIGITS + decimals {
-                return shift_few(text, whole, fract, decimals);
-            }
-        }
+    if before == after {
+        return shift_whole(text, whole, fract, number);
     }
     shift_large(text, whole, fract, up, down)
 }

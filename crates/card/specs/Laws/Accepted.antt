@@ -16,12 +16,13 @@ use Rattle.rules.specs.declared.Found.{Found}
 use Rattle.rules.specs.declared.Found.the-variants.{Row, Nowhere}
 use Rattle.rules.specs.Common.{if_then_else_, same}
 use Rattle.rules.specs.NumbersHandedBack.{Outcome, got, refused}
-use Rattle.rules.specs.SettingsAndUnitTable.{settings-check, most-rows, row-size, rows, row, name, product, in-range, named, row-right, row-accepted, rows-check, table-check, card-check, lookup-from, lookup}
+use Rattle.rules.specs.SettingsAndUnitTable.{settings-check, most-rows, row-size, name-room, rows, row, name-size, name, product, in-range, named, row-right, row-accepted, rows-check, table-check, card-check, lookup-from, lookup}
 use Rattle.rules.specs.Laws.Choices.{if-either, and-right, or-neither}
-use Rattle.settings.specs.Laws.Accepted.{not-refused, passed, passed-both}
+use Rattle.rules.specs.Laws.Outcomes.{not-got}
+use Rattle.settings.specs.Laws.Accepted.{passed, passed-both}
 use Rattle.rows.specs.Laws.Lookup.{same-refl, same-equal, rest-of-lookup, lookup-start, lookup-here, lookup-next}
 use Rattle.rows.specs.Laws.Rows.{length-row}
-use Rattle.card.specs.Laws.Names.{name-some}
+use Rattle.card.specs.Laws.Names.{size-most, name-some}
 use Rattle.card.specs.Laws.Table.{row-both, right-padded, right-unnamed, right-in-range}
 
 pub card-settings : (s : Settings) (table : List ℕ) → card-check s table ≡ got tt → settings-check s ≡ got tt
@@ -37,7 +38,7 @@ card-table s table e = passed-both (settings-check s) (table-check s table) e .1
 chosen : (i : ℕ) (test : Bool) (more : Outcome (Unit {0})) → (if test then more else refused (BadRow i)) ≡ got tt → (test ≡ true) × (more ≡ got tt)
 unfolding if_then_else_
 chosen i true more e = (refl, e)
-chosen i false more e = absurd (not-refused (BadRow i) e)
+chosen i false more e = absurd (not-got (BadRow i) e)
 
 rows-good : (s : Settings) (table : List ℕ) (n i k : ℕ) → rows-check s table i n ≡ got tt → k < n → row-accepted s table (i + k) ≡ true
 unfolding rows-check
@@ -60,6 +61,10 @@ module _ (s : Settings) (table : List ℕ) (good : table-check s table ≡ got t
   -- so each passes document 01's tests
   pub rows-right : (i : ℕ) → i < rows table → row-right s table i ≡ true
   rows-right i below = row-both s table i (row-good i below) .0
+
+  -- a row has room for its name
+  pub row-sized : (i : ℕ) → i < rows table → name-size (row table i) ≤ name-room
+  row-sized i below = size-most (row table i) (length-row table i below) (right-padded s table i (rows-right i below))
 
   -- the bound that evaluation needs
   pub row-in-range : (i : ℕ) → i < rows table → in-range (product (row table i)) ≡ true

@@ -22,6 +22,7 @@ use Rattle.rules.specs.Laws.Lists.{Bytes, all-both, all-alike}
 use Rattle.card.specs.Laws.Unnameable.{outside-names}
 use Rattle.settings.specs.Laws.Sets.{runs, agree}
 use Rattle.rows.specs.Laws.Lookup.{same-refl, same-equal}
+use Rattle.rows.specs.Laws.Rows.{name-length}
 use Rattle.words.specs.LowFirst.{bytes-part}
 
 -- ---- numbers of as many bytes are the same only if the bytes are
@@ -58,9 +59,8 @@ module _ (r : List ℕ) (long : length r ≡ row-size) (p : padded r ≡ true) w
   unfolding padded between
   size-most = leb-true (name-size r) name-room (and-right (leb 1 (name-size r)) (leb (name-size r) name-room) (and-left (between 1 name-room (name-size r)) (all (eqb 0) (after-name r)) p))
 
-  pub name-length : length (name r) ≡ name-size r
-  unfolding name
-  name-length = simp (length-take, length-drop) (omega (arith, size-most))
+  pub name-bytes : length (name r) ≡ name-size r
+  name-bytes = name-length r long size-most
 
   -- a name has at least one byte
   size-least : 1 ≤ name-size r
@@ -68,7 +68,7 @@ module _ (r : List ℕ) (long : length r ≡ row-size) (p : padded r ≡ true) w
   size-least = between-from 1 name-room (name-size r) (and-left _ (all (eqb 0) (after-name r)) p)
 
   pub name-some : name r ≡ [] → ⊥
-  name-some e = omega (arith, size-least, name-length, ap length e)
+  name-some e = omega (arith, size-least, name-bytes, ap length e)
 
   -- the first stands after the size
   pub name-starts : (test : ℕ → Bool) → starts test (name r) ≡ test (getD r name-at 0)
@@ -113,7 +113,7 @@ module _ (r : List ℕ) (long : length r ≡ row-size) where
 module _ (r q : List ℕ) (r-long : length r ≡ row-size) (q-long : length q ≡ row-size) (r-padded : padded r ≡ true) (q-padded : padded q ≡ true) where
   same-room : name r ≡ name q → (name-size r ≡ name-size q) × (take name-room (drop 1 r) ≡ take name-room (drop 1 q))
   same-room e =
-      let sizes : name-size r ≡ name-size q = cc (name-length r r-long r-padded, name-length q q-long q-padded) in
+      let sizes : name-size r ≡ name-size q = cc (name-bytes r r-long r-padded, name-bytes q q-long q-padded) in
       (sizes, cc (room-name r r-long r-padded, room-name q q-long q-padded))
 
   same-name : name-size r ≡ name-size q → take name-room (drop 1 r) ≡ take name-room (drop 1 q) → name r ≡ name q

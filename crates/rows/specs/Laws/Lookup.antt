@@ -73,6 +73,6 @@ module _ (table wanted : List ℕ) where
       let counted : rows table - i ≡ suc (rows table - (i + 1)) = omega arith in
       rw (counted, e, add-one i)
 
--- what a row's name was asked, in terms of the table
-pub name-asked : (table wanted : List ℕ) (i : ℕ) {part found : List ℕ} {r : Bool} → part ≡ row table i → found ≡ name part → r ≡ same found wanted → r ≡ same (name (row table i)) wanted
-name-asked table wanted i e f h = h ∙ ap (λ (l : List ℕ). same l wanted) (f ∙ ap name e)
+-- names of other sizes differ
+pub other-size : (a b : List ℕ) → (length a ≡ length b → ⊥) → same a b ≡ false
+other-size a b h = not-same a b (λ e. h (ap length e))

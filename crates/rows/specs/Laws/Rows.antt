@@ -10,7 +10,7 @@ use lib.Dec.{leb, ltb, lit<}
 use borrow.Author.Tests.{le-leb, lt-leb, leb-true, leb-false, ltb-true, lt-ltb}
 use Rattle.rules.specs.declared.Multiplier.{Multiplier}
 use Rattle.rules.specs.Common.{if_then_else_, all}
-use Rattle.rules.specs.SettingsAndUnitTable.{coefficient-size, coefficient-field, power-size, row-size, rows, row, kind, power-field, below-zero, magnitude, kind-coefficients, kind-downs, kind-multiplier, row-multiplier, times, product, in-range}
+use Rattle.rules.specs.SettingsAndUnitTable.{coefficient-size, coefficient-field, power-size, row-size, name-room, rows, row, name-size, name, kind, power-field, below-zero, magnitude, kind-coefficients, kind-downs, kind-multiplier, row-multiplier, times, product, in-range}
 use Rattle.rules.specs.Laws.Choices.{if-either, and-left, and-right}
 use Rattle.rules.specs.Laws.Tests.{and-true, same-test}
 use Rattle.rules.specs.Laws.Lists.{all-at}
@@ -162,3 +162,8 @@ in-range-bounds m e =
       leb-true (m .up) (m .down + 32767) (and-right first second both),
       leb-true (m .down) (m .up + 32768) (and-right (first && second) third e),
     )
+
+-- a name for which a row has room has as many bytes as the row says
+pub name-length : (r : List ℕ) → length r ≡ row-size → name-size r ≤ name-room → length (name r) ≡ name-size r
+unfolding name
+name-length r long most = simp (length-take, length-drop) (omega arith)

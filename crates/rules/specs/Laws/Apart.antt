@@ -7,30 +7,38 @@ use native.Mathlib.Nat.{mul-zero, mul-add, mul-assoc}
 use native.Mathlib.Omega.{arith}
 use lib.Dec.{leb, ltb, eqb}
 use lib.Arith.{digits-lt, digits-div, digits-mod}
-use borrow.Author.Tests.{ltb-true, ltb-false, lt-ltb, le-ltb, leb-true, le-leb, lt-leb, eq-eqb, ne-eqb}
+use borrow.Author.Tests.{ltb-true, ltb-false, lt-ltb, le-ltb, leb-true, le-leb, lt-leb, eqb-true, eq-eqb, ne-eqb, not-true}
 use Rattle.rules.specs.declared.Length.{Length}
 use Rattle.rules.specs.Common.{if_then_else_}
 use Rattle.rules.specs.ThePartOfTheCrateWeTake.{zero-length, size, well-formed}
 use Rattle.rules.specs.Evaluation.{nanos, length-of, sum}
 use Rattle.rules.specs.Laws.Choices.{and-left, and-right}
 use Rattle.rules.specs.Laws.Lengths.{limit}
-use Rattle.rules.specs.Laws.Tests.{and-false, same-test}
+use Rattle.rules.specs.Laws.Tests.{and-true, and-false, same-test}
 
 -- no nanoseconds are zero, with a plus
 pub none : (negative : Bool) → length-of negative 0 ≡ zero-length
 unfolding length-of if_then_else_
 none negative = refl
 
--- any other number below the limit is its seconds and its nanoseconds
-pub apart : (negative : Bool) (seconds nanoseconds : ℕ) → seconds < 2 ^ 64 → nanoseconds < 10 ^ 9 → (seconds * 10 ^ 9 + nanoseconds ≡ 0 → ⊥) → length-of negative (seconds * 10 ^ 9 + nanoseconds) ≡ record { negative = negative; seconds = seconds; nanoseconds = nanoseconds }
-unfolding length-of if_then_else_
-apart negative seconds nanoseconds hs hn some =
-    rw (
-      ne-eqb (seconds * 10 ^ 9 + nanoseconds) 0 some,
-      lt-leb limit (seconds * 10 ^ 9 + nanoseconds) (digits-lt hs hn),
-      digits-div seconds hn,
-      digits-mod seconds hn,
-    )
+-- a number below the limit is its seconds and its nanoseconds, with a sign that is plus for zero
+pub apart : (negative : Bool) (seconds nanoseconds : ℕ) → seconds < 2 ^ 64 → nanoseconds < 10 ^ 9 → (seconds * 10 ^ 9 + nanoseconds ≡ 0 → negative ≡ false) → length-of negative (seconds * 10 ^ 9 + nanoseconds) ≡ record { negative = negative; seconds = seconds; nanoseconds = nanoseconds }
+unfolding length-of if_then_else_ zero-length
+apart negative seconds nanoseconds hs hn plus = go (eqb (seconds * 10 ^ 9 + nanoseconds) 0) refl
+  where
+    go : (b : Bool) → eqb (seconds * 10 ^ 9 + nanoseconds) 0 ≡ b → length-of negative (seconds * 10 ^ 9 + nanoseconds) ≡ record { negative = negative; seconds = seconds; nanoseconds = nanoseconds }
+    go true e =
+        let nothing = eqb-true (seconds * 10 ^ 9 + nanoseconds) 0 e in
+        let no-seconds : seconds ≡ 0 = omega arith in
+        let no-nanoseconds : nanoseconds ≡ 0 = omega arith in
+        rw (plus nothing, no-seconds, no-nanoseconds)
+    go false e =
+        rw (
+          e,
+          lt-leb limit (seconds * 10 ^ 9 + nanoseconds) (digits-lt hs hn),
+          digits-div seconds hn,
+          digits-mod seconds hn,
+        )
 
 -- the coefficient multiplies the seconds and the attoseconds; only the attoseconds have anything to cut
 pub nanos-apart : (c s a : ℕ) → nanos c (s * 10 ^ 18 + a) ≡ (c * s + c * a / 10 ^ 9 / 10 ^ 9) * 10 ^ 9 + c * a / 10 ^ 9 % 10 ^ 9
@@ -51,11 +59,28 @@ nanos-none a = omega arith
 
 -- ---- a length and its parts
 
-pub proper : (l : Length) → well-formed l ≡ true → l .nanoseconds < 10 ^ 9
-unfolding well-formed
-proper l h =
-    ltb-true (l .nanoseconds) (10 ^ 9)
-    (and-right (ltb (l .seconds) (2 ^ 64)) (ltb (l .nanoseconds) (10 ^ 9)) (and-left _ (not (l .negative && eqb (size l) 0)) h))
+-- what well formed says of each
+module _ (l : Length) (well : well-formed l ≡ true) where
+  in-range : (ltb (l .seconds) (2 ^ 64) && ltb (l .nanoseconds) (10 ^ 9)) ≡ true
+  unfolding well-formed
+  in-range = and-left _ (not (l .negative && eqb (size l) 0)) well
+
+  pub few-seconds : l .seconds < 2 ^ 64
+  few-seconds = ltb-true (l .seconds) (2 ^ 64) (and-left _ (ltb (l .nanoseconds) (10 ^ 9)) in-range)
+
+  pub proper : l .nanoseconds < 10 ^ 9
+  proper = ltb-true (l .nanoseconds) (10 ^ 9) (and-right (ltb (l .seconds) (2 ^ 64)) _ in-range)
+
+  pub zero-plus : size l ≡ 0 → l .negative ≡ false
+  unfolding well-formed
+  zero-plus e =
+      not-true (l .negative)
+      (rw (eq-eqb (size l) 0 e, and-true) at (and-right (ltb (l .seconds) (2 ^ 64) && ltb (l .nanoseconds) (10 ^ 9)) (not (l .negative && eqb (size l) 0)) well))
+
+  -- it is what its sign and its nanoseconds come to
+  pub length-of-size : length-of (l .negative) (size l) ≡ l
+  unfolding size
+  length-of-size = apart (l .negative) (l .seconds) (l .nanoseconds) few-seconds proper zero-plus
 
 -- a record is well formed by its nanoseconds, and by its sign where it may be zero
 pub nanoseconds-over : (l : Length) → 10 ^ 9 ≤ l .nanoseconds → false ≡ well-formed l

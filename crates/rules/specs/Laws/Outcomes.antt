@@ -1,6 +1,6 @@
 -- Laws of outcomes: what holds of whatever an outcome got, or was refused with, and outcomes of which the places are moved. Assumes nothing.
-use mathlib.Core.Path.{_≡_, refl, ap}
-use mathlib.Core.Bool.{Bool, true, false}
+use mathlib.Core.Path.{_≡_, refl, sym, ap, _∙_}
+use mathlib.Core.Bool.{Bool, true, false, false≢true}
 use Prim.Native.Nat.{ℕ, _+_}
 use Rattle.rules.specs.declared.Refusal.{Refusal}
 use Rattle.rules.specs.declared.Refusal.the-variants.{Nothing, SignEnds, DelimiterEnds, FractionOff, FractionEmpty, ExponentOff, ExponentByte, ExponentEnds, ExponentAbove, ExponentBelow, InfinityByte, InfinityEnds, InfinityGoesOn, ConjunctionEnds, ConjunctionGoesOn, NegativeForbidden, NoNumber, Delimiters, Conjunctions, DefaultKind, TableSize, BadRow, TextTooLong, NoRoom, Beyond, Malformed, NotIso, YearOrMonth, TooLarge}
@@ -48,6 +48,16 @@ pub always : {A : Type 0} (m : Outcome A) → All (λ _. Unit {0}) m
 always (got a) = all-got tt
 always (refused cause) = all-refused
 
+-- ---- nothing is both got and refused
+
+is-got : {A : Type 0} → Outcome A → Bool
+is-got (got a) = true
+is-got (refused cause) = false
+
+pub not-got : {A : Type 0} (cause : Refusal) {a : A} → _≡_ {A = Outcome A} (refused cause) (got a) → ⊥
+unfolding is-got
+not-got cause e = false≢true (ap is-got e)
+
 -- ---- what follows what was got, and a refusal
 
 module _ {A B : Type 0} {m : Outcome A} (next : A → Outcome B) where
@@ -58,6 +68,31 @@ module _ {A B : Type 0} {m : Outcome A} (next : A → Outcome B) where
   pub bind-refused : {cause : Refusal} → m ≡ refused cause → (m >>= next) ≡ refused cause
   unfolding _>>=_
   bind-refused e = rw e
+
+-- ---- what is made of whatever was got
+
+what : {B : Type 0} → B → Outcome B → B
+what other (got b) = b
+what other (refused cause) = other
+
+why : {B : Type 0} → Refusal → Outcome B → Refusal
+why other (got b) = other
+why other (refused cause) = cause
+
+module _ {A B : Type 0} (make : A → B) (back : B → A) (there : (a : A) → back (make a) ≡ a) where
+  -- tells what it was made of
+  pub made-got : (m : Outcome A) {b : B} → (m >>= λ a. got (make a)) ≡ got b → (m ≡ got (back b)) × (b ≡ make (back b))
+  unfolding _>>=_ what
+  made-got (got a) {b = b} e =
+      let made : make a ≡ b = ap (what (make a)) e in
+      let of-it : a ≡ back b = sym (there a) ∙ ap back made in
+      (ap got of-it, sym made ∙ ap make of-it)
+  made-got (refused cause) e = absurd (not-got cause e)
+
+  pub made-refused : (m : Outcome A) {cause : Refusal} → (m >>= λ a. got (make a)) ≡ refused cause → m ≡ refused cause
+  unfolding _>>=_ why
+  made-refused (got a) {cause = cause} e = absurd (not-got cause (sym e))
+  made-refused (refused first) e = ap refused (ap (why first) e)
 
 -- two ways to go on agree on whatever was got
 pub bind-same : {A B : Type 0} {P : A → Type 0} {m : Outcome A} {f g : A → Outcome B} → All P m → ((a : A) → P a → f a ≡ g a) → (m >>= f) ≡ (m >>= g)

@@ -1,5 +1,5 @@
 -- What accepted settings have: delimiters of one class, conjunctions of letters and a default kind within their limits. Assumes nothing.
-use mathlib.Core.Path.{_≡_, refl, ap}
+use mathlib.Core.Path.{_≡_, refl}
 use mathlib.Core.Bool.{Bool, true, false, not, _||_, false≢true}
 use Prim.Native.Nat.{ℕ, _≤_, _<_}
 use lib.Dec.{eqb, leb, ltb}
@@ -15,32 +15,25 @@ use Rattle.rules.specs.NumbersHandedBack.{Outcome, got, refused, _>>_, unless}
 use Rattle.rules.specs.SettingsAndUnitTable.{LETTER, OTHER, class, letters-of, is, holds, may-delimit, delimits, delimiters-accepted, conjunction-accepted, conjunctions-accepted, conjunctions-of, most-conjunctions, most-letters, last-kind, settings-check}
 use Rattle.rules.specs.Laws.Choices.{and-left, and-right}
 use Rattle.rules.specs.Laws.Tests.{between-from, between-to}
+use Rattle.rules.specs.Laws.Outcomes.{not-got}
 use Rattle.rules.specs.Laws.Lists.{all-index, runs-below}
 
 -- ---- checks one after another
 
-is-got : Outcome (Unit {0}) → Bool
-is-got (got x) = true
-is-got (refused cause) = false
-
-pub not-refused : (cause : Refusal) → _≡_ {A = Outcome (Unit {0})} (refused cause) (got tt) → ⊥
-unfolding is-got
-not-refused cause e = false≢true (ap is-got e)
-
 pub passed : (cause : Refusal) (test : Bool) (more : Outcome (Unit {0})) → (unless cause test >> more) ≡ got tt → (test ≡ true) × (more ≡ got tt)
 unfolding unless _>>_
 passed cause true more e = (refl, e)
-passed cause false more e = absurd (not-refused cause e)
+passed cause false more e = absurd (not-got cause e)
 
 pub passed-both : (first second : Outcome (Unit {0})) → (first >> second) ≡ got tt → (first ≡ got tt) × (second ≡ got tt)
 unfolding _>>_
 passed-both (got x) second e = (refl, e)
-passed-both (refused cause) second e = absurd (not-refused cause e)
+passed-both (refused cause) second e = absurd (not-got cause e)
 
 pub passed-last : (cause : Refusal) (test : Bool) → unless cause test ≡ got tt → test ≡ true
 unfolding unless
 passed-last cause true e = refl
-passed-last cause false e = absurd (not-refused cause e)
+passed-last cause false e = absurd (not-got cause e)
 
 -- ---- settings
 

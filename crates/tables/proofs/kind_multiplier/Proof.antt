@@ -1,18 +1,54 @@
--- `tables::kind_multiplier` meets its contract: coefficient and power are those of the kind. Assumes nothing.
-use Rattle.rules.specs.SettingsAndUnitTable.{kind-multiplier}
-use borrow.Author.Needs.{needs}
+-- `tables::kind_multiplier` meets its contract: an arm reads the entries of its kind, and beyond the tables there is nothing.
+-- Assumes nothing.
+use lib.Dec.{lit<}
+use lib.ListN.{List·getD-eq-default}
+use Rattle.rules.specs.SettingsAndUnitTable.{kind-coefficients, kind-downs, kind-multiplier}
+use Rattle.tables.specs.Arms.{beyond}
 use Rattle.tables.proofs.kind_multiplier.Statement.{statement}
 use Rattle.tables.proofs.kind_multiplier.Tie as tie
 
-kind-coefficient-requires : tie.Need-kind-coefficient-requires
-kind-coefficient-requires c κs = search needs
-
-kind-down-requires : tie.Need-kind-down-requires
-kind-down-requires c κs = search needs
-
-returns : tie.Need-returns
-unfolding kind-multiplier
-returns c = rw (c .before .kind-coefficient .ensures, c .kind-down .ensures)
+returns-9 : tie.Need-returns-9
+unfolding kind-multiplier kind-coefficients kind-downs
+returns-9 c =
+    let h = beyond 8 (c .before .match .rest) in
+    rw (List·getD-eq-default kind-coefficients 0 h, List·getD-eq-default kind-downs 0 h) (c .multiplier9 .ensures)
 
 pub kind-multiplier-spec : {M : Type 1} → statement M
-kind-multiplier-spec = tie.close (tie.spec kind-coefficient-requires kind-down-requires returns)
+unfolding kind-multiplier kind-coefficients kind-downs
+kind-multiplier-spec =
+    tie.close
+    (tie.spec
+    (λ c. lit< tt)
+    (λ c. lit< tt)
+    (λ c κs. tt)
+    (λ c. lit< tt)
+    (λ c. lit< tt)
+    (λ c κs. tt)
+    (λ c. lit< tt)
+    (λ c. lit< tt)
+    (λ c κs. tt)
+    (λ c. lit< tt)
+    (λ c. lit< tt)
+    (λ c κs. tt)
+    (λ c. lit< tt)
+    (λ c. lit< tt)
+    (λ c κs. tt)
+    (λ c. lit< tt)
+    (λ c. lit< tt)
+    (λ c κs. tt)
+    (λ c. lit< tt)
+    (λ c. lit< tt)
+    (λ c κs. tt)
+    (λ c. lit< tt)
+    (λ c. lit< tt)
+    (λ c κs. tt)
+    (λ c κs. tt)
+    (λ c. rw (c .before .match .keys1) (c .multiplier .ensures))
+    (λ c. rw (c .before .match .keys2) (c .multiplier2 .ensures))
+    (λ c. rw (c .before .match .keys3) (c .multiplier3 .ensures))
+    (λ c. rw (c .before .match .keys4) (c .multiplier4 .ensures))
+    (λ c. rw (c .before .match .keys5) (c .multiplier5 .ensures))
+    (λ c. rw (c .before .match .keys6) (c .multiplier6 .ensures))
+    (λ c. rw (c .before .match .keys7) (c .multiplier7 .ensures))
+    (λ c. rw (c .before .match .keys8) (c .multiplier8 .ensures))
+    returns-9)

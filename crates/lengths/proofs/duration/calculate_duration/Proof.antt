@@ -2,7 +2,10 @@
 -- known to fit before it is made. Assumes nothing.
 use mathlib.Core.Path.{_≡_, sym, _∙_, ap}
 use mathlib.Core.Logic.{⊎-elim}
-use Prim.Native.Nat.{_+_, _*_, _^_}
+use Prim.Native.Nat.{_*_}
+use native.Mathlib.Nat.{lt-trans, zero-add}
+use native.Mathlib.Omega.{arith}
+use lib.Dec.{lit<}
 use borrow.Author.Needs.{needs}
 use Rattle.rules.specs.Evaluation.{length-of}
 use Rattle.lengths.specs.Duration.{cut}
@@ -60,11 +63,17 @@ cut-words-requires c κs = rw (c .product .ensures) (seconds-fit (search needs) 
 either-way : (c : tie.Joined5) → c .if5 .size ≡ cut (c .before .before .before .before .before .args .coefficient * c .before .before .before .before .before .args .attos)
 either-way c = ⊎-elim (λ w. w .2 ∙ w .1 .ensures) (λ w. w .3 ∙ w .2 .ensures ∙ ap cut (w .1 .ensures)) (c .if5 .came)
 
-limited-requires : tie.Need-limited-requires
-limited-requires c κs = cut-below _ (either-way c)
+signed-requires-3 : tie.Need-signed-requires-3
+signed-requires-3 c κs = cut-below _ (either-way (c .before))
 
 returns-5 : tie.Need-returns-5
-returns-5 c = cut-apart _ _ _ _ (either-way (c .before)) (c .limited .ensures)
+returns-5 c = cut-apart _ _ _ _ (either-way (c .before .before)) (rw (c .before .if6 .taken, zero-add) (c .signed3 .ensures))
+
+limited-requires : tie.Need-limited-requires
+limited-requires c κs = (lt-trans (cut-below _ (either-way (c .before))) (lit< tt), λ e. absurd (c .if6 .left (omega arith)))
+
+returns-6 : tie.Need-returns-6
+returns-6 c = cut-apart _ _ _ _ (either-way (c .before .before)) (c .limited .ensures)
 
 pub calculate-duration-spec : {M : Type 1} → statement M
 calculate-duration-spec =
@@ -85,5 +94,7 @@ calculate-duration-spec =
     cut-word-requires
     product-requires
     cut-words-requires
+    signed-requires-3
+    returns-5
     limited-requires
-    returns-5)
+    returns-6)

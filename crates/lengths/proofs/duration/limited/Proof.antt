@@ -5,6 +5,7 @@ use native.Mathlib.Omega.{arith}
 use borrow.Author.Needs.{needs}
 use Rattle.rules.specs.Evaluation.{length-of}
 use Rattle.rules.specs.Laws.Lengths.{size-clamped}
+use Rattle.rules.specs.Laws.Apart.{apart}
 use Rattle.lengths.proofs.duration.limited.Statement.{statement}
 use Rattle.lengths.proofs.duration.limited.Tie as tie
 
@@ -14,20 +15,14 @@ sub-if1 c = search needs
 add-sum : tie.Need-add-sum
 add-sum c = search needs
 
-signed-requires : tie.Need-signed-requires
-signed-requires c κs = search needs
-
 returns : tie.Need-returns
-returns c = search needs
+returns c = sym (apart _ _ _ (search needs) (search needs) (c .before .before .pre .1))
 
-add-signed : tie.Need-add-signed
-add-signed c = search needs
-
-signed-requires-2 : tie.Need-signed-requires-2
-signed-requires-2 c κs = search needs
+add-t9 : tie.Need-add-t9
+add-t9 c = search needs
 
 returns-2 : tie.Need-returns-2
-returns-2 c = c .signed2 .ensures ∙ ap (length-of _) (omega arith)
+returns-2 c = sym (apart _ _ _ (search needs) (search needs) (λ e. absurd (omega arith))) ∙ ap (length-of _) (omega arith)
 
 largest-requires : tie.Need-largest-requires
 largest-requires c κs = search needs
@@ -41,10 +36,8 @@ limited-spec =
     (tie.spec
     sub-if1
     add-sum
-    signed-requires
     returns
-    add-signed
-    signed-requires-2
+    add-t9
     returns-2
     largest-requires
     returns-3)

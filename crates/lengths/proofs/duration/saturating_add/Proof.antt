@@ -1,13 +1,12 @@
--- `lengths::duration::saturating_add` meets its contract: lengths of one sign add up, and of two signs the shorter is taken from the
--- longer, whose sign stays. Assumes nothing.
+-- `lengths::duration::saturating_add` meets its contract: lengths of one sign add up, and to zero only if both are zero, with a plus;
+-- of two signs the shorter is taken from the longer, whose sign stays. Assumes nothing.
 use mathlib.Core.Path.{sym, _∙_, ap}
 use Prim.Native.Nat.{_+_, _*_, _^_, _<_}
 use native.Mathlib.Omega.{arith}
-use borrow.Author.Needs.{needs}
 use borrow.Author.Tests.{leb-true, leb-false}
 use Rattle.rules.specs.ThePartOfTheCrateWeTake.{size}
 use Rattle.rules.specs.Evaluation.{length-of}
-use Rattle.rules.specs.Laws.Apart.{proper, sum-alike, sum-first, sum-second}
+use Rattle.rules.specs.Laws.Apart.{proper, zero-plus, sum-alike, sum-first, sum-second}
 use Rattle.lengths.proofs.duration.saturating_add.Statement.{statement}
 use Rattle.lengths.proofs.duration.saturating_add.Tie as tie
 
@@ -19,7 +18,10 @@ add-limited : tie.Need-add-limited
 add-limited c = omega (arith, nanoseconds-below (c .before .before .before .before .before))
 
 limited-requires : tie.Need-limited-requires
-limited-requires c κs = nanoseconds-below (c .before .before .before .before .before)
+unfolding size
+limited-requires c κs =
+    let s = c .before .before .before .before .before in
+    (nanoseconds-below s, λ e. zero-plus (s .args .a) (s .pre .0) (omega arith))
 
 returns : tie.Need-returns
 unfolding size

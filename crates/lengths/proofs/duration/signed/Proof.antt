@@ -15,10 +15,10 @@ returns : tie.Need-returns
 returns c = c .zero .ensures ∙ sym (none _) ∙ ap (length-of _) (omega arith)
 
 returns-2 : tie.Need-returns-2
-returns-2 c = sym (apart _ _ _ (search needs) (search needs) (λ e. c .if2 .left (omega arith)))
+returns-2 c = sym (apart _ _ _ (search needs) (search needs) (λ e. absurd (c .if2 .left (omega arith))))
 
 returns-3 : tie.Need-returns-3
-returns-3 c = sym (apart _ _ _ (search needs) (search needs) (λ e. c .if1 .left (omega arith)))
+returns-3 c = sym (apart _ _ _ (search needs) (search needs) (λ e. absurd (c .if1 .left (omega arith))))
 
 pub signed-spec : {M : Type 1} → statement M
 signed-spec = tie.close (tie.spec zero-requires returns returns-2 returns-3)

@@ -6,35 +6,42 @@ use Rattle.rules.specs.SettingsAsWords.{settings-of}
 use Rattle.rules.specs.Laws.Outcomes.{bind-got, bind-refused}
 use Rattle.steps.specs.Outcomes.{next}
 use Rattle.reading.specs.Outcomes.{part}
+use Rattle.reading.specs.Sums.{part-sum, sums-got, sums-refused, part-got, part-refused}
 use Rattle.reading.specs.Typed.{connected, part-connected, typed-part}
 use Rattle.reading.proofs.part.connected_part.Statement.{statement}
 use Rattle.reading.proofs.part.connected_part.Tie as tie
 
--- what was typed, as its definition has it
+-- what was typed, as its definition has it, and the sum of its digits
 got-typed :
     (c : tie.After-typed)
     → let args = c .before .before .before .before .before .args in
-    typed-part (settings-of (args .settings .now)) (args .table .now) (args .text .now) (args .place) ≡ got (c .typed .given .0 .0)
-got-typed c = sym (c .before .before .typed-part .ensures) ∙ ap part (c .typed .given .1)
+    let found = c .typed .given .0 .0 in
+    (typed-part (settings-of (args .settings .now)) (args .table .now) (args .text .now) (args .place) ≡ got (found .part))
+    × (found .number ≡ part-sum (args .text .now) (found .part))
+got-typed c = part-got _ (sym (c .before .before .typed-part .ensures) ∙ ap part (c .typed .given .1))
 
 returns : tie.Need-returns
 returns c =
-    sym (part-connected (settings-of (c .before .before .before .before .before .before .args .settings .now)) _ _ _
-    ∙ bind-refused _ (sym (c .before .before .before .typed-part .ensures) ∙ ap part (c .before .cause .given .1)))
+    sums-refused _
+    (sym (part-connected (settings-of (c .before .before .before .before .before .before .args .settings .now)) _ _ _
+    ∙ bind-refused _ (part-refused _ (sym (c .before .before .before .typed-part .ensures) ∙ ap part (c .before .cause .given .1)))))
 
 returns-2 : tie.Need-returns-2
 unfolding connected
 returns-2 c =
-    sym (part-connected (settings-of (c .before .before .before .before .before .before .before .before .before .before .args .settings .now)) _ _ _
-    ∙ bind-got _ (got-typed (c .before .before .before .before .before))
-    ∙ bind-refused _ (sym (c .before .before .before .try-consume-connection .ensures) ∙ ap next (c .before .cause2 .given .1)))
+    sums-refused _
+    (sym (part-connected (settings-of (c .before .before .before .before .before .before .before .before .before .before .args .settings .now)) _ _ _
+    ∙ bind-got _ (got-typed (c .before .before .before .before .before) .0)
+    ∙ bind-refused _ (sym (c .before .before .before .try-consume-connection .ensures) ∙ ap next (c .before .cause2 .given .1))))
 
 returns-3 : tie.Need-returns-3
 unfolding connected
 returns-3 c =
-    sym (part-connected (settings-of (c .before .before .before .before .before .before .before .before .before .before .before .args .settings .now)) _ _ _
-    ∙ bind-got _ (got-typed (c .before .before .before .before .before .before))
-    ∙ bind-got _ (sym (c .before .before .before .before .try-consume-connection .ensures) ∙ ap next (c .before .before .next .given .1)))
+    let typed = got-typed (c .before .before .before .before .before .before) in
+    sums-got _ (typed .1)
+    (sym (part-connected (settings-of (c .before .before .before .before .before .before .before .before .before .before .before .args .settings .now)) _ _ _
+    ∙ bind-got _ (typed .0)
+    ∙ bind-got _ (sym (c .before .before .before .before .try-consume-connection .ensures) ∙ ap next (c .before .before .next .given .1))))
 
 pub connected-part-spec : {M : Type 1} → statement M
 connected-part-spec =

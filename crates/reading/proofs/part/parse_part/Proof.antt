@@ -7,32 +7,38 @@ use Rattle.rules.specs.ReadingOnePart.{part}
 use Rattle.rules.specs.Evaluation.{part-reading, allowed}
 use Rattle.rules.specs.Laws.Outcomes.{all-of, bind-got, bind-refused}
 use Rattle.reading.specs.Outcomes as outcomes
+use Rattle.reading.specs.Sums.{part-sum, part-got, part-refused}
 use Rattle.reading.specs.Spans.{part-spans}
 use Rattle.reading.proofs.part.parse_part.Statement.{statement}
 use Rattle.reading.proofs.part.parse_part.Tie as tie
 
--- the part that was read, as its definition has it
+-- the part that was read, as its definition has it, and the sum of its digits
 got-part :
-    (c : tie.After-part)
+    (c : tie.After-summed)
     → let args = c .before .before .before .before .before .args in
-    part (settings-of (args .settings .now)) (args .table .now) (args .text .now) (args .place) ≡ got (c .part .given .0 .0)
-got-part c = sym (c .before .before .connected-part .ensures) ∙ ap outcomes.part (c .part .given .1)
+    let found = c .summed .given .0 .0 in
+    (part (settings-of (args .settings .now)) (args .table .now) (args .text .now) (args .place) ≡ got (found .part))
+    × (found .number ≡ part-sum (args .text .now) (found .part))
+got-part c = part-got _ (sym (c .before .before .connected-part .ensures) ∙ ap outcomes.part (c .summed .given .1))
 
 evaluate-requires : tie.Need-evaluate-requires
-evaluate-requires c κs = all-of (part-spans (settings-of (c .before .before .before .before .before .before .args .settings .now)) _ _ _) (got-part (c .before))
+evaluate-requires c κs =
+    let read = got-part (c .before .before) in
+    (all-of (part-spans (settings-of (c .before .before .before .before .before .before .before .args .settings .now)) _ _ _) (read .0), read .1)
 
 returns : tie.Need-returns
 unfolding part-reading
 returns c =
-    sym (bind-refused _ (sym (c .before .before .before .connected-part .ensures) ∙ ap outcomes.part (c .before .cause .given .1)))
+    sym (bind-refused _ (part-refused _ (sym (c .before .before .before .connected-part .ensures) ∙ ap outcomes.part (c .before .cause .given .1))))
 
 returns-2 : tie.Need-returns-2
 unfolding part-reading
 returns-2 c =
-    let args = c .before .before .before .before .before .before .before .before .args in
+    let read = c .before .before .before .before in
+    let args = read .before .before .before .before .before .args in
     c .allowed .ensures
-    ∙ ap (allowed (settings-of (args .settings .now)) (args .place) (c .before .before .before .part .given .0 .0 .next)) (c .before .evaluate .ensures)
-    ∙ sym (bind-got _ (got-part (c .before .before .before)))
+    ∙ ap (allowed (settings-of (args .settings .now)) (args .place) (read .summed .given .0 .0 .part .next)) (c .before .evaluate .ensures)
+    ∙ sym (bind-got _ (got-part read .0))
 
 pub parse-part-spec : {M : Type 1} → statement M
 parse-part-spec =

@@ -5,6 +5,7 @@ use Rattle.rules.specs.NumbersHandedBack.{got}
 use Rattle.rules.specs.SettingsAsWords.{settings-of}
 use Rattle.rules.specs.Laws.Outcomes.{bind-got, bind-refused}
 use Rattle.reading.specs.Outcomes.{started}
+use Rattle.reading.specs.Sums.{sums, sums-refused}
 use Rattle.reading.specs.Typed.{typed-part, start-class, part-start}
 use Rattle.reading.proofs.part.typed_part.Statement.{statement}
 use Rattle.reading.proofs.part.typed_part.Tie as tie
@@ -25,11 +26,13 @@ unsigned-part-requires c κs =
 returns : tie.Need-returns
 unfolding typed-part
 returns c =
-    sym (bind-refused _ (sym (c .before .before .before .part-start .ensures) ∙ ap started (c .before .cause .given .1)))
+    sums-refused _ (sym (bind-refused _ (sym (c .before .before .before .part-start .ensures) ∙ ap started (c .before .cause .given .1))))
 
 returns-2 : tie.Need-returns-2
 unfolding typed-part
-returns-2 c = c .unsigned-part .ensures ∙ sym (bind-got _ (got-start (c .before .before)))
+returns-2 c =
+    let start = c .before .before .before .before .before .before .before in
+    c .unsigned-part .ensures ∙ ap (sums (start .args .text .now)) (sym (bind-got _ (got-start (c .before .before))))
 
 pub typed-part-spec : {M : Type 1} → statement M
 typed-part-spec =

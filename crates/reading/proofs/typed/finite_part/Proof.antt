@@ -6,77 +6,86 @@ use Rattle.rules.specs.SettingsAsWords.{settings-of}
 use Rattle.rules.specs.ReadingOnePart.{gap, number-step, exponent-step, unit-step}
 use Rattle.rules.specs.Laws.Outcomes.{bind-got, bind-refused}
 use Rattle.steps.specs.Outcomes.{next, number, scaled, unit}
+use Rattle.value.specs.Sums.{sum-of}
+use Rattle.steps.specs.Sums.{number-got, number-refused}
+use Rattle.reading.specs.Sums.{sums-got, sums-refused}
 use Rattle.reading.specs.Typed.{typed-finite}
 use Rattle.reading.proofs.typed.finite_part.Statement.{statement}
 use Rattle.reading.proofs.typed.finite_part.Tie as tie
 
--- what each step found, as its definition has it
+-- what each step found, as its definition has it, and the sum of the digits
 got-number :
-    (c : tie.After-number)
+    (c : tie.After-summed)
     → let args = c .before .before .before .before .before .args in
-    number-step (settings-of (args .settings .now)) (args .text .now) (args .place) ≡ got (c .number .given .0 .0)
-got-number c = sym (c .before .before .parse-number .ensures) ∙ ap number (c .number .given .1)
+    let found = c .summed .given .0 .0 in
+    (number-step (settings-of (args .settings .now)) (args .text .now) (args .place) ≡ got (found .typed))
+    × (found .number ≡ sum-of (args .text .now) (found .typed .whole) (found .typed .fract))
+got-number c = number-got _ (sym (c .before .before .parse-number .ensures) ∙ ap number (c .summed .given .1))
 
 got-scaled :
     (c : tie.After-scaled)
-    → let last = c .before .before .before .before in
+    → let last = c .before .before .before .before .before in
     let args = last .before .before .before .before .before .args in
-    exponent-step (settings-of (args .settings .now)) (args .text .now) (last .number .given .0 .0 .next) ≡ got (c .scaled .given .0 .0)
+    exponent-step (settings-of (args .settings .now)) (args .text .now) (last .summed .given .0 .0 .typed .next) ≡ got (c .scaled .given .0 .0)
 got-scaled c = sym (c .before .before .parse-number-exponent .ensures) ∙ ap scaled (c .scaled .given .1)
 
 -- the gap is asked by the switch that was read
 asked-gap :
     (c : tie.After-parse-number-delimiter)
     → let last = c .before .before .before in
-    let args = last .before .before .before .before .before .before .before .before .before .args in
+    let args = last .before .before .before .before .before .before .before .before .before .before .args in
     next (c .parse-number-delimiter .result) ≡ gap (settings-of (args .settings .now) .«before_unit») (settings-of (args .settings .now)) (args .text .now) (last .scaled .given .0 .0 .next)
 asked-gap c =
     let last = c .before .before .before in
-    let args = last .before .before .before .before .before .before .before .before .before .args in
+    let args = last .before .before .before .before .before .before .before .before .before .before .args in
     c .parse-number-delimiter .ensures
     ∙ ap (λ on. gap on (settings-of (args .settings .now)) (args .text .now) (last .scaled .given .0 .0 .next)) (c .before .before-unit .ensures)
 
 got-name :
     (c : tie.After-name)
     → let last = c .before .before .before .before .before in
-    let args = last .before .before .before .before .before .before .before .before .before .args in
+    let args = last .before .before .before .before .before .before .before .before .before .before .args in
     gap (settings-of (args .settings .now) .«before_unit») (settings-of (args .settings .now)) (args .text .now) (last .scaled .given .0 .0 .next) ≡ got (c .name .given .0 .0)
 got-name c = sym (asked-gap (c .before .before)) ∙ ap next (c .name .given .1)
 
 got-unit :
     (c : tie.After-unit)
     → let last = c .before .before .before .before in
-    let args = last .before .before .before .before .before .before .before .before .before .before .before .before .before .before .args in
+    let args = last .before .before .before .before .before .before .before .before .before .before .before .before .before .before .before .args in
     unit-step (settings-of (args .settings .now)) (args .table .now) (args .text .now) (last .name .given .0 .0) ≡ got (c .unit .given .0 .0)
 got-unit c = sym (c .before .before .parse-time-unit .ensures) ∙ ap unit (c .unit .given .1)
 
 returns : tie.Need-returns
 unfolding typed-finite
-returns c = sym (bind-refused _ (sym (c .before .before .before .parse-number .ensures) ∙ ap number (c .before .cause .given .1)))
+returns c =
+    sums-refused _ (sym (bind-refused _ (number-refused _ (sym (c .before .before .before .parse-number .ensures) ∙ ap number (c .before .cause .given .1)))))
 
 returns-2 : tie.Need-returns-2
 unfolding typed-finite
 returns-2 c =
-    sym (bind-got _ (got-number (c .before .before .before .before .before))
-    ∙ bind-refused _ (sym (c .before .before .before .parse-number-exponent .ensures) ∙ ap scaled (c .before .cause2 .given .1)))
+    sums-refused _
+    (sym (bind-got _ (got-number (c .before .before .before .before .before .before) .0)
+    ∙ bind-refused _ (sym (c .before .before .before .parse-number-exponent .ensures) ∙ ap scaled (c .before .cause2 .given .1))))
 
 returns-3 : tie.Need-returns-3
 unfolding typed-finite
 returns-3 c =
     let at-scaled = c .before .before .before .before .before .before in
-    sym (bind-got _ (got-number (at-scaled .before .before .before .before))
+    sums-refused _
+    (sym (bind-got _ (got-number (at-scaled .before .before .before .before .before) .0)
     ∙ bind-got _ (got-scaled at-scaled)
-    ∙ bind-refused _ (sym (asked-gap (c .before .before .before)) ∙ ap next (c .before .cause3 .given .1)))
+    ∙ bind-refused _ (sym (asked-gap (c .before .before .before)) ∙ ap next (c .before .cause3 .given .1))))
 
 returns-4 : tie.Need-returns-4
 unfolding typed-finite
 returns-4 c =
     let at-name = c .before .before .before .before .before in
     let at-scaled = at-name .before .before .before .before .before in
-    sym (bind-got _ (got-number (at-scaled .before .before .before .before))
+    sums-refused _
+    (sym (bind-got _ (got-number (at-scaled .before .before .before .before .before) .0)
     ∙ bind-got _ (got-scaled at-scaled)
     ∙ bind-got _ (got-name at-name)
-    ∙ bind-refused _ (sym (c .before .before .before .parse-time-unit .ensures) ∙ ap unit (c .before .cause4 .given .1)))
+    ∙ bind-refused _ (sym (c .before .before .before .parse-time-unit .ensures) ∙ ap unit (c .before .cause4 .given .1))))
 
 returns-5 : tie.Need-returns-5
 unfolding typed-finite
@@ -84,10 +93,12 @@ returns-5 c =
     let at-unit = c .before .before .before .before .before in
     let at-name = at-unit .before .before .before .before in
     let at-scaled = at-name .before .before .before .before .before in
-    sym (bind-got _ (got-number (at-scaled .before .before .before .before))
+    let found = got-number (at-scaled .before .before .before .before .before) in
+    sums-got _ (found .1)
+    (sym (bind-got _ (found .0)
     ∙ bind-got _ (got-scaled at-scaled)
     ∙ bind-got _ (got-name at-name)
-    ∙ bind-got _ (got-unit at-unit))
+    ∙ bind-got _ (got-unit at-unit)))
 
 pub finite-part-spec : {M : Type 1} → statement M
 finite-part-spec =
@@ -102,11 +113,11 @@ finite-part-spec =
     (λ c. search needs)
     returns-2
     (λ c κs. tt)
-    (λ c κs. c .before .before .before .before .before .before .before .before .before .before .before .pre .0)
+    (λ c κs. c .before .before .before .before .before .before .before .before .before .before .before .before .pre .0)
     (λ c. search needs)
     (λ c. search needs)
     returns-3
-    (λ c κs. c .before .before .before .before .before .before .before .before .before .before .before .before .before .before .before .pre)
+    (λ c κs. c .before .before .before .before .before .before .before .before .before .before .before .before .before .before .before .before .pre)
     (λ c. search needs)
     (λ c. search needs)
     returns-4

@@ -8,7 +8,7 @@ use lib.ListN.{length}
 use Rattle.rules.specs.Common.{same}
 use Rattle.rules.specs.SettingsAndUnitTable.{rows, row, name, lookup}
 use Rattle.rows.specs.Laws.Rows.{length-row}
-use Rattle.rows.specs.Laws.Lookup.{name-asked, rest-of-lookup, lookup-start, lookup-end, lookup-here, lookup-next}
+use Rattle.rows.specs.Laws.Lookup.{rest-of-lookup, lookup-start, lookup-end, lookup-here, lookup-next}
 use Rattle.rows.proofs.lookup.find.Statement.{statement}
 use Rattle.rows.proofs.lookup.find.Tie as tie
 
@@ -20,10 +20,12 @@ abbrev μ-loop : tie.MeasureT-loop
 
 -- what was asked of the row's name
 asked :
-    (c : tie.After-same Inv-loop μ-loop)
-    → let table = c .before .before .before .before .before .before .before .args .table .now in
-    c .same .result ≡ same (name (row table (c .before .before .before .before .loop .i))) (c .before .before .before .before .before .before .before .args .wanted .now)
-asked c = name-asked _ _ _ (c .before .before .row-at .ensures) (c .before .name-of .ensures) (c .same .ensures)
+    (c : tie.After-has-name Inv-loop μ-loop)
+    → let args = c .before .before .before .before .before .before .args in
+    c .has-name .result ≡ same (name (row (args .table .now) (c .before .before .before .loop .i))) (args .wanted .now)
+asked c =
+    c .has-name .ensures
+    ∙ ap (λ r. same (name r) (c .before .before .before .before .before .before .args .wanted .now)) (c .before .row-at .ensures)
 
 -- the row at `i` is one of the table's
 counted : (c : tie.In-loop Inv-loop μ-loop) → c .before .loop .i < rows (c .before .before .before .before .args .table .now)
@@ -36,17 +38,17 @@ loop-holds c = (refl, omega arith, lookup-start _ _)
 row-at-requires : tie.Need-row-at-requires Inv-loop μ-loop
 row-at-requires c κs = counted c
 
-name-of-requires : tie.Need-name-of-requires Inv-loop μ-loop
-name-of-requires c κs = ap length (c .row-at .ensures) ∙ length-row (c .before .before .before .before .before .args .table .now) (c .before .before .loop .i) (counted (c .before))
-
-same-requires : tie.Need-same-requires Inv-loop μ-loop
-same-requires c κs = tt
+has-name-requires : tie.Need-has-name-requires Inv-loop μ-loop
+has-name-requires c κs =
+    let start = c .before .before .before .before .before in
+    let i = c .before .before .loop .i in
+    rw (c .row-at .ensures) (length-row (start .args .table .now) i (counted (c .before)), start .pre i (counted (c .before)))
 
 returns : tie.Need-returns Inv-loop μ-loop
 returns c =
-    let args = c .before .before .before .before .before .before .before .before .args in
-    let loop = c .before .before .before .before .before .loop in
-    sym (lookup-here (args .table .now) (args .wanted .now) (loop .i) (counted (c .before .before .before .before)) (sym (asked (c .before)) ∙ c .if1 .taken)) ∙ loop .inv .2
+    let args = c .before .before .before .before .before .before .before .args in
+    let loop = c .before .before .before .before .loop in
+    sym (lookup-here (args .table .now) (args .wanted .now) (loop .i) (counted (c .before .before .before)) (sym (asked (c .before)) ∙ c .if1 .taken)) ∙ loop .inv .2
 
 add-i : tie.Need-add-i Inv-loop μ-loop
 add-i c = omega arith
@@ -56,11 +58,11 @@ loop-less c = omega arith
 
 loop-again : tie.Need-loop-again Inv-loop μ-loop
 loop-again c =
-    let args = c .before .before .before .before .before .before .before .before .args in
-    let loop = c .before .before .before .before .before .loop in (
+    let args = c .before .before .before .before .before .before .before .args in
+    let loop = c .before .before .before .before .loop in (
       loop .inv .0,
-      rw (add-one (loop .i)) (c .before .before .before .before .loop-test .taken),
-      sym (lookup-next (args .table .now) (args .wanted .now) (loop .i) (counted (c .before .before .before .before)) (sym (asked (c .before)) ∙ c .if1 .left)) ∙ loop .inv .2,
+      rw (add-one (loop .i)) (c .before .before .before .loop-test .taken),
+      sym (lookup-next (args .table .now) (args .wanted .now) (loop .i) (counted (c .before .before .before)) (sym (asked (c .before)) ∙ c .if1 .left)) ∙ loop .inv .2,
     )
 
 returns-2 : tie.Need-returns-2 Inv-loop μ-loop
@@ -77,8 +79,7 @@ find-spec =
     μ-loop
     loop-holds
     row-at-requires
-    name-of-requires
-    same-requires
+    has-name-requires
     returns
     add-i
     loop-less

@@ -1,12 +1,15 @@
 -- `steps::number::parse_number_fraction` meets its contract: no point, fractions off, no digit on either side, and digits. Assumes nothing.
-use mathlib.Core.Path.{_≡_, sym, _∙_}
+use mathlib.Core.Path.{_≡_, sym, ap, _∙_}
 use mathlib.Core.Bool.{true}
+use Prim.Native.Nat.{_+_}
 use native.Mathlib.Omega.{arith}
 use borrow.Author.Tests.{not-true, not-false}
 use Rattle.rules.specs.Common.{sees}
 use Rattle.rules.specs.SettingsAsWords.{settings-of}
 use Rattle.rules.specs.SettingsAndUnitTable.{POINT, is}
 use Rattle.rules.specs.Laws.Texts.{sees-in}
+use Rattle.value.specs.Sums.{sum-of, sum-both, sum-whole}
+use Rattle.steps.specs.Sums.{sums-got, sums-refused}
 use Rattle.steps.specs.Numbers.{fraction-absent, fraction-off, fraction-empty, fraction-after, fraction-some}
 use Rattle.steps.proofs.number.parse_number_fraction.Statement.{statement}
 use Rattle.steps.proofs.number.parse_number_fraction.Tie as tie
@@ -18,14 +21,27 @@ point-there c = sym (c .before .is-point .ensures) ∙ not-false _ (c .if1 .left
 on : (c : tie.Else2) → settings-of (c .before .before .before .before .before .args .settings .now) .fractions ≡ true
 on c = sym (c .before .fractions .ensures) ∙ not-false _ (c .if2 .left)
 
+-- the digits after the point go on with the sum
+summed-both :
+    (c : tie.After-sum-digits)
+    → let start = c .before .before .before .before .before .before in
+    c .sum-digits .result .number
+    ≡ sum-of (start .args .text .now) (start .args .whole) (record { start = start .args .place + 1; end = c .sum-digits .result .end })
+summed-both c =
+    let start = c .before .before .before .before .before .before in
+    sum-both (start .args .text .now) (start .args .whole) (start .pre) _ (c .sum-digits .ensures .1)
+
 returns : tie.Need-returns
 returns c =
-    fraction-absent (settings-of (c .before .before .before .args .settings .now)) _ _ _ _ (sym (c .before .is-point .ensures) ∙ not-true _ (c .if1 .taken))
+    let start = c .before .before .before in
+    sums-got _ (sum-whole (start .args .text .now) (start .args .whole) (start .pre) (start .args .place))
+    (fraction-absent (settings-of (start .args .settings .now)) _ _ _ _ (sym (c .before .is-point .ensures) ∙ not-true _ (c .if1 .taken)))
 
 returns-2 : tie.Need-returns-2
 returns-2 c =
-    fraction-off (settings-of (c .before .before .before .before .before .args .settings .now)) _ _ _ _ (point-there (c .before .before))
-    (sym (c .before .fractions .ensures) ∙ not-true _ (c .if2 .taken))
+    sums-refused _
+    (fraction-off (settings-of (c .before .before .before .before .before .args .settings .now)) _ _ _ _ (point-there (c .before .before))
+    (sym (c .before .fractions .ensures) ∙ not-true _ (c .if2 .taken)))
 
 add-after : tie.Need-add-after
 add-after c = omega (arith, sees-in _ _ _ (point-there (c .before .before)))
@@ -33,20 +49,23 @@ add-after c = omega (arith, sees-in _ _ _ (point-there (c .before .before)))
 returns-3 : tie.Need-returns-3
 returns-3 c =
     let after = c .before .before .before in
-    fraction-empty (settings-of (after .before .before .before .before .before .args .settings .now)) _ _ _ _ (point-there (after .before .before)) (on after)
-    (c .before .before .parse-digits .ensures) (c .before .if3 .taken) (not-true _ (c .if4 .taken))
+    sums-refused _
+    (fraction-empty (settings-of (after .before .before .before .before .before .args .settings .now)) _ _ _ _ (point-there (after .before .before)) (on after)
+    (c .before .before .sum-digits .ensures .0) (c .before .if3 .taken) (not-true _ (c .if4 .taken)))
 
 returns-4 : tie.Need-returns-4
 returns-4 c =
     let after = c .before .before .before in
-    fraction-after (settings-of (after .before .before .before .before .before .args .settings .now)) _ _ _ _ (point-there (after .before .before)) (on after)
-    (c .before .before .parse-digits .ensures) (not-false _ (c .if4 .left))
+    sums-got _ (summed-both (c .before .before))
+    (fraction-after (settings-of (after .before .before .before .before .before .args .settings .now)) _ _ _ _ (point-there (after .before .before)) (on after)
+    (c .before .before .sum-digits .ensures .0) (not-false _ (c .if4 .left)))
 
 returns-5 : tie.Need-returns-5
 returns-5 c =
     let after = c .before .before in
-    fraction-some (settings-of (after .before .before .before .before .before .args .settings .now)) _ _ _ _ (point-there (after .before .before)) (on after)
-    (c .before .parse-digits .ensures) (c .if3 .left)
+    sums-got _ (summed-both (c .before))
+    (fraction-some (settings-of (after .before .before .before .before .before .args .settings .now)) _ _ _ _ (point-there (after .before .before)) (on after)
+    (c .before .sum-digits .ensures .0) (c .if3 .left))
 
 pub parse-number-fraction-spec : {M : Type 1} → statement M
 parse-number-fraction-spec =

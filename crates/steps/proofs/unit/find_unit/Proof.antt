@@ -16,4 +16,4 @@ returns-2 : tie.Need-returns-2
 returns-2 c = c .find .ensures ∙ ap (lookup _) (stretch-part _ _ _ (c .before .before .if1 .left))
 
 pub find-unit-spec : {M : Type 1} → statement M
-find-unit-spec = tie.close (tie.spec returns (λ c. omega arith) (λ c. omega arith) part-find-end (λ c κs. tt) returns-2)
+find-unit-spec = tie.close (tie.spec returns (λ c. omega arith) (λ c. omega arith) part-find-end (λ c κs. c .before .before .before .before .pre .0 .sizes) returns-2)

@@ -1,27 +1,18 @@
--- `value::digits::parse_digits_strip_zeros` meets its contract: the zeros are a run from `0` to `0`, and the run of digits from after them
--- ends where the run from before them does. Assumes nothing.
+-- `value::digits::parse_digits_strip_zeros` meets its contract: the run of digits from after the zeros ends where the run from before them
+-- does. Assumes nothing.
 use borrow.Author.Needs.{needs}
-use Rattle.value.specs.Digits.{digits-end, zeros-end, run-after-zeros}
+use Rattle.value.specs.Digits.{run-after-zeros}
 use Rattle.value.proofs.digits.parse_digits_strip_zeros.Statement.{statement}
 use Rattle.value.proofs.digits.parse_digits_strip_zeros.Tie as tie
 
-past-eights-requires : tie.Need-past-eights-requires
-past-eights-requires c κs = search needs
+past-zeros-requires : tie.Need-past-zeros-requires
+past-zeros-requires c κs = search needs
 
-past-requires : tie.Need-past-requires
-past-requires c κs = search needs
-
-past-eights-requires-2 : tie.Need-past-eights-requires-2
-past-eights-requires-2 c κs = search needs
-
-past-requires-2 : tie.Need-past-requires-2
-past-requires-2 c κs = search needs
+sum-digits-requires : tie.Need-sum-digits-requires
+sum-digits-requires c κs = search needs
 
 returns : tie.Need-returns
-returns c =
-    let zeros = c .before .before in
-    let start = zeros-end _ _ _ _ (zeros .before .past-eights .ensures) (zeros .past .ensures) in
-    rw (digits-end _ _ _ _ (c .before .past-eights2 .ensures) (c .past2 .ensures), start, run-after-zeros)
+returns c = (rw (c .sum-digits .ensures .0, c .before .past-zeros .ensures, run-after-zeros), c .sum-digits .ensures .1)
 
 pub parse-digits-strip-zeros-spec : {M : Type 1} → statement M
-parse-digits-strip-zeros-spec = tie.close (tie.spec past-eights-requires past-requires past-eights-requires-2 past-requires-2 returns)
+parse-digits-strip-zeros-spec = tie.close (tie.spec past-zeros-requires sum-digits-requires returns)

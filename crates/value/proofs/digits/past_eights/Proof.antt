@@ -1,7 +1,8 @@
 -- `value::digits::past_eights` meets its contract: eight bytes that pass go on with the run, so that at each turn the run from here is the
 -- run from the start. Assumes nothing.
-use mathlib.Core.Path.{_≡_, refl, _∙_}
-use Prim.Native.Nat.{_-_, _≤_}
+use mathlib.Core.Path.{_≡_, refl, ap, _∙_}
+use Prim.Native.Nat.{_+_, _-_, _≤_}
+use native.Mathlib.Omega.{arith}
 use borrow.Author.Tests.{not-false}
 use borrow.Author.Needs.{needs}
 use lib.ListN.{length}
@@ -16,38 +17,28 @@ Inv-loop zeros text place next₀ next = (run (between 48 (last zeros)) text nex
 abbrev μ-loop : tie.MeasureT-loop
 μ-loop zeros text place next₀ next = length text - next
 
-returns : tie.Need-returns Inv-loop μ-loop
-returns c = refl
-
-loop-holds : tie.Need-loop-holds Inv-loop μ-loop
-loop-holds c = (refl, search needs)
-
-sub-loop : tie.Need-sub-loop Inv-loop μ-loop
-sub-loop c = search needs
-
-eight-requires : tie.Need-eight-requires Inv-loop μ-loop
-eight-requires c κs = search needs
-
-returns-2 : tie.Need-returns-2 Inv-loop μ-loop
-returns-2 c = c .before .before .before .loop .inv .0
-
-add-next : tie.Need-add-next Inv-loop μ-loop
-add-next c = search needs
-
-loop-less : tie.Need-loop-less Inv-loop μ-loop
-loop-less c = search needs
+-- the run from after the first eight
+first :
+    (c : tie.Else2 Inv-loop μ-loop)
+    → let turn = c .before .before .before in
+    let args = turn .before .before .before .args in
+    run (between 48 (last (args .zeros))) (args .text .now) (turn .loop .next + 8) ≡ run (between 48 (last (args .zeros))) (args .text .now) (args .place)
+first c =
+    let turn = c .before .before .before in
+    let args = turn .before .before .before .args in
+    run-many (between 48 (last (args .zeros))) (args .text .now) (turn .loop .next) 8 (search needs) (c .before .eight .ensures (not-false _ (c .if2 .left)))
+    ∙ turn .loop .inv .0
 
 loop-again : tie.Need-loop-again Inv-loop μ-loop
 loop-again c =
-    let turn = c .before .before .before in
-    let start = turn .before .before .before in (
-      run-many (between 48 (last (start .args .zeros))) (start .args .text .now) (turn .loop .next) 8 (search needs) (c .before .eight .ensures (not-false _ (c .if2 .left)))
-          ∙ turn .loop .inv .0,
+    let turn = c .before .before .before .before .before in
+    let args = turn .before .before .before .args in
+    let both : turn .loop .next + 16 ≡ turn .loop .next + 8 + 8 = omega arith in (
+      ap (run (between 48 (last (args .zeros))) (args .text .now)) both
+          ∙ run-many (between 48 (last (args .zeros))) (args .text .now) (turn .loop .next + 8) 8 (search needs) (c .before .eight2 .ensures (not-false _ (c .if3 .left)))
+          ∙ first (c .before .before),
       search needs,
     )
-
-returns-3 : tie.Need-returns-3 Inv-loop μ-loop
-returns-3 c = c .before .loop .inv .0
 
 pub past-eights-spec : {M : Type 1} → statement M
 past-eights-spec =
@@ -55,12 +46,16 @@ past-eights-spec =
     (tie.spec
     Inv-loop
     μ-loop
-    returns
-    loop-holds
-    sub-loop
-    eight-requires
-    returns-2
-    add-next
-    loop-less
+    (λ c. refl)
+    (λ c. (refl, search needs))
+    (λ c. search needs)
+    (λ c κs. search needs)
+    (λ c. c .before .before .before .loop .inv .0)
+    (λ c. search needs)
+    (λ c κs. search needs)
+    (λ c. search needs)
+    (λ c. first (c .before .before))
+    (λ c. search needs)
+    (λ c. search needs)
     loop-again
-    returns-3)
+    (λ c. c .before .loop .inv .0))

@@ -1,9 +1,10 @@
--- `value::evaluation::shift_typed` meets its contract: a typed exponent goes to the powers of its sign. Assumes nothing.
+-- `value::evaluation::shift_typed` meets its contract: a typed exponent goes to the powers of its sign, and one of zero to
+-- neither. Assumes nothing.
 use mathlib.Core.Path.{ap, _∙_}
 use mathlib.Core.Logic.{⊎-elim}
 use borrow.Author.Needs.{needs}
 use Rattle.value.specs.Numbers.{shifted-of}
-use Rattle.value.specs.Evaluating.{typed-down, typed-up}
+use Rattle.value.specs.Evaluating.{typed-down, typed-up, typed-none}
 use Rattle.value.proofs.evaluation.shift_typed.Statement.{statement}
 use Rattle.value.proofs.evaluation.shift_typed.Tie as tie
 
@@ -28,7 +29,9 @@ shift-number-requires c κs = search needs
 returns : tie.Need-returns
 returns c =
     c .shift-number .ensures ∙ ap shifted-of
-    (⊎-elim (λ w. typed-down _ _ (w .0 .taken) (w .1) (w .2)) (λ w. typed-up _ _ (w .0 .left) (w .1) (w .2)) (c .before .if1 .came))
+    (⊎-elim (λ w. typed-down _ _ (w .1 .taken) (w .2) (w .3))
+    (⊎-elim (λ w. typed-up _ _ (w .1 .left) (w .2) (w .3)) (λ w. typed-none _ _ (w .0 .left) (w .1) (w .2)))
+    (c .before .if1 .came))
 
 pub shift-typed-spec : {M : Type 1} → statement M
 shift-typed-spec =

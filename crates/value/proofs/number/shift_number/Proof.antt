@@ -1,9 +1,8 @@
--- `value::number::shift_number` meets its contract: where decimals are counted, there are no more than eighteen, and none is cut off.
--- Assumes nothing.
+-- `value::number::shift_number` meets its contract: the sum of at most nineteen digits is the number. Assumes nothing.
 use mathlib.Core.Path.{ap, _∙_}
 use borrow.Author.Needs.{needs}
 use Rattle.value.specs.Numbers.{shifted-of}
-use Rattle.value.specs.Places.{attos-whole, attos-few}
+use Rattle.value.specs.Places.{attos-whole, sum-below, sum-moved}
 use Rattle.value.proofs.number.shift_number.Statement.{statement}
 use Rattle.value.proofs.number.shift_number.Tie as tie
 
@@ -13,34 +12,30 @@ sub-behind c = search needs
 add-after : tie.Need-add-after
 add-after c = search needs
 
-shift-whole-requires : tie.Need-shift-whole-requires
-shift-whole-requires c κs = c .before .before .before .pre
+sub-if1 : tie.Need-sub-if1
+sub-if1 c = search needs
+
+add-if1 : tie.Need-add-if1
+add-if1 c = search needs
+
+shift-word-requires : tie.Need-shift-word-requires
+shift-word-requires c κs =
+    let pre = c .before .before .before .before .pre in
+    sum-below (pre .0) (pre .1)
 
 returns : tie.Need-returns
-returns c = c .shift-whole .ensures ∙ ap shifted-of (attos-whole _ _ _ _ (c .before .if1 .taken))
+returns c =
+    let pre = c .before .before .before .before .before .pre in
+    c .shift-word .ensures ∙ ap shifted-of (sum-moved (pre .0) (pre .1) (c .before .if1 .taken) _ _)
 
-sub-decimals : tie.Need-sub-decimals
-sub-decimals c = search needs
-
-sub-if4 : tie.Need-sub-if4
-sub-if4 c = search needs
-
-add-if4 : tie.Need-add-if4
-add-if4 c = search needs
-
-add-if4-2 : tie.Need-add-if4-2
-add-if4-2 c = search needs
-
-shift-few-requires : tie.Need-shift-few-requires
-shift-few-requires c κs = (c .before .before .before .before .before .before .before .pre, (c .before .before .if3 .taken, c .if4 .taken))
+shift-whole-requires : tie.Need-shift-whole-requires
+shift-whole-requires c κs = c .before .before .before .before .before .pre
 
 returns-2 : tie.Need-returns-2
-returns-2 c =
-    let few = c .before .before .before in
-    c .shift-few .ensures ∙ ap shifted-of (attos-few _ _ _ _ (few .before .if2 .taken) (few .if3 .taken))
+returns-2 c = c .shift-whole .ensures ∙ ap shifted-of (attos-whole _ _ _ _ (c .before .if2 .taken))
 
 shift-large-requires : tie.Need-shift-large-requires
-shift-large-requires c κs = c .before .before .before .before .pre
+shift-large-requires c κs = c .before .before .before .before .before .pre .0
 
 returns-3 : tie.Need-returns-3
 returns-3 c = c .shift-large .ensures
@@ -51,13 +46,11 @@ shift-number-spec =
     (tie.spec
     sub-behind
     add-after
-    shift-whole-requires
+    sub-if1
+    add-if1
+    shift-word-requires
     returns
-    sub-decimals
-    sub-if4
-    add-if4
-    add-if4-2
-    shift-few-requires
+    shift-whole-requires
     returns-2
     shift-large-requires
     returns-3)
