@@ -1,12 +1,9 @@
 // One part: read to its end, connection included, then evaluated, then tested for a forbidden negative.
 ghost use mathlib.Core.Path.{_≡_};
-ghost use Rattle.rules.specs.NumbersHandedBack.{got};
 ghost use Rattle.rules.specs.SettingsAsWords.{settings-of};
-ghost use Rattle.rules.specs.SettingsAndUnitTable.{settings-check};
 ghost use Rattle.rules.specs.ReadingOnePart.{part};
 ghost use Rattle.rules.specs.Evaluation.{allowed, part-reading};
-ghost use Rattle.settings.specs.Sets.{bytes-of};
-ghost use Rattle.steps.specs.Units.{Readable, stops-of};
+ghost use Rattle.steps.specs.Units.{Ready};
 ghost use Rattle.reading.specs.Outcomes as outcomes;
 ghost use Rattle.reading.specs.Sums.{sums};
 ghost use Rattle.reading.specs.Typed.{typed-part};
@@ -38,9 +35,7 @@ fn typed_part(
     text: &[u8],
     place: usize,
 ) -> PartRead
-    requires { ⌜ settings-check (settings-of (now settings)) ≡ got tt ⌝ }
-    requires { ⌜ bytes-of stops ≡ stops-of (settings-of (now settings)) ⌝ }
-    requires { ⌜ Readable (now table) ⌝ }
+    requires { ⌜ Ready (settings-of (now settings)) stops (now table) ⌝ }
     ensures { λ r. ⌜ outcomes.part r ≡ sums (now (text .entry)) (typed-part (settings-of (now (settings .entry))) (now (table .entry)) (now (text .entry)) place) ⌝ }
 {
     match part_start(settings, text, place) {
@@ -64,9 +59,7 @@ fn connected_part(
     text: &[u8],
     place: usize,
 ) -> PartRead
-    requires { ⌜ settings-check (settings-of (now settings)) ≡ got tt ⌝ }
-    requires { ⌜ bytes-of stops ≡ stops-of (settings-of (now settings)) ⌝ }
-    requires { ⌜ Readable (now table) ⌝ }
+    requires { ⌜ Ready (settings-of (now settings)) stops (now table) ⌝ }
     ensures { λ r. ⌜ outcomes.part r ≡ sums (now (text .entry)) (part (settings-of (now (settings .entry))) (now (table .entry)) (now (text .entry)) place) ⌝ }
 {
     match typed_part(settings, stops, table, text, place) {
@@ -103,9 +96,7 @@ pub fn parse_part(
     text: &[u8],
     place: usize,
 ) -> ReadingRead
-    requires { ⌜ settings-check (settings-of (now settings)) ≡ got tt ⌝ }
-    requires { ⌜ bytes-of stops ≡ stops-of (settings-of (now settings)) ⌝ }
-    requires { ⌜ Readable (now table) ⌝ }
+    requires { ⌜ Ready (settings-of (now settings)) stops (now table) ⌝ }
     ensures { λ r. ⌜ outcomes.reading r ≡ part-reading (settings-of (now (settings .entry))) (now (table .entry)) (now (text .entry)) place ⌝ }
 {
     match connected_part(settings, stops, table, text, place) {

@@ -3,8 +3,7 @@ ghost use mathlib.Core.Path.{_≡_};
 ghost use Rattle.rules.specs.NumbersHandedBack.{got};
 ghost use Rattle.rules.specs.SettingsAsWords.{settings-of};
 ghost use Rattle.rules.specs.SettingsAndUnitTable.{settings-check};
-ghost use Rattle.settings.specs.Sets.{bytes-of};
-ghost use Rattle.steps.specs.Units.{Readable, stops-of};
+ghost use Rattle.steps.specs.Units.{Ready};
 ghost use Rattle.reading.specs.Outcomes.{part};
 ghost use Rattle.reading.specs.Sums.{sums};
 ghost use Rattle.reading.specs.Typed.{class-at, typed-finite, typed-word, typed-unsigned};
@@ -92,9 +91,7 @@ fn finite_part(
     negative: bool,
     place: usize,
 ) -> PartRead
-    requires { ⌜ settings-check (settings-of (now settings)) ≡ got tt ⌝ }
-    requires { ⌜ bytes-of stops ≡ stops-of (settings-of (now settings)) ⌝ }
-    requires { ⌜ Readable (now table) ⌝ }
+    requires { ⌜ Ready (settings-of (now settings)) stops (now table) ⌝ }
     ensures { λ r. ⌜ part r ≡ sums (now (text .entry)) (typed-finite (settings-of (now (settings .entry))) (now (table .entry)) (now (text .entry)) negative place) ⌝ }
 {
     let summed = match parse_number(settings, text, place) {
@@ -144,9 +141,7 @@ pub fn unsigned_part(
     class: u8,
     place: usize,
 ) -> PartRead
-    requires { ⌜ settings-check (settings-of (now settings)) ≡ got tt ⌝ }
-    requires { ⌜ bytes-of stops ≡ stops-of (settings-of (now settings)) ⌝ }
-    requires { ⌜ Readable (now table) ⌝ }
+    requires { ⌜ Ready (settings-of (now settings)) stops (now table) ⌝ }
     requires { ⌜ class ≡ class-at (now text) place ⌝ }
     ensures { λ r. ⌜ part r ≡ sums (now (text .entry)) (typed-unsigned (settings-of (now (settings .entry))) (now (table .entry)) (now (text .entry)) negative place) ⌝ }
 {

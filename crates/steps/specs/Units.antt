@@ -18,7 +18,7 @@ use Rattle.rules.specs.declared.Found.the-variants.{Row, Nowhere}
 use Rattle.rules.specs.declared.Refusal.{Refusal}
 use Rattle.rules.specs.Common.{if_then_else_, between, ascii, ends, sees, front, run}
 use Rattle.rules.specs.NumbersHandedBack.{Outcome, got, refused}
-use Rattle.rules.specs.SettingsAndUnitTable.{class, is, is-next-duration, holds, kind-multiplier, name-room, rows, row, name-size, product, in-range, lookup}
+use Rattle.rules.specs.SettingsAndUnitTable.{settings-check, class, is, is-next-duration, holds, kind-multiplier, name-room, rows, row, name-size, product, in-range, lookup}
 use Rattle.rules.specs.ReadingOnePart.{says, delimiters, in-stretch, closes-unit, negated, ago-step, unit-found, unit-step}
 use Rattle.rules.specs.Laws.Ahead.{says-within}
 use Rattle.rules.specs.Laws.Lists.{Bytes}
@@ -26,7 +26,8 @@ use Rattle.rules.specs.Laws.Outcomes.{bind-got, bind-refused}
 use Rattle.rules.specs.Laws.Tests.{or-false}
 use Rattle.rules.specs.Laws.Texts.{sees-here, run-within, slice-shift}
 use Rattle.value.specs.Digits.{run-end}
-use Rattle.settings.specs.Sets.{either}
+use Rattle.settings.specs.declared.sets.AsciiSet.{AsciiSet}
+use Rattle.settings.specs.Sets.{bytes-of, either}
 use Rattle.settings.specs.Laws.Sets.{runs, either-holds, first-word}
 use Rattle.steps.specs.Sets.{passes}
 
@@ -100,6 +101,12 @@ outside true true e = absurd (false≢true (sym e))
 outside true false e = refl
 outside false true e = refl
 outside false false e = absurd (false≢true e)
+
+-- what a part is read under: accepted settings, their stop set, and a table that can be read
+pub record Ready (s : Settings) (stops : AsciiSet) (table : List ℕ) : Type 0 where
+  pub accepted : settings-check s ≡ got tt
+  pub stopped : bytes-of stops ≡ stops-of s
+  pub readable : Readable table
 
 -- the bytes that do not stop a name are those of the stretch
 pub stretch-ends : (s : Settings) (text : List ℕ) (place : ℕ) → Bytes text → run (passes (stops-of s) false) text place ≡ run (in-stretch s) text place

@@ -9,7 +9,7 @@ ghost use Rattle.rules.specs.SettingsAndUnitTable.{settings-check, lookup};
 ghost use Rattle.rules.specs.ReadingOnePart.{closes-unit, negated, ago-step, unit-step};
 ghost use Rattle.settings.specs.Sets.{bytes-of};
 ghost use Rattle.steps.specs.Outcomes.{unit};
-ghost use Rattle.steps.specs.Units.{Readable, stops-of};
+ghost use Rattle.steps.specs.Units.{Readable, Ready, stops-of};
 use crate::Next;
 use crate::bytes::is_next_duration;
 use crate::delimiters::is_delimiter;
@@ -136,9 +136,7 @@ pub fn parse_time_unit(
     text: &[u8],
     place: usize,
 ) -> UnitRead
-    requires { ⌜ settings-check (settings-of (now settings)) ≡ got tt ⌝ }
-    requires { ⌜ bytes-of stops ≡ stops-of (settings-of (now settings)) ⌝ }
-    requires { ⌜ Readable (now table) ⌝ }
+    requires { ⌜ Ready (settings-of (now settings)) stops (now table) ⌝ }
     ensures { λ r. ⌜ unit r ≡ unit-step (settings-of (now (settings .entry))) (now (table .entry)) (now (text .entry)) place ⌝ }
 {
     let end = past(stops, false, text, place);

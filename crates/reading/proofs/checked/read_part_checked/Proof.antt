@@ -19,7 +19,8 @@ returns-2 c =
 parse-part-requires : tie.Need-parse-part-requires
 parse-part-requires c κs =
     let start = c .before .before .before .before .before in
-    (card-settings (settings-of (start .args .settings .now)) _ (start .pre), (c .stops .ensures, card-readable (settings-of (start .args .settings .now)) _ (start .pre)))
+    let s = settings-of (start .args .settings .now) in
+    record { accepted = card-settings s _ (start .pre); stopped = c .stops .ensures; readable = card-readable s _ (start .pre) }
 
 returns-3 : tie.Need-returns-3
 returns-3 c =

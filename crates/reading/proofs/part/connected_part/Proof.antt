@@ -50,7 +50,7 @@ connected-part-spec =
     (λ c κs. c .before .before .pre)
     (λ c. search needs)
     (λ c. search needs)
-    (λ c κs. c .before .before .before .before .before .before .pre .0)
+    (λ c κs. c .before .before .before .before .before .before .pre .accepted)
     (λ c. search needs)
     (λ c. search needs)
     returns

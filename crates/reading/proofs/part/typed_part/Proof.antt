@@ -20,8 +20,7 @@ got-start c = sym (c .before .before .part-start .ensures) ∙ ap started (c .st
 unsigned-part-requires : tie.Need-unsigned-part-requires
 unsigned-part-requires c κs =
     let entry = c .before .before .before .before .before .before in
-    let pre = entry .pre in
-    (pre .0, (pre .1 .0, (pre .1 .1, start-class (settings-of (entry .args .settings .now)) _ _ (got-start (c .before)))))
+    (entry .pre, start-class (settings-of (entry .args .settings .now)) _ _ (got-start (c .before)))
 
 returns : tie.Need-returns
 unfolding typed-part
@@ -38,7 +37,7 @@ pub typed-part-spec : {M : Type 1} → statement M
 typed-part-spec =
     tie.close
     (tie.spec
-    (λ c κs. c .before .before .pre .0)
+    (λ c κs. c .before .before .pre .accepted)
     (λ c. search needs)
     (λ c. search needs)
     unsigned-part-requires

@@ -38,7 +38,7 @@ loop-holds c = (rw (c .zero .ensures) (sym (total-is (settings-of (c .before .be
 parse-part-requires : tie.Need-parse-part-requires Inv-loop μ-loop
 parse-part-requires c κs =
     let start = c .before .before .before .before .before in
-    (start .pre .0, (c .before .before .stops .ensures, start .pre .1))
+    record { accepted = start .pre .0; stopped = c .before .before .stops .ensures; readable = start .pre .1 }
 
 returns : tie.Need-returns Inv-loop μ-loop
 returns c =

@@ -113,7 +113,7 @@ finite-part-spec =
     (λ c. search needs)
     returns-2
     (λ c κs. tt)
-    (λ c κs. c .before .before .before .before .before .before .before .before .before .before .before .before .pre .0)
+    (λ c κs. c .before .before .before .before .before .before .before .before .before .before .before .before .pre .accepted)
     (λ c. search needs)
     (λ c. search needs)
     returns-3

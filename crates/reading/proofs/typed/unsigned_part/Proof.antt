@@ -7,25 +7,22 @@ use Rattle.reading.specs.Typed.{unsigned-number, unsigned-word, unsigned
 use Rattle.reading.proofs.typed.unsigned_part.Statement.{statement}
 use Rattle.reading.proofs.typed.unsigned_part.Tie as tie
 
-finite-part-requires : tie.Need-finite-part-requires
-finite-part-requires c κs = let pre = c .before .before .before .pre in (pre .0, (pre .1 .0, pre .1 .1 .0))
-
 returns : tie.Need-returns
 returns c =
     let start = c .before .before .before .before in
     c .finite-part .ensures
-    ∙ ap (sums (start .args .text .now)) (unsigned-number (settings-of (start .args .settings .now)) _ _ _ _ (rw (← (start .pre .1 .1 .1)) (c .before .match .keys1)))
+    ∙ ap (sums (start .args .text .now)) (unsigned-number (settings-of (start .args .settings .now)) _ _ _ _ (rw (← (start .pre .1)) (c .before .match .keys1)))
 
 returns-2 : tie.Need-returns-2
 returns-2 c =
     let start = c .before .before .before .before in
     c .infinite-part .ensures
-    ∙ ap (sums (start .args .text .now)) (unsigned-word (settings-of (start .args .settings .now)) _ _ _ _ (sym (start .pre .1 .1 .1) ∙ c .before .match .keys2))
+    ∙ ap (sums (start .args .text .now)) (unsigned-word (settings-of (start .args .settings .now)) _ _ _ _ (sym (start .pre .1) ∙ c .before .match .keys2))
 
 returns-3 : tie.Need-returns-3
 returns-3 c =
     let start = c .before .before .before in
-    let here = start .pre .1 .1 .1 in
+    let here = start .pre .1 in
     sums-refused _
     (unsigned-none (settings-of (start .args .settings .now)) _ _ _ _
     (λ e. c .match .rest .0 .1 (inl (here ∙ e)))
@@ -33,4 +30,4 @@ returns-3 c =
     (λ e. c .match .rest .1 (here ∙ e)))
 
 pub unsigned-part-spec : {M : Type 1} → statement M
-unsigned-part-spec = tie.close (tie.spec finite-part-requires (λ c κs. c .before .before .before .pre .0) returns returns-2 returns-3)
+unsigned-part-spec = tie.close (tie.spec (λ c κs. c .before .before .before .pre .0) (λ c κs. c .before .before .before .pre .0 .accepted) returns returns-2 returns-3)

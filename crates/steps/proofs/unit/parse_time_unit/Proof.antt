@@ -22,7 +22,7 @@ stretch :
 stretch c =
     let start = c .before .before .before in
     c .past .ensures
-    ∙ ap (λ set. run (passes set false) (start .args .text .now) (start .args .place)) (start .pre .1 .0)
+    ∙ ap (λ set. run (passes set false) (start .args .text .now) (start .args .place)) (start .pre .stopped)
     ∙ stretch-ends (settings-of (start .args .settings .now)) _ _ (λ k. omega (arith, c .before .shared-slice-known2 .given k))
 
 -- a row that was found is one of the table's
@@ -30,7 +30,7 @@ row-there : (c : tie.After-i) → c .i .given .0 .0 < rows (c .before .before .b
 row-there c = lookup-found _ _ _ (sym (c .before .before .find-unit .ensures) ∙ c .i .given .1) .0
 
 find-unit-requires : tie.Need-find-unit-requires
-find-unit-requires c κs = (c .before .before .before .pre .1 .1, stretch-within _ _ _ (stretch c))
+find-unit-requires c κs = (c .before .before .before .pre .readable, stretch-within _ _ _ (stretch c))
 
 returns : tie.Need-returns
 returns c =
@@ -40,7 +40,7 @@ returns c =
 
 row-product-requires : tie.Need-row-product-requires
 row-product-requires c κs =
-    (row-there (c .before), c .before .before .before .before .before .before .before .pre .1 .1 .products _ (row-there (c .before)))
+    (row-there (c .before), c .before .before .before .before .before .before .before .pre .readable .products _ (row-there (c .before)))
 
 returns-2 : tie.Need-returns-2
 returns-2 c =
@@ -61,5 +61,5 @@ parse-time-unit-spec =
     (λ c κs. tt)
     returns
     row-product-requires
-    (λ c κs. c .before .before .before .before .before .before .before .before .pre .0)
+    (λ c κs. c .before .before .before .before .before .before .before .before .pre .accepted)
     returns-2)
