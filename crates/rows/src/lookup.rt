@@ -40,18 +40,21 @@ fn has_name(row: &[u8], wanted: &[u8]) -> bool
     same(&row[NAME_AT..end], wanted)
 }
 
-// The first row that has the name, in a table of which no row claims a longer name than it has room for.
+// The first row that has the name, in a table of which no row claims a longer name than it has room for. The rows that are left go on as a
+// slice of their own, so that no row's place is made from its number.
 pub fn find(table: &[u8], wanted: &[u8]) -> Found
     requires { ⌜ ((i : ℕ) → i < rows (now table) → name-size (row (now table) i) ≤ name-room) ⌝ }
     ensures { λ r. ⌜ r ≡ lookup (now (table .entry)) (now (wanted .entry)) ⌝ }
 {
     let count = table.len() / ROW_SIZE;
-    let mut i = 0;
-    while i < count {
-        if has_name(row_at(table, i), wanted) {
-            return Found::Row(i);
+    let mut left = count;
+    let mut rest = table;
+    while left > 0 {
+        if has_name(&rest[..ROW_SIZE], wanted) {
+            return Found::Row(count - left);
         }
-        i += 1;
+        rest = &rest[ROW_SIZE..];
+        left -= 1;
     }
     Found::Nowhere
 }
