@@ -16,8 +16,8 @@ use Rattle.rules.specs.declared.Refusal.{Refusal}
 use Rattle.rules.specs.declared.Refusal.the-variants.{Nothing, NoNumber}
 use Rattle.rules.specs.Common.{if_then_else_, ascii, between, ends, sees}
 use Rattle.rules.specs.NumbersHandedBack.{Outcome, got, refused, _>>=_}
-use Rattle.rules.specs.SettingsAndUnitTable.{DIGIT, SIGN, POINT, LETTER, OTHER, class, is, lower, kind-multiplier}
-use Rattle.rules.specs.ReadingOnePart.{same-letter, prefix, says, gap, sign-step, number-step, exponent-step, unit-step, connection, infinite-part, finite-part, unsigned-part, part}
+use Rattle.rules.specs.SettingsAndUnitTable.{DIGIT, SIGN, POINT, LETTER, OTHER, class, is, lower}
+use Rattle.rules.specs.ReadingOnePart.{same-letter, prefix, says, gap, sign-step, number-step, exponent-step, unit-step, connection, infinite, finite, infinite-part, finite-part, unsigned-part, part}
 use Rattle.rules.specs.Laws.Ahead.{says-within}
 use Rattle.rules.specs.Laws.Choices.{and-left, and-both}
 use Rattle.rules.specs.Laws.Outcomes.{all-got, all-refused, all-if, all-bind, all-of, always, bind-got, bind-refused, bind-assoc}
@@ -46,20 +46,6 @@ part-start s text place = if ends text place then refused (Nothing place) else s
 
 -- ---- up to the connection
 
-unfoldable pub infinite : Settings → Bool → ℕ → ℕ → Part
-infinite s negative place next = record {
-  repr =
-      record {
-        negative = negative;
-        infinite = true;
-        whole = record { start = place; end = place };
-        fract = record { start = place; end = place };
-        exponent = record { negative = false; power = 0 };
-        multiplier = kind-multiplier (s .«default_kind»);
-      };
-  next = next;
-}
-
 unfoldable pub typed-infinite : Settings → List ℕ → Bool → ℕ → Outcome Part
 typed-infinite s text negative place = infinity-word s text place >>= λ next. got (infinite s negative place next)
 
@@ -73,19 +59,7 @@ typed-finite s table text negative place = do
   scaled ← exponent-step s text (number .next)
   name ← gap (s .«before_unit») s text (scaled .next)
   unit ← unit-step s table text name
-  got
-      (record {
-        repr =
-            record {
-              negative = negative;
-              infinite = false;
-              whole = number .whole;
-              fract = number .fract;
-              exponent = scaled .exponent;
-              multiplier = unit .multiplier;
-            };
-        next = unit .next;
-      })
+  got (finite negative number scaled unit (unit .next))
 
 unfoldable pub typed-unsigned : Settings → List ℕ → List ℕ → Bool → ℕ → Outcome Part
 typed-unsigned s table text negative place =
@@ -102,7 +76,7 @@ connected s text typed = connection s text (typed .next) >>= λ next. got (recor
 module _ (s : Settings) (table text : List ℕ) where
   module _ (negative : Bool) (place : ℕ) where
     infinite-connected : infinite-part s text negative place ≡ (typed-infinite s text negative place >>= connected s text)
-    unfolding infinite-part typed-infinite connected infinite _>>=_
+    unfolding infinite-part typed-infinite connected _>>=_
     infinite-connected =
         rw (infinity-then s text place)
         (bind-assoc (infinity-word s text place) _ _ ∙ then-joined _ (infinity-word s text place) _ (λ next. refl))

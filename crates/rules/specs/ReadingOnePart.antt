@@ -198,23 +198,37 @@ infinity-step s text inf =
 
 -- ---- the part: what was typed, and where the next part begins
 
+-- infinity has no digits and no exponent, and the default kind for its unit
+abbrev pub infinite : Settings → Bool → ℕ → ℕ → Part
+infinite s negative place next = record {
+  repr =
+      record {
+        negative = negative;
+        infinite = true;
+        whole = record { start = place; end = place };
+        fract = record { start = place; end = place };
+        exponent = record { negative = false; power = 0 };
+        multiplier = kind-multiplier (s .«default_kind»);
+      };
+  next = next;
+}
+
+abbrev pub finite : Bool → Number → Scaled → declared-unit.Unit → ℕ → Part
+finite negative number scaled unit next = record {
+  repr =
+      record {
+        negative = negative;
+        infinite = false;
+        whole = number .whole;
+        fract = number .fract;
+        exponent = scaled .exponent;
+        multiplier = unit .multiplier;
+      };
+  next = next;
+}
+
 unfoldable pub infinite-part : Settings → List ℕ → Bool → ℕ → Outcome Part
-infinite-part s text negative place =
-    infinity-step s text place
-    >>= λ next.
-    got
-    (record {
-      repr =
-          record {
-            negative = negative;
-            infinite = true;
-            whole = record { start = place; end = place };
-            fract = record { start = place; end = place };
-            exponent = record { negative = false; power = 0 };
-            multiplier = kind-multiplier (s .«default_kind»);
-          };
-      next = next;
-    })
+infinite-part s text negative place = infinity-step s text place >>= λ next. got (infinite s negative place next)
 
 unfoldable pub finite-part : Settings → List ℕ → List ℕ → Bool → ℕ → Outcome Part
 finite-part s table text negative place = do
@@ -223,19 +237,7 @@ finite-part s table text negative place = do
   name ← gap (s .«before_unit») s text (scaled .next)
   unit ← unit-step s table text name
   next ← connection s text (unit .next)
-  got
-      (record {
-        repr =
-            record {
-              negative = negative;
-              infinite = false;
-              whole = number .whole;
-              fract = number .fract;
-              exponent = scaled .exponent;
-              multiplier = unit .multiplier;
-            };
-        next = next;
-      })
+  got (finite negative number scaled unit next)
 
 -- a digit or a point; or `inf` in any case if allowed; otherwise 6
 unfoldable pub unsigned-part : Settings → List ℕ → List ℕ → Bool → ℕ → Outcome Part

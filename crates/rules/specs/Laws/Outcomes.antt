@@ -89,10 +89,11 @@ module _ {A B : Type 0} (make : A → B) (back : B → A) (there : (a : A) → b
       (ap got of-it, sym made ∙ ap make of-it)
   made-got (refused cause) e = absurd (not-got cause e)
 
-  pub made-refused : (m : Outcome A) {cause : Refusal} → (m >>= λ a. got (make a)) ≡ refused cause → m ≡ refused cause
-  unfolding _>>=_ why
-  made-refused (got a) {cause = cause} e = absurd (not-got cause (sym e))
-  made-refused (refused first) e = ap refused (ap (why first) e)
+-- and a refusal is that of what was asked
+pub made-refused : {A B : Type 0} (make : A → B) (m : Outcome A) {cause : Refusal} → (m >>= λ a. got (make a)) ≡ refused cause → m ≡ refused cause
+unfolding _>>=_ why
+made-refused make (got a) {cause = cause} e = absurd (not-got cause (sym e))
+made-refused make (refused first) e = ap refused (ap (why first) e)
 
 -- two ways to go on agree on whatever was got
 pub bind-same : {A B : Type 0} {P : A → Type 0} {m : Outcome A} {f g : A → Outcome B} → All P m → ((a : A) → P a → f a ≡ g a) → (m >>= f) ≡ (m >>= g)

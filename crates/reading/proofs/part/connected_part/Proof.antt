@@ -6,7 +6,8 @@ use Rattle.rules.specs.SettingsAsWords.{settings-of}
 use Rattle.rules.specs.Laws.Outcomes.{bind-got, bind-refused}
 use Rattle.steps.specs.Outcomes.{next}
 use Rattle.reading.specs.Outcomes.{part}
-use Rattle.reading.specs.Sums.{part-sum, sums-got, sums-refused, part-got, part-refused}
+use Rattle.steps.specs.Sums.{sum-got, sum-refused, step-refused}
+use Rattle.reading.specs.Sums.{part-sum, part-got}
 use Rattle.reading.specs.Typed.{connected, part-connected, typed-part}
 use Rattle.reading.proofs.part.connected_part.Statement.{statement}
 use Rattle.reading.proofs.part.connected_part.Tie as tie
@@ -22,14 +23,14 @@ got-typed c = part-got _ (sym (c .before .before .typed-part .ensures) ∙ ap pa
 
 returns : tie.Need-returns
 returns c =
-    sums-refused _
+    sum-refused _ _
     (sym (part-connected (settings-of (c .before .before .before .before .before .before .args .settings .now)) _ _ _
-    ∙ bind-refused _ (part-refused _ (sym (c .before .before .before .typed-part .ensures) ∙ ap part (c .before .cause .given .1)))))
+    ∙ bind-refused _ (step-refused _ _ (sym (c .before .before .before .typed-part .ensures) ∙ ap part (c .before .cause .given .1)))))
 
 returns-2 : tie.Need-returns-2
 unfolding connected
 returns-2 c =
-    sums-refused _
+    sum-refused _ _
     (sym (part-connected (settings-of (c .before .before .before .before .before .before .before .before .before .before .args .settings .now)) _ _ _
     ∙ bind-got _ (got-typed (c .before .before .before .before .before) .0)
     ∙ bind-refused _ (sym (c .before .before .before .try-consume-connection .ensures) ∙ ap next (c .before .cause2 .given .1))))
@@ -38,7 +39,7 @@ returns-3 : tie.Need-returns-3
 unfolding connected
 returns-3 c =
     let typed = got-typed (c .before .before .before .before .before .before) in
-    sums-got _ (typed .1)
+    sum-got _ _ (typed .1)
     (sym (part-connected (settings-of (c .before .before .before .before .before .before .before .before .before .before .before .args .settings .now)) _ _ _
     ∙ bind-got _ (typed .0)
     ∙ bind-got _ (sym (c .before .before .before .before .try-consume-connection .ensures) ∙ ap next (c .before .before .next .given .1))))

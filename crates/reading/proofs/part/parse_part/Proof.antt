@@ -7,7 +7,8 @@ use Rattle.rules.specs.ReadingOnePart.{part}
 use Rattle.rules.specs.Evaluation.{part-reading, allowed}
 use Rattle.rules.specs.Laws.Outcomes.{all-of, bind-got, bind-refused}
 use Rattle.reading.specs.Outcomes as outcomes
-use Rattle.reading.specs.Sums.{part-sum, part-got, part-refused}
+use Rattle.steps.specs.Sums.{step-refused}
+use Rattle.reading.specs.Sums.{part-sum, part-got}
 use Rattle.reading.specs.Spans.{part-spans}
 use Rattle.reading.proofs.part.parse_part.Statement.{statement}
 use Rattle.reading.proofs.part.parse_part.Tie as tie
@@ -29,7 +30,7 @@ evaluate-requires c κs =
 returns : tie.Need-returns
 unfolding part-reading
 returns c =
-    sym (bind-refused _ (part-refused _ (sym (c .before .before .before .connected-part .ensures) ∙ ap outcomes.part (c .before .cause .given .1))))
+    sym (bind-refused _ (step-refused _ _ (sym (c .before .before .before .connected-part .ensures) ∙ ap outcomes.part (c .before .cause .given .1))))
 
 returns-2 : tie.Need-returns-2
 unfolding part-reading

@@ -5,7 +5,8 @@ use Rattle.rules.specs.NumbersHandedBack.{got}
 use Rattle.rules.specs.SettingsAsWords.{settings-of}
 use Rattle.rules.specs.Laws.Outcomes.{bind-got, bind-refused}
 use Rattle.reading.specs.Outcomes.{started}
-use Rattle.reading.specs.Sums.{sums, sums-refused}
+use Rattle.steps.specs.Sums.{sum-refused}
+use Rattle.reading.specs.Sums.{sums}
 use Rattle.reading.specs.Typed.{typed-part, start-class, part-start}
 use Rattle.reading.proofs.part.typed_part.Statement.{statement}
 use Rattle.reading.proofs.part.typed_part.Tie as tie
@@ -25,7 +26,7 @@ unsigned-part-requires c κs =
 returns : tie.Need-returns
 unfolding typed-part
 returns c =
-    sums-refused _ (sym (bind-refused _ (sym (c .before .before .before .part-start .ensures) ∙ ap started (c .before .cause .given .1))))
+    sum-refused _ _ (sym (bind-refused _ (sym (c .before .before .before .part-start .ensures) ∙ ap started (c .before .cause .given .1))))
 
 returns-2 : tie.Need-returns-2
 unfolding typed-part

@@ -7,8 +7,7 @@ use Rattle.rules.specs.ReadingOnePart.{gap, number-step, exponent-step, unit-st
 use Rattle.rules.specs.Laws.Outcomes.{bind-got, bind-refused}
 use Rattle.steps.specs.Outcomes.{next, number, scaled, unit}
 use Rattle.value.specs.Sums.{sum-of}
-use Rattle.steps.specs.Sums.{number-got, number-refused}
-use Rattle.reading.specs.Sums.{sums-got, sums-refused}
+use Rattle.steps.specs.Sums.{number-got, sum-got, sum-refused, step-refused}
 use Rattle.reading.specs.Typed.{typed-finite}
 use Rattle.reading.proofs.typed.finite_part.Statement.{statement}
 use Rattle.reading.proofs.typed.finite_part.Tie as tie
@@ -58,12 +57,12 @@ got-unit c = sym (c .before .before .parse-time-unit .ensures) ∙ ap unit (c .u
 returns : tie.Need-returns
 unfolding typed-finite
 returns c =
-    sums-refused _ (sym (bind-refused _ (number-refused _ (sym (c .before .before .before .parse-number .ensures) ∙ ap number (c .before .cause .given .1)))))
+    sum-refused _ _ (sym (bind-refused _ (step-refused _ _ (sym (c .before .before .before .parse-number .ensures) ∙ ap number (c .before .cause .given .1)))))
 
 returns-2 : tie.Need-returns-2
 unfolding typed-finite
 returns-2 c =
-    sums-refused _
+    sum-refused _ _
     (sym (bind-got _ (got-number (c .before .before .before .before .before .before) .0)
     ∙ bind-refused _ (sym (c .before .before .before .parse-number-exponent .ensures) ∙ ap scaled (c .before .cause2 .given .1))))
 
@@ -71,7 +70,7 @@ returns-3 : tie.Need-returns-3
 unfolding typed-finite
 returns-3 c =
     let at-scaled = c .before .before .before .before .before .before in
-    sums-refused _
+    sum-refused _ _
     (sym (bind-got _ (got-number (at-scaled .before .before .before .before .before) .0)
     ∙ bind-got _ (got-scaled at-scaled)
     ∙ bind-refused _ (sym (asked-gap (c .before .before .before)) ∙ ap next (c .before .cause3 .given .1))))
@@ -81,7 +80,7 @@ unfolding typed-finite
 returns-4 c =
     let at-name = c .before .before .before .before .before in
     let at-scaled = at-name .before .before .before .before .before in
-    sums-refused _
+    sum-refused _ _
     (sym (bind-got _ (got-number (at-scaled .before .before .before .before .before) .0)
     ∙ bind-got _ (got-scaled at-scaled)
     ∙ bind-got _ (got-name at-name)
@@ -94,7 +93,7 @@ returns-5 c =
     let at-name = at-unit .before .before .before .before in
     let at-scaled = at-name .before .before .before .before .before in
     let found = got-number (at-scaled .before .before .before .before .before) in
-    sums-got _ (found .1)
+    sum-got _ _ (found .1)
     (sym (bind-got _ (found .0)
     ∙ bind-got _ (got-scaled at-scaled)
     ∙ bind-got _ (got-name at-name)

@@ -9,8 +9,8 @@ use Rattle.rules.specs.SettingsAndUnitTable.{is, class}
 use Rattle.rules.specs.ReadingOnePart.{says}
 use Rattle.steps.specs.Outcomes.{next}
 use Rattle.value.specs.Sums.{sum-none}
-use Rattle.reading.specs.Sums.{sums-got, sums-refused}
-use Rattle.reading.specs.Typed.{infinite, inf-within, word-off, word-other, word-refused, word-got}
+use Rattle.steps.specs.Sums.{sum-got, sum-refused}
+use Rattle.reading.specs.Typed.{inf-within, word-off, word-other, word-refused, word-got}
 use Rattle.reading.proofs.typed.infinite_part.Statement.{statement}
 use Rattle.reading.proofs.typed.infinite_part.Tie as tie
 
@@ -23,7 +23,7 @@ unfolding ascii
 inf-said c = sym (c .before .next-is-ignore-ascii-case .ensures) ∙ not-false _ (c .if2 .left)
 
 returns : tie.Need-returns
-returns c = sums-refused _ (word-off (settings-of (c .before .before .before .args .settings .now)) _ _ _ (sym (c .before .infinity .ensures) ∙ not-true _ (c .if1 .taken)))
+returns c = sum-refused _ _ (word-off (settings-of (c .before .before .before .args .settings .now)) _ _ _ (sym (c .before .infinity .ensures) ∙ not-true _ (c .if1 .taken)))
 
 next-is-ignore-ascii-case-requires : tie.Need-next-is-ignore-ascii-case-requires
 unfolding all is class between if_then_else_
@@ -32,7 +32,7 @@ next-is-ignore-ascii-case-requires c κs = refl
 returns-2 : tie.Need-returns-2
 unfolding ascii
 returns-2 c =
-    sums-refused _ (word-other (settings-of (c .before .before .before .before .before .before .args .settings .now)) _ _ _ (sym (c .before .next-is-ignore-ascii-case .ensures) ∙ not-true _ (c .if2 .taken)))
+    sum-refused _ _ (word-other (settings-of (c .before .before .before .before .before .before .args .settings .now)) _ _ _ (sym (c .before .next-is-ignore-ascii-case .ensures) ∙ not-true _ (c .if2 .taken)))
 
 parse-infinity-remainder-requires : tie.Need-parse-infinity-remainder-requires
 parse-infinity-remainder-requires c κs = (c .before .before .before .before .before .before .pre, inf-within _ _ (inf-said c))
@@ -40,16 +40,15 @@ parse-infinity-remainder-requires c κs = (c .before .before .before .before .be
 returns-3 : tie.Need-returns-3
 returns-3 c =
     let said = c .before .before .before .before in
-    sums-refused _
+    sum-refused _ _
     (word-refused (settings-of (said .before .before .before .before .before .before .args .settings .now)) _ _ _ (on (said .before .before .before)) (inf-said said)
     (sym (c .before .before .before .parse-infinity-remainder .ensures) ∙ ap next (c .before .cause .given .1)))
 
 returns-4 : tie.Need-returns-4
-unfolding infinite
 returns-4 c =
     let said = c .before .before .before .before .before .before in
     rw (c .kind-multiplier .ensures, c .before .default-kind .ensures)
-    (sums-got _ (sum-none _ _)
+    (sum-got _ _ (sum-none _ _)
     (word-got (settings-of (said .before .before .before .before .before .before .args .settings .now)) _ _ _ (on (said .before .before .before)) (inf-said said)
     (sym (c .before .before .before .before .before .parse-infinity-remainder .ensures) ∙ ap next (c .before .before .before .next .given .1))))
 

@@ -2,7 +2,8 @@
 use mathlib.Core.Path.{sym, ap, _∙_}
 use mathlib.Core.Logic.{inl, inr}
 use Rattle.rules.specs.SettingsAsWords.{settings-of}
-use Rattle.reading.specs.Sums.{sums, sums-refused}
+use Rattle.steps.specs.Sums.{sum-refused}
+use Rattle.reading.specs.Sums.{sums}
 use Rattle.reading.specs.Typed.{unsigned-number, unsigned-word, unsigned-none}
 use Rattle.reading.proofs.typed.unsigned_part.Statement.{statement}
 use Rattle.reading.proofs.typed.unsigned_part.Tie as tie
@@ -23,7 +24,7 @@ returns-3 : tie.Need-returns-3
 returns-3 c =
     let start = c .before .before .before in
     let here = start .pre .1 in
-    sums-refused _
+    sum-refused _ _
     (unsigned-none (settings-of (start .args .settings .now)) _ _ _ _
     (λ e. c .match .rest .0 .1 (inl (here ∙ e)))
     (λ e. c .match .rest .0 .1 (inr (here ∙ e)))

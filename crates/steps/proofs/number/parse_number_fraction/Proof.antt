@@ -9,7 +9,7 @@ use Rattle.rules.specs.SettingsAsWords.{settings-of}
 use Rattle.rules.specs.SettingsAndUnitTable.{POINT, is}
 use Rattle.rules.specs.Laws.Texts.{sees-in}
 use Rattle.value.specs.Sums.{sum-of, sum-both, sum-whole}
-use Rattle.steps.specs.Sums.{sums-got, sums-refused}
+use Rattle.steps.specs.Sums.{sum-got, sum-refused}
 use Rattle.steps.specs.Numbers.{fraction-absent, fraction-off, fraction-empty, fraction-after, fraction-some}
 use Rattle.steps.proofs.number.parse_number_fraction.Statement.{statement}
 use Rattle.steps.proofs.number.parse_number_fraction.Tie as tie
@@ -34,12 +34,12 @@ summed-both c =
 returns : tie.Need-returns
 returns c =
     let start = c .before .before .before in
-    sums-got _ (sum-whole (start .args .text .now) (start .args .whole) (start .pre) (start .args .place))
+    sum-got _ _ (sum-whole (start .args .text .now) (start .args .whole) (start .pre) (start .args .place))
     (fraction-absent (settings-of (start .args .settings .now)) _ _ _ _ (sym (c .before .is-point .ensures) ∙ not-true _ (c .if1 .taken)))
 
 returns-2 : tie.Need-returns-2
 returns-2 c =
-    sums-refused _
+    sum-refused _ _
     (fraction-off (settings-of (c .before .before .before .before .before .args .settings .now)) _ _ _ _ (point-there (c .before .before))
     (sym (c .before .fractions .ensures) ∙ not-true _ (c .if2 .taken)))
 
@@ -49,21 +49,21 @@ add-after c = omega (arith, sees-in _ _ _ (point-there (c .before .before)))
 returns-3 : tie.Need-returns-3
 returns-3 c =
     let after = c .before .before .before in
-    sums-refused _
+    sum-refused _ _
     (fraction-empty (settings-of (after .before .before .before .before .before .args .settings .now)) _ _ _ _ (point-there (after .before .before)) (on after)
     (c .before .before .sum-digits .ensures .0) (c .before .if3 .taken) (not-true _ (c .if4 .taken)))
 
 returns-4 : tie.Need-returns-4
 returns-4 c =
     let after = c .before .before .before in
-    sums-got _ (summed-both (c .before .before))
+    sum-got _ _ (summed-both (c .before .before))
     (fraction-after (settings-of (after .before .before .before .before .before .args .settings .now)) _ _ _ _ (point-there (after .before .before)) (on after)
     (c .before .before .sum-digits .ensures .0) (not-false _ (c .if4 .left)))
 
 returns-5 : tie.Need-returns-5
 returns-5 c =
     let after = c .before .before in
-    sums-got _ (summed-both (c .before))
+    sum-got _ _ (summed-both (c .before))
     (fraction-some (settings-of (after .before .before .before .before .before .args .settings .now)) _ _ _ _ (point-there (after .before .before)) (on after)
     (c .before .sum-digits .ensures .0) (c .if3 .left))
 
