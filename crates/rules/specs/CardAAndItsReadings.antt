@@ -13,7 +13,7 @@ use Rattle.rules.specs.declared.Settings.{Settings}
 use Rattle.rules.specs.Common.{ascii, all}
 use Rattle.rules.specs.ThePartOfTheCrateWeTake.{zero-length, largest}
 use Rattle.rules.specs.NumbersHandedBack.{done}
-use Rattle.rules.specs.SettingsAndUnitTable.{name-room, coefficient-size, power-size, low-bytes, low-first}
+use Rattle.rules.specs.SettingsAndUnitTable.{name-room, coefficient-size, power-size, low-bytes, low-first, Card}
 use Rattle.rules.specs.WhatEveryEntryOwes.{total-answer}
 use Rattle.rules.specs.Computing.{computing}
 
@@ -28,8 +28,8 @@ conjunction w = record { size = length (ascii w); letters = low-first (ascii w) 
 
 -- all switches on but the one after a sign, and negatives as given; both sets hold the space; default 3; and so many of two
 -- conjunctions
-unfoldable pub card : Bool → ℕ → String → String → Settings
-card negatives conjunctions first second = record {
+unfoldable pub settings : Bool → ℕ → String → String → Settings
+settings negatives conjunctions first second = record {
   negatives = negatives;
   fractions = true;
   exponents = true;
@@ -48,8 +48,8 @@ card negatives conjunctions first second = record {
 }
 
 -- conjunction `and`
-unfoldable pub card-A : Settings
-card-A = card true 1 "and" ""
+unfoldable pub settings-A : Settings
+settings-A = settings true 1 "and" ""
 
 -- a row: name, kind, and what coefficient and power come to in two's complement
 unfoldable pub row-of : String → ℕ → ℕ → ℕ → List ℕ
@@ -70,6 +70,13 @@ table-A =
     ++ row-of "min" 4 1 0
     ++ row-of "turn" 2 123 (2 ^ 16 - 1)
     ++ row-of "block" 3 10000000000 0
+
+-- a card without numerals
+unfoldable pub unspoken : Settings → List ℕ → Card
+unspoken s units = record { settings = s; units = units; numerals = [] }
+
+unfoldable pub card-A : Card
+card-A = unspoken settings-A table-A
 
 -- ---- the readings
 
@@ -113,11 +120,11 @@ starred =
     ∷ reads "+1.5-2+0" (minus 0 500000000)
     ∷ []
 
-unfoldable pub holds-under : Settings → List ℕ → Case → Bool
-holds-under s table c = same-answer (total-answer s table (ascii (c .typed))) (c .comes-to)
+unfoldable pub holds-under : Card → Case → Bool
+holds-under card c = same-answer (total-answer card (ascii (c .typed))) (c .comes-to)
 
-pub starred-readings : T (all (holds-under card-A table-A) starred)
-unfolding computing space conjunction card card-A row-of table-A same-length same-answer reads plus minus fails starred holds-under
+pub starred-readings : T (all (holds-under card-A) starred)
+unfolding computing space conjunction settings settings-A row-of table-A unspoken card-A same-length same-answer reads plus minus fails starred holds-under
 starred-readings = tt
 
 -- ---- readings beside them, each of which a wrong definition would miss
@@ -141,24 +148,24 @@ beside =
     ∷ fails "infi" 2 0
     ∷ []
 
-pub readings-beside : T (all (holds-under card-A table-A) beside)
-unfolding computing space conjunction card card-A row-of table-A same-length same-answer reads plus minus fails beside holds-under
+pub readings-beside : T (all (holds-under card-A) beside)
+unfolding computing space conjunction settings settings-A row-of table-A unspoken card-A same-length same-answer reads plus minus fails beside holds-under
 readings-beside = tt
 
 -- card A with two conjunctions, `a` before `and`
-unfoldable pub card-A-with-a : Settings
-card-A-with-a = card true 2 "a" "and"
+unfoldable pub card-A-with-a : Card
+card-A-with-a = unspoken (settings true 2 "a" "and") table-A
 
 -- the first listed conjunction that is a prefix, not the longest
-pub first-listed-reading : T (holds-under card-A-with-a table-A (fails "1s and 2ms" 2 4))
-unfolding computing space conjunction card card-A-with-a row-of table-A same-length same-answer fails holds-under
+pub first-listed-reading : T (holds-under card-A-with-a (fails "1s and 2ms" 2 4))
+unfolding computing space conjunction settings row-of table-A unspoken card-A-with-a same-length same-answer fails holds-under
 first-listed-reading = tt
 
 -- card A with negatives off
-unfoldable pub card-A-without-negatives : Settings
-card-A-without-negatives = card false 1 "and" ""
+unfoldable pub card-A-without-negatives : Card
+card-A-without-negatives = unspoken (settings false 1 "and" "") table-A
 
 -- a part is read to its end, connection included, before it is tested for 5; and an earlier part's 5 comes before a later part's 2
-pub forbidden-readings : T (all (holds-under card-A-without-negatives table-A) (fails "-1s and" 2 4 ∷ fails "-1s 1e" 5 0 ∷ []))
-unfolding computing space conjunction card card-A-without-negatives row-of table-A same-length same-answer fails holds-under
+pub forbidden-readings : T (all (holds-under card-A-without-negatives) (fails "-1s and" 2 4 ∷ fails "-1s 1e" 5 0 ∷ []))
+unfolding computing space conjunction settings row-of table-A unspoken card-A-without-negatives same-length same-answer fails holds-under
 forbidden-readings = tt

@@ -17,7 +17,7 @@ use Rattle.rules.specs.NumbersHandedBack.{done}
 use Rattle.rules.specs.SettingsAndUnitTable.{stored}
 use Rattle.rules.specs.WhatEveryEntryOwes.{part-answer, total-answer, write-answer, written-buffer, shift-answer, shifted-record}
 use Rattle.rules.specs.Computing.{computing}
-use Rattle.rules.specs.CardAAndItsReadings.{space, conjunction, card, card-A, row-of, table-A, same-length, same-answer, Case, reads, plus, minus, fails, holds-under}
+use Rattle.rules.specs.CardAAndItsReadings.{space, conjunction, settings, settings-A, row-of, table-A, unspoken, card-A, same-length, same-answer, Case, reads, plus, minus, fails, holds-under}
 
 unfoldable pub refusal-of : ℕ → ℕ → Answer
 refusal-of number position = record { number = number; position = position; length = zero-length }
@@ -27,20 +27,20 @@ refusal-of number position = record { number = number; position = position; leng
 -- card A with another inner set, conjunction and default kind
 unfoldable pub limited : ByteSet → Conjunction → ℕ → Settings
 limited inner first default = record {
-  negatives = card-A .negatives;
-  fractions = card-A .fractions;
-  exponents = card-A .exponents;
-  infinity = card-A .infinity;
-  ago = card-A .ago;
-  «after_sign» = card-A .«after_sign»;
-  «before_unit» = card-A .«before_unit»;
+  negatives = settings-A .negatives;
+  fractions = settings-A .fractions;
+  exponents = settings-A .exponents;
+  infinity = settings-A .infinity;
+  ago = settings-A .ago;
+  «after_sign» = settings-A .«after_sign»;
+  «before_unit» = settings-A .«before_unit»;
   inner = inner;
-  outer = card-A .outer;
-  conjunctions = card-A .conjunctions;
+  outer = settings-A .outer;
+  conjunctions = settings-A .conjunctions;
   first = first;
-  second = card-A .second;
-  third = card-A .third;
-  fourth = card-A .fourth;
+  second = settings-A .second;
+  third = settings-A .third;
+  fourth = settings-A .fourth;
   «default_kind» = default;
 }
 
@@ -53,25 +53,25 @@ unfoldable pub blank : ℕ → List ℕ
 blank size = replicate size 0
 
 pub cards-in-order :
-    T (holds-under (limited point (conjunction "andandand") 8) (blank 31) (fails "1s" 7 65))
-    × T (holds-under (limited space (conjunction "andandand") 8) (blank 31) (fails "1s" 7 66))
-    × T (holds-under (limited space (conjunction "and") 8) (blank 31) (fails "1s" 7 67))
-    × T (holds-under (limited space (conjunction "and") 7) (blank 31) (fails "1s" 7 64))
-    × T (holds-under card-A (blank (65 * 32)) (fails "1s" 7 64))
-    × T (holds-under card-A (blank (64 * 32)) (fails "1s" 7 0))
-    × T (holds-under (limited space (conjunction "andandan") 7) table-A (reads "1s andandan 2s" (plus 3 0)))
-unfolding computing space conjunction card card-A row-of table-A same-length same-answer reads plus fails holds-under limited point blank
+    T (holds-under (unspoken (limited point (conjunction "andandand") 8) (blank 31)) (fails "1s" 7 65))
+    × T (holds-under (unspoken (limited space (conjunction "andandand") 8) (blank 31)) (fails "1s" 7 66))
+    × T (holds-under (unspoken (limited space (conjunction "and") 8) (blank 31)) (fails "1s" 7 67))
+    × T (holds-under (unspoken (limited space (conjunction "and") 7) (blank 31)) (fails "1s" 7 64))
+    × T (holds-under (unspoken settings-A (blank (65 * 32))) (fails "1s" 7 64))
+    × T (holds-under (unspoken settings-A (blank (64 * 32))) (fails "1s" 7 0))
+    × T (holds-under (unspoken (limited space (conjunction "andandan") 7) table-A) (reads "1s andandan 2s" (plus 3 0)))
+unfolding computing space conjunction settings settings-A row-of table-A unspoken card-A same-length same-answer reads plus fails holds-under limited point blank
 cards-in-order = (tt, tt, tt, tt, tt, tt, tt)
 
 -- of two equal names the later is the bad one; kind times row is held to its range, from both sides; a name is found whole
 pub rows-in-order :
-    T (holds-under card-A (row-of "s" 3 1 0 ++ row-of "ms" 2 1 0 ++ row-of "s" 3 2 0) (fails "1s" 7 2))
-    × T (holds-under card-A (row-of "s" 3 (2 ^ 63) 0) (fails "1s" 7 0))
-    × T (holds-under card-A (row-of "s" 3 (2 ^ 63 + 1) 0) (reads "1s" (minus (2 ^ 63 - 1) 0)))
-    × T (holds-under card-A (row-of "h" 5 (2 ^ 63 / 3600 + 1) 0) (fails "1h" 7 0))
-    × T (holds-under card-A (row-of "h" 5 (2 ^ 63 / 3600) 0) (reads "1h" (plus (2 ^ 63 / 3600 * 3600) 0)))
-    × T (holds-under card-A table-A (fails "1m" 6 1))
-unfolding computing space conjunction card card-A row-of table-A same-length same-answer reads plus minus fails holds-under
+    T (holds-under (unspoken settings-A (row-of "s" 3 1 0 ++ row-of "ms" 2 1 0 ++ row-of "s" 3 2 0)) (fails "1s" 7 2))
+    × T (holds-under (unspoken settings-A (row-of "s" 3 (2 ^ 63) 0)) (fails "1s" 7 0))
+    × T (holds-under (unspoken settings-A (row-of "s" 3 (2 ^ 63 + 1) 0)) (reads "1s" (minus (2 ^ 63 - 1) 0)))
+    × T (holds-under (unspoken settings-A (row-of "h" 5 (2 ^ 63 / 3600 + 1) 0)) (fails "1h" 7 0))
+    × T (holds-under (unspoken settings-A (row-of "h" 5 (2 ^ 63 / 3600) 0)) (reads "1h" (plus (2 ^ 63 / 3600 * 3600) 0)))
+    × T (holds-under card-A (fails "1m" 6 1))
+unfolding computing space conjunction settings settings-A row-of table-A unspoken card-A same-length same-answer reads plus minus fails holds-under
 rows-in-order = (tt, tt, tt, tt, tt, tt)
 
 -- a row as a stored line
@@ -82,7 +82,7 @@ a-stored-row = tt
 -- ---- one part from a place: 8, 10, then left to right; the text's end is no place beyond it
 
 unfoldable pub part-gives : List ℕ → ℕ → Answer → Bool
-part-gives text place answer = same-answer (part-answer card-A table-A text place) answer
+part-gives text place answer = same-answer (part-answer card-A text place) answer
 
 -- so many bytes that begin no number
 unfoldable pub wordy : ℕ → List ℕ
@@ -95,15 +95,15 @@ pub parts-at-their-limits :
     × T (part-gives (ascii "1s 2s") 6 (refusal-of 10 6))
     × T (part-gives (wordy 4096) 4095 (refusal-of 6 4095))
     × T (part-gives (wordy 4097) 4098 (refusal-of 8 4096))
-unfolding computing space conjunction card card-A row-of table-A same-length same-answer plus refusal-of part-gives wordy
+unfolding computing space conjunction settings settings-A row-of table-A unspoken card-A same-length same-answer plus refusal-of part-gives wordy
 parts-at-their-limits = (tt, tt, tt, tt, tt, tt)
 
 -- ---- a text's total: 8
 
 pub totals-at-their-limits :
-    T (same-answer (total-answer card-A table-A (wordy 4096)) (refusal-of 6 0))
-    × T (same-answer (total-answer card-A table-A (wordy 4097)) (refusal-of 8 4096))
-unfolding computing space conjunction card card-A row-of table-A same-length same-answer refusal-of wordy
+    T (same-answer (total-answer card-A (wordy 4096)) (refusal-of 6 0))
+    × T (same-answer (total-answer card-A (wordy 4097)) (refusal-of 8 4096))
+unfolding computing space conjunction settings settings-A row-of table-A unspoken card-A same-length same-answer refusal-of wordy
 totals-at-their-limits = (tt, tt)
 
 -- ---- the writer: 11, 10, 9; what it writes, and no other byte
@@ -132,7 +132,7 @@ writes-at-their-limits = (tt, tt, tt, tt, tt, tt)
 
 unfoldable pub shifts : Length → List ℕ → List ℕ → Answer → Length → Bool
 shifts total table text answer after =
-    same-answer (shift-answer total card-A table text) answer && same-length (shifted-record total card-A table text) after
+    same-answer (shift-answer total (unspoken settings-A table) text) answer && same-length (shifted-record total (unspoken settings-A table) text) after
 
 pub shifts-at-their-limits :
     T (shifts (plus 1 0) table-A (ascii "2s") (done 2 (plus 3 0)) (plus 3 0))
@@ -141,5 +141,5 @@ pub shifts-at-their-limits :
     × T (shifts (minus 0 0) table-A (wordy 4097) (refusal-of 11 0) (minus 0 0))
     × T (shifts (plus 1 0) table-A (wordy 4097) (refusal-of 8 4096) (plus 1 0))
     × T (shifts (plus 1 0) table-A (ascii "2s and") (refusal-of 2 3) (plus 1 0))
-unfolding computing space conjunction card card-A row-of table-A same-length same-answer plus minus refusal-of blank wordy shifts
+unfolding computing space conjunction settings settings-A row-of table-A unspoken card-A same-length same-answer plus minus refusal-of blank wordy shifts
 shifts-at-their-limits = (tt, tt, tt, tt, tt, tt)

@@ -12,12 +12,16 @@ use Rattle.rules.specs.declared.Fract.{Fract}
 use Rattle.rules.specs.declared.Exponent.{Exponent}
 use Rattle.rules.specs.declared.Multiplier.{Multiplier}
 use Rattle.rules.specs.declared.DurationRepr.{DurationRepr}
+use Rattle.rules.specs.declared.SpokenRepr.{SpokenRepr}
+use Rattle.rules.specs.declared.Repr.{Repr}
+use Rattle.rules.specs.declared.Repr.the-variants.{Typed, Spoken}
 use Rattle.rules.specs.declared.Part.{Part}
 use Rattle.rules.specs.declared.Reading.{Reading}
-use Rattle.rules.specs.declared.Refusal.the-variants.{Nothing, NegativeForbidden}
+use Rattle.rules.specs.declared.Refusal.the-variants.{Nothing, NegativeForbidden, OutOfRange}
 use Rattle.rules.specs.Common.{if_then_else_, ends}
 use Rattle.rules.specs.ThePartOfTheCrateWeTake.{nanoseconds-per-second, seconds-limit, zero-length, largest, size}
-use Rattle.rules.specs.NumbersHandedBack.{Outcome, got, refused, _>>=_}
+use Rattle.rules.specs.NumbersHandedBack.{Outcome, got, refused, _>>=_, _>>_, unless}
+use Rattle.rules.specs.SettingsAndUnitTable.{times, in-range, Card}
 use Rattle.rules.specs.ReadingOnePart.{part}
 
 -- ---- the typed number
@@ -67,13 +71,39 @@ evaluate text d =
     (attos (spelled 0 (digits-of text (d .whole) (d .fract))) (d .fract .end - d .fract .start)
     (up (d .exponent) (d .multiplier)) (down (d .exponent) (d .multiplier))))
 
+-- ---- "Spoken numbers" (request four)
+
+-- a product, which must lie in the range
+unfoldable pub multiplied : Multiplier → Multiplier → Outcome Multiplier
+multiplied m n = unless OutOfRange (in-range (times m n)) >> got (times m n)
+
+-- numeral, kind and row are multiplied from left to right
+unfoldable pub spoken-multiplier : SpokenRepr → Outcome Multiplier
+spoken-multiplier d = multiplied (d .numeral) (d .kind) >>= λ m. multiplied m (d .row)
+
+-- the number 1, without an exponent, times a multiplier
+unfoldable pub worth : Bool → Multiplier → Length
+worth negative m = length-of (xor negative (m .negative)) (nanos (m .coefficient) (attos 1 0 (m .up) (m .down)))
+
+unfoldable pub evaluate-spoken : SpokenRepr → Outcome Length
+evaluate-spoken d = spoken-multiplier d >>= λ m. got (worth (d .negative) m)
+
+-- ---- what a part comes to
+
+unfoldable pub evaluated : List ℕ → Repr → Outcome Length
+evaluated text (Typed d) = got (evaluate text d)
+evaluated text (Spoken d) = evaluate-spoken d
+
 -- a part is read to its end, then evaluated, then tested for 5
 unfoldable pub allowed : Settings → ℕ → ℕ → Length → Outcome Reading
 allowed s place next l =
     if l .negative && not (s .negatives) then refused (NegativeForbidden place) else got (record { length = l; next = next })
 
-unfoldable pub part-reading : Settings → List ℕ → List ℕ → ℕ → Outcome Reading
-part-reading s table text place = part s table text place >>= λ p. allowed s place (p .next) (evaluate text (p .repr))
+unfoldable pub part-reading : Card → List ℕ → ℕ → Outcome Reading
+part-reading card text place = do
+  p ← part card text place
+  l ← evaluated text (p .repr)
+  allowed (card .settings) place (p .next) l
 
 -- ---- the sum, clamped between MIN and MAX
 
@@ -90,14 +120,14 @@ sum-all so-far [] = so-far
 sum-all so-far (l ∷ more) = sum-all (sum so-far l) more
 
 -- the parts of a text from a place on, one after another, at most n of them; each ends beyond where it began
-unfoldable pub parts : Settings → List ℕ → List ℕ → ℕ → ℕ → Outcome (List Length)
-parts s table text zero place = refused (Nothing place)
-parts s table text (suc n) place =
-    part-reading s table text place
+unfoldable pub parts : Card → List ℕ → ℕ → ℕ → Outcome (List Length)
+parts card text zero place = refused (Nothing place)
+parts card text (suc n) place =
+    part-reading card text place
     >>= λ r.
-    let others = parts s table text n (r .next) in
+    let others = parts card text n (r .next) in
     if ends text (r .next) then got (r .length ∷ []) else (others >>= λ more. got (r .length ∷ more))
 
 -- the total adds the parts in order
-unfoldable pub total : Settings → List ℕ → List ℕ → Outcome Length
-total s table text = parts s table text (suc (length text)) 0 >>= λ lengths. got (sum-all zero-length lengths)
+unfoldable pub total : Card → List ℕ → Outcome Length
+total card text = parts card text (suc (length text)) 0 >>= λ lengths. got (sum-all zero-length lengths)

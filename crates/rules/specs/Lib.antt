@@ -13,4 +13,5 @@ pub mod CardAAndItsReadings
 pub mod EntriesAtTheirLimits
 pub mod AUnitNobodyCouldType
 pub mod WhichExponentDigitIsWrong
+pub mod SpokenNumbers
 pub mod Laws

@@ -1,10 +1,10 @@
 -- "Numbers handed back": the number and the position of each refusal, and what an entry hands back. Assumes nothing.
 use mathlib.Core.Bool.{Bool, true, false}
-use Prim.Native.Nat.{ℕ}
+use Prim.Native.Nat.{ℕ, _+_}
 use Rattle.rules.specs.declared.Length.{Length}
 use Rattle.rules.specs.declared.Answer.{Answer}
 use Rattle.rules.specs.declared.Refusal.{Refusal}
-use Rattle.rules.specs.declared.Refusal.the-variants.{Nothing, SignEnds, DelimiterEnds, FractionOff, FractionEmpty, ExponentOff, ExponentByte, ExponentEnds, ExponentAbove, ExponentBelow, InfinityByte, InfinityEnds, InfinityGoesOn, ConjunctionEnds, ConjunctionGoesOn, NegativeForbidden, NoNumber, Delimiters, Conjunctions, DefaultKind, TableSize, BadRow, TextTooLong, NoRoom, Beyond, Malformed, NotIso, YearOrMonth, TooLarge}
+use Rattle.rules.specs.declared.Refusal.the-variants.{Nothing, SignEnds, DelimiterEnds, FractionOff, FractionEmpty, ExponentOff, ExponentByte, ExponentEnds, ExponentAbove, ExponentBelow, InfinityByte, InfinityEnds, InfinityGoesOn, ConjunctionEnds, ConjunctionGoesOn, NegativeForbidden, NoNumber, NoUnit, OutOfRange, Delimiters, Conjunctions, DefaultKind, TableSize, BadRow, NumeralsSize, BadNumeral, TextTooLong, NoRoom, Beyond, Malformed, NotIso, YearOrMonth, TooLarge}
 use Rattle.rules.specs.ThePartOfTheCrateWeTake.{longest-text, zero-length}
 
 -- what a step, a check or an entry comes to: something, or a refusal
@@ -45,11 +45,15 @@ number (ConjunctionEnds p) = 2
 number (ConjunctionGoesOn p) = 2
 number (NegativeForbidden p) = 5
 number (NoNumber p) = 6
+number (NoUnit p) = 15
+number OutOfRange = 16
 number Delimiters = 7
 number Conjunctions = 7
 number DefaultKind = 7
 number TableSize = 7
 number (BadRow i) = 7
+number NumeralsSize = 7
+number (BadNumeral i) = 7
 number TextTooLong = 8
 number (NoRoom p) = 9
 number (Beyond p) = 10
@@ -76,11 +80,15 @@ position (ConjunctionEnds p) = p
 position (ConjunctionGoesOn p) = p
 position (NegativeForbidden p) = 0
 position (NoNumber p) = p
+position (NoUnit p) = p
+position OutOfRange = 0
 position Delimiters = 65
 position Conjunctions = 66
 position DefaultKind = 67
 position TableSize = 64
 position (BadRow i) = i
+position NumeralsSize = 100
+position (BadNumeral i) = 68 + i
 position TextTooLong = longest-text
 position (NoRoom p) = p
 position (Beyond p) = p

@@ -17,12 +17,15 @@ use Rattle.rules.specs.declared.Signed.{Signed}
 use Rattle.rules.specs.declared.Number.{Number}
 use Rattle.rules.specs.declared.Scaled.{Scaled}
 use Rattle.rules.specs.declared.Unit as declared-unit
+use Rattle.rules.specs.declared.Numeral.{Numeral}
+use Rattle.rules.specs.declared.SpokenUnit.{SpokenUnit}
+use Rattle.rules.specs.declared.Repr.the-variants.{Typed, Spoken}
 use Rattle.rules.specs.declared.Part.{Part}
 use Rattle.rules.specs.declared.Refusal.{Refusal}
-use Rattle.rules.specs.declared.Refusal.the-variants.{Nothing, SignEnds, DelimiterEnds, FractionOff, FractionEmpty, ExponentOff, ExponentByte, ExponentEnds, ExponentAbove, ExponentBelow, InfinityByte, InfinityEnds, InfinityGoesOn, ConjunctionEnds, ConjunctionGoesOn, NoNumber}
+use Rattle.rules.specs.declared.Refusal.the-variants.{Nothing, SignEnds, DelimiterEnds, FractionOff, FractionEmpty, ExponentOff, ExponentByte, ExponentEnds, ExponentAbove, ExponentBelow, InfinityByte, InfinityEnds, InfinityGoesOn, ConjunctionEnds, ConjunctionGoesOn, NoNumber, NoUnit}
 use Rattle.rules.specs.Common.{if_then_else_, ascii, ends, sees, run}
 use Rattle.rules.specs.NumbersHandedBack.{Outcome, got, refused, _>>=_, _>>_}
-use Rattle.rules.specs.SettingsAndUnitTable.{DIGIT, SIGN, POINT, is, is-next-duration, lower, holds, letters-of, conjunctions-of, kind-multiplier, lookup, row, product}
+use Rattle.rules.specs.SettingsAndUnitTable.{DIGIT, SIGN, POINT, is, is-next-duration, lower, holds, letters-of, conjunctions-of, kind-multiplier, Card, lookup, row, kind, row-multiplier, product}
 
 -- ---- words and delimiters
 
@@ -140,13 +143,17 @@ ago-step s text m place =
     then got (record { multiplier = negated m; next = word + 3 })
     else got (record { multiplier = m; next = place }))
 
--- when the lookup fails, the place goes back and the part carries on without a unit
-unfoldable pub unit-found : Settings → List ℕ → List ℕ → ℕ → Found → Outcome declared-unit.Unit
-unit-found s table text place (Row i) = ago-step s text (product (row table i)) (run (in-stretch s) text place)
-unit-found s table text place Nowhere = got (record { multiplier = kind-multiplier (s .«default_kind»); next = place })
+-- the row that has the stretch as its name
+unfoldable pub find-unit : Card → List ℕ → ℕ → Found
+find-unit card text place = lookup (card .units) (slice place (run (in-stretch (card .settings)) text place) text)
 
-unfoldable pub unit-step : Settings → List ℕ → List ℕ → ℕ → Outcome declared-unit.Unit
-unit-step s table text place = unit-found s table text place (lookup table (slice place (run (in-stretch s) text place) text))
+-- when the lookup fails, the place goes back and the part carries on without a unit
+unfoldable pub unit-found : Card → List ℕ → ℕ → Found → Outcome declared-unit.Unit
+unit-found card text place (Row i) = ago-step (card .settings) text (product (row (card .units) i)) (run (in-stretch (card .settings)) text place)
+unit-found card text place Nowhere = got (record { multiplier = kind-multiplier (card .settings .«default_kind»); next = place })
+
+unfoldable pub unit-step : Card → List ℕ → ℕ → Outcome declared-unit.Unit
+unit-step card text place = unit-found card text place (find-unit card text place)
 
 -- ---- 7. at an outer delimiter, a connection: the run, then the first listed conjunction that is a prefix here
 
@@ -196,60 +203,105 @@ infinity-step s text inf =
     then connection s text (inf + 3)
     else (letters-step inf (ascii "inity") (drop (inf + 3) text) (inf + 3) >>= λ place. infinity-closed s text place)
 
+-- ---- "Spoken numbers" (request four): where step 2 finds no digit, no point and no allowed infinity, a numeral may stand for a number
+
+-- the stretch up to an inner delimiter or the end
+unfoldable pub numeral-end : Settings → List ℕ → ℕ → ℕ
+numeral-end s text place = run (λ b. not (holds (s .inner) b)) text place
+
+-- found, and inner delimiters follow that do not end the text; otherwise 6 at its first byte
+unfoldable pub numeral-found : Card → List ℕ → ℕ → Found → Outcome Numeral
+numeral-found card text place (Row i) =
+    if sees (holds (card .settings .inner)) text (numeral-end (card .settings) text place)
+    then
+    (delimiters (card .settings .inner) text (numeral-end (card .settings) text place)
+    >>= λ next. got (record { multiplier = row-multiplier (row (card .numerals) i); next = next }))
+    else refused (NoNumber place)
+numeral-found card text place Nowhere = refused (NoNumber place)
+
+unfoldable pub numeral-step : Card → List ℕ → ℕ → Outcome Numeral
+numeral-step card text place =
+    numeral-found card text place (lookup (card .numerals) (slice place (numeral-end (card .settings) text place) text))
+
+-- step 6 must find a unit: no row, 15 at the byte after the delimiters; `ago` negates the row
+unfoldable pub spoken-unit-found : Card → List ℕ → ℕ → Found → Outcome SpokenUnit
+spoken-unit-found card text place (Row i) =
+    ago-step (card .settings) text (row-multiplier (row (card .units) i)) (run (in-stretch (card .settings)) text place)
+    >>= λ unit. got (record { kind = kind-multiplier (kind (row (card .units) i)); row = unit .multiplier; next = unit .next })
+spoken-unit-found card text place Nowhere = refused (NoUnit place)
+
+unfoldable pub spoken-unit-step : Card → List ℕ → ℕ → Outcome SpokenUnit
+spoken-unit-step card text place = spoken-unit-found card text place (find-unit card text place)
+
 -- ---- the part: what was typed, and where the next part begins
 
 -- infinity has no digits and no exponent, and the default kind for its unit
 abbrev pub infinite : Settings → Bool → ℕ → ℕ → Part
 infinite s negative place next = record {
   repr =
-      record {
+      Typed
+      (record {
         negative = negative;
         infinite = true;
         whole = record { start = place; end = place };
         fract = record { start = place; end = place };
         exponent = record { negative = false; power = 0 };
         multiplier = kind-multiplier (s .«default_kind»);
-      };
+      });
   next = next;
 }
 
 abbrev pub finite : Bool → Number → Scaled → declared-unit.Unit → ℕ → Part
 finite negative number scaled unit next = record {
   repr =
-      record {
+      Typed
+      (record {
         negative = negative;
         infinite = false;
         whole = number .whole;
         fract = number .fract;
         exponent = scaled .exponent;
         multiplier = unit .multiplier;
-      };
+      });
+  next = next;
+}
+
+abbrev pub spoken : Bool → Numeral → SpokenUnit → ℕ → Part
+spoken negative numeral unit next = record {
+  repr = Spoken (record { negative = negative; numeral = numeral .multiplier; kind = unit .kind; row = unit .row });
   next = next;
 }
 
 unfoldable pub infinite-part : Settings → List ℕ → Bool → ℕ → Outcome Part
 infinite-part s text negative place = infinity-step s text place >>= λ next. got (infinite s negative place next)
 
-unfoldable pub finite-part : Settings → List ℕ → List ℕ → Bool → ℕ → Outcome Part
-finite-part s table text negative place = do
-  number ← number-step s text place
-  scaled ← exponent-step s text (number .next)
-  name ← gap (s .«before_unit») s text (scaled .next)
-  unit ← unit-step s table text name
-  next ← connection s text (unit .next)
+unfoldable pub finite-part : Card → List ℕ → Bool → ℕ → Outcome Part
+finite-part card text negative place = do
+  number ← number-step (card .settings) text place
+  scaled ← exponent-step (card .settings) text (number .next)
+  name ← gap (card .settings .«before_unit») (card .settings) text (scaled .next)
+  unit ← unit-step card text name
+  next ← connection (card .settings) text (unit .next)
   got (finite negative number scaled unit next)
 
--- a digit or a point; or `inf` in any case if allowed; otherwise 6
-unfoldable pub unsigned-part : Settings → List ℕ → List ℕ → Bool → ℕ → Outcome Part
-unsigned-part s table text negative place =
-    if sees (λ b. is DIGIT b || is POINT b) text place
-    then finite-part s table text negative place
-    else if s .infinity && says (ascii "inf") text place
-    then infinite-part s text negative place
-    else refused (NoNumber place)
+unfoldable pub spoken-part : Card → List ℕ → Bool → ℕ → Outcome Part
+spoken-part card text negative place = do
+  numeral ← numeral-step card text place
+  unit ← spoken-unit-step card text (numeral .next)
+  next ← connection (card .settings) text (unit .next)
+  got (spoken negative numeral unit next)
 
-unfoldable pub part : Settings → List ℕ → List ℕ → ℕ → Outcome Part
-part s table text place =
+-- a digit or a point; or `inf` in any case if allowed; otherwise a numeral
+unfoldable pub unsigned-part : Card → List ℕ → Bool → ℕ → Outcome Part
+unsigned-part card text negative place =
+    if sees (λ b. is DIGIT b || is POINT b) text place
+    then finite-part card text negative place
+    else if card .settings .infinity && says (ascii "inf") text place
+    then infinite-part (card .settings) text negative place
+    else spoken-part card text negative place
+
+unfoldable pub part : Card → List ℕ → ℕ → Outcome Part
+part card text place =
     if ends text place
     then refused (Nothing place)
-    else (sign-step s text place >>= λ signed. unsigned-part s table text (signed .negative) (signed .next))
+    else (sign-step (card .settings) text place >>= λ signed. unsigned-part card text (signed .negative) (signed .next))

@@ -1,4 +1,4 @@
--- "Settings and unit table": byte classes, delimiters, conjunctions, kinds, rows, what is accepted, and lookup.
+-- "Settings and unit table": byte classes, delimiters, conjunctions, kinds, rows, numerals, what is accepted, and lookup.
 -- Assumes nothing.
 use mathlib.Core.Bool.{Bool, true, false, not, xor, _&&_, _||_}
 use mathlib.Core.List.{List, [], _∷_, _++_}
@@ -11,7 +11,8 @@ use Rattle.rules.specs.declared.Settings.{Settings}
 use Rattle.rules.specs.declared.Multiplier.{Multiplier}
 use Rattle.rules.specs.declared.Found.{Found}
 use Rattle.rules.specs.declared.Found.the-variants.{Row, Nowhere}
-use Rattle.rules.specs.declared.Refusal.the-variants.{Delimiters, Conjunctions, DefaultKind, TableSize, BadRow}
+use Rattle.rules.specs.declared.Refusal.{Refusal}
+use Rattle.rules.specs.declared.Refusal.the-variants.{Delimiters, Conjunctions, DefaultKind, TableSize, BadRow, NumeralsSize, BadNumeral}
 use Rattle.rules.specs.Common.{if_then_else_, between, all, runs, same, starts}
 use Rattle.rules.specs.NumbersHandedBack.{Outcome, got, refused, _>>_, unless}
 
@@ -113,6 +114,9 @@ kind-downs = 9 ∷ 6 ∷ 3 ∷ 0 ∷ 0 ∷ 0 ∷ 0 ∷ 0 ∷ []
 abbrev pub last-kind : ℕ
 last-kind = 7
 
+abbrev pub second-kind : ℕ
+second-kind = 3
+
 unfoldable pub kind-multiplier : ℕ → Multiplier
 kind-multiplier kind = record { negative = false; coefficient = getD kind-coefficients kind 0; up = 0; down = getD kind-downs kind 0 }
 
@@ -126,6 +130,9 @@ settings-check s = do
 
 abbrev pub most-rows : ℕ
 most-rows = 64
+
+abbrev pub most-numerals : ℕ
+most-numerals = 32
 
 abbrev pub name-room : ℕ
 name-room = 16
@@ -236,36 +243,63 @@ e-may-lead s = s .exponents || s .«before_unit» && not (empty (s .inner))
 unfoldable pub can-be-typed : Settings → List ℕ → Bool
 can-be-typed s n = not (led-by-e n) || e-may-lead s
 
--- document 01's tests of a row
-unfoldable pub row-right : Settings → List ℕ → ℕ → Bool
-row-right s table i =
+-- the form of a row, of which the kind and each byte of the name pass a test
+unfoldable pub row-formed : (ℕ → Bool) → (ℕ → Bool) → List ℕ → ℕ → Bool
+row-formed of-kind of-name table i =
     let r = row table i in
     between 1 name-room (name-size r)
     && all (eqb 0) (after-name r)
-    && leb (kind r) last-kind
+    && of-kind (kind r)
     && all (eqb 0) (drop zeros-at r)
-    && all (may-name s) (name r)
+    && all of-name (name r)
     && not (named table (name r) i)
     && in-range (product r)
+
+-- document 01's tests of a row
+unfoldable pub row-right : Settings → List ℕ → ℕ → Bool
+row-right s table i = row-formed (between 0 last-kind) (may-name s) table i
 
 -- and its name can be typed
 unfoldable pub row-accepted : Settings → List ℕ → ℕ → Bool
 row-accepted s table i = row-right s table i && can-be-typed s (name (row table i))
 
+-- "Spoken numbers" (request four): a numeral is a row of letters, of seconds
+unfoldable pub numeral-accepted : List ℕ → ℕ → Bool
+numeral-accepted numerals i = row-formed (between second-kind second-kind) (is LETTER) numerals i
+
+-- at most so many rows, all of them whole
+unfoldable pub whole-rows : ℕ → List ℕ → Bool
+whole-rows most table = eqb (length table % row-size) 0 && leb (rows table) most
+
 -- the first bad row of the n from i on
-unfoldable pub rows-check : Settings → List ℕ → ℕ → ℕ → Outcome (Unit {0})
-rows-check s table i zero = got tt
-rows-check s table i (suc n) = let more = rows-check s table (suc i) n in if row-accepted s table i then more else refused (BadRow i)
+unfoldable pub rows-check : (ℕ → Bool) → (ℕ → Refusal) → ℕ → ℕ → Outcome (Unit {0})
+rows-check accepted bad i zero = got tt
+rows-check accepted bad i (suc n) = let more = rows-check accepted bad (suc i) n in if accepted i then more else refused (bad i)
 
 -- 0 to 64 rows of 32 bytes
 unfoldable pub table-check : Settings → List ℕ → Outcome (Unit {0})
 table-check s table = do
-  unless TableSize (eqb (length table % row-size) 0 && leb (rows table) most-rows)
-  rows-check s table 0 (rows table)
+  unless TableSize (whole-rows most-rows table)
+  rows-check (row-accepted s table) BadRow 0 (rows table)
 
--- settings first, then the table
-unfoldable pub card-check : Settings → List ℕ → Outcome (Unit {0})
-card-check s table = settings-check s >> table-check s table
+-- 0 to 32 rows of the same form
+unfoldable pub numerals-check : List ℕ → Outcome (Unit {0})
+numerals-check numerals = do
+  unless NumeralsSize (whole-rows most-numerals numerals)
+  rows-check (numeral-accepted numerals) BadNumeral 0 (rows numerals)
+
+-- what a reading is made under: settings, the unit table and the numeral table
+pub record Card : Type 0 where
+  pub settings : Settings
+  pub units : List ℕ
+  pub numerals : List ℕ
+
+-- settings first, then the unit table, then the numerals
+unfoldable pub card-check : Card → Outcome (Unit {0})
+card-check card = do
+  settings-check (card .settings)
+  table-check (card .settings) (card .units)
+  numerals-check (card .numerals)
 
 -- ---- lookup, byte for byte: the first of the n rows from i on that has the name
 

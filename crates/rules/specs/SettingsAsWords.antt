@@ -9,6 +9,7 @@ use Rattle.rules.specs.declared.ByteSet.{ByteSet}
 use Rattle.rules.specs.declared.Conjunction.{Conjunction}
 use Rattle.rules.specs.declared.Settings.{Settings}
 use Rattle.rules.specs.Common.{if_then_else_}
+use Rattle.rules.specs.SettingsAndUnitTable.{Card}
 
 -- one of the words
 abbrev pub word : List ℕ → ℕ → ℕ
@@ -55,6 +56,10 @@ settings-of words = record {
   fourth = conjunction-of (word words 22) (word words 23);
   «default_kind» = held-to most-of-a-byte (word words 24);
 }
+
+-- a card as it is lent: its settings as words, and the bytes of its tables
+abbrev pub card-of : List ℕ → List ℕ → List ℕ → Card
+card-of words units numerals = record { settings = settings-of words; units = units; numerals = numerals }
 
 -- the words of a record
 unfoldable pub settings-words : Settings → List ℕ

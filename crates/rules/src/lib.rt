@@ -115,7 +115,20 @@ pub struct Unit {
     pub next: usize,
 }
 
-// One part as it was typed, before it is evaluated.
+// What a spoken number is: the numeral's row, and the place after its delimiters.
+pub struct Numeral {
+    pub multiplier: Multiplier,
+    pub next: usize,
+}
+
+// What step 6 finds for a spoken number: the kind and the row of its unit, and the place after it.
+pub struct SpokenUnit {
+    pub kind: Multiplier,
+    pub row: Multiplier,
+    pub next: usize,
+}
+
+// One part as it was typed, with digits or as infinity, before it is evaluated.
 pub struct DurationRepr {
     pub negative: bool,
     pub infinite: bool,
@@ -125,9 +138,22 @@ pub struct DurationRepr {
     pub multiplier: Multiplier,
 }
 
+// One part with a spoken number, before numeral, kind and row are multiplied.
+pub struct SpokenRepr {
+    pub negative: bool,
+    pub numeral: Multiplier,
+    pub kind: Multiplier,
+    pub row: Multiplier,
+}
+
+pub enum Repr {
+    Typed(DurationRepr),
+    Spoken(SpokenRepr),
+}
+
 // A part read to its end, connection included.
 pub struct Part {
-    pub repr: DurationRepr,
+    pub repr: Repr,
     pub next: usize,
 }
 
@@ -166,12 +192,17 @@ pub enum Refusal {
     NegativeForbidden(usize),
     // a part has no number here
     NoNumber(usize),
-    // the card: a wrong delimiter, conjunction, default kind, table size or row
+    // a spoken number has no unit here; a product of its numeral, kind and row is out of range
+    NoUnit(usize),
+    OutOfRange,
+    // the card: a wrong delimiter, conjunction, default kind, table size or row, and the same of the numerals
     Delimiters,
     Conjunctions,
     DefaultKind,
     TableSize,
     BadRow(usize),
+    NumeralsSize,
+    BadNumeral(usize),
     // the text is longer than a text may be
     TextTooLong,
     // the buffer has no room for the length at this place

@@ -17,11 +17,13 @@ use Rattle.rules.specs.declared.Found.{Found}
 use Rattle.rules.specs.declared.Found.the-variants.{Row, Nowhere}
 use Rattle.rules.specs.declared.Whole.{Whole}
 use Rattle.rules.specs.declared.Scaled.{Scaled}
+use Rattle.rules.specs.declared.Numeral.{Numeral}
+use Rattle.rules.specs.declared.SpokenUnit.{SpokenUnit}
 use Rattle.rules.specs.declared.Refusal.the-variants.{InfinityByte}
 use Rattle.rules.specs.Common.{if_then_else_, ascii, ends, sees, run}
 use Rattle.rules.specs.NumbersHandedBack.{Outcome, got, refused, _>>=_}
-use Rattle.rules.specs.SettingsAndUnitTable.{DIGIT, SIGN, POINT, is, holds, is-next-duration, conjunctions-of, lookup, row, product}
-use Rattle.rules.specs.ReadingOnePart.{prefix, says, delimiters, gap, sign-step, fraction-step, number-step, exponent-limit, exponent-passed, exponent-digits, exponent-number, exponent-step, same-letter, in-stretch, closes-unit, ago-step, unit-found, unit-step, conjunction-size, after-conjunction, conjunction-step, connection, closes-infinity, letters-step, infinity-closed, infinity-step, infinite-part, finite-part, unsigned-part, part}
+use Rattle.rules.specs.SettingsAndUnitTable.{DIGIT, SIGN, POINT, is, holds, is-next-duration, conjunctions-of, Card, lookup, row, row-multiplier, product}
+use Rattle.rules.specs.ReadingOnePart.{prefix, says, delimiters, gap, sign-step, fraction-step, number-step, exponent-limit, exponent-passed, exponent-digits, exponent-number, exponent-step, same-letter, in-stretch, closes-unit, ago-step, find-unit, unit-found, unit-step, numeral-end, numeral-found, numeral-step, spoken-unit-found, spoken-unit-step, conjunction-size, after-conjunction, conjunction-step, connection, closes-infinity, letters-step, infinity-closed, infinity-step, infinite-part, finite-part, spoken-part, unsigned-part, part}
 use Rattle.rules.specs.Laws.Choices.{and-left, and-right}
 use Rattle.rules.specs.Laws.Outcomes.{All, all-got, all-refused, all-if, all-bind, all-map}
 use Rattle.rules.specs.Laws.Texts.{ends-le, not-ends-lt, sees-in, sees-or, run-from, run-within, run-past, run-stop}
@@ -127,16 +129,6 @@ module _ (s : Settings) (text : List ℕ) where
       (λ _. all-bind (delimiters-ahead (s .inner) place h)
       (λ word a. all-if (λ e. all-got (record { from = omega arith; within = says-within (ascii "ago") text word (a .within) (and-left _ _ e) })) (λ _. all-got (record { from = le-refl place; within = h }))))
 
-  pub unit-ahead : (table : List ℕ) (place : ℕ) → place ≤ length text → All (λ r. Ahead text place (r .next)) (unit-step s table text place)
-  unfolding unit-step unit-found
-  unit-ahead table place h = go (lookup table (slice place (run (in-stretch s) text place) text))
-    where
-      go : (f : Found) → All (λ r. Ahead text place (r .next)) (unit-found s table text place f)
-      go (Row i) =
-          all-map (ago-ahead (product (row table i)) (run (in-stretch s) text place) (run-within _ text place h))
-          (λ r a. record { from = omega (arith, run-from (in-stretch s) text place); within = a .within })
-      go Nowhere = all-got (record { from = le-refl place; within = h })
-
   letters-ahead : (inf : ℕ) (word rest : List ℕ) (place : ℕ) → All (λ next. (place ≤ next) × (next ≤ place + length rest)) (letters-step inf word rest place)
   unfolding letters-step
   letters-ahead inf [] rest place = all-got (le-refl place, le-add-right place (length rest))
@@ -153,26 +145,86 @@ module _ (s : Settings) (text : List ℕ) where
       (λ _. all-map (connection-ahead place (omega (arith, length-drop (inf + 3) text))) (λ next a. record { from = omega arith; within = a .within }))
       (λ _. all-refused)))
 
+module _ (card : Card) (text : List ℕ) where
+  abbrev s : Settings
+  s = card .settings
+
+  -- ---- the unit
+
+  module _ (place : ℕ) (h : place ≤ length text) where
+    -- `ago` after the stretch
+    after-stretch : (m : Multiplier) → All (λ r. Ahead text place (r .next)) (ago-step s text m (run (in-stretch s) text place))
+    after-stretch m =
+        all-map (ago-ahead s text m (run (in-stretch s) text place) (run-within _ text place h))
+        (λ r a. record { from = omega (arith, run-from (in-stretch s) text place); within = a .within })
+
+    pub unit-ahead : All (λ r. Ahead text place (r .next)) (unit-step card text place)
+    unfolding unit-step unit-found
+    unit-ahead = go (find-unit card text place)
+      where
+        go : (f : Found) → All (λ r. Ahead text place (r .next)) (unit-found card text place f)
+        go (Row i) = after-stretch (product (row (card .units) i))
+        go Nowhere = all-got (record { from = le-refl place; within = h })
+
+    pub spoken-unit-ahead : All (λ r. Ahead text place (r .next)) (spoken-unit-step card text place)
+    unfolding spoken-unit-step spoken-unit-found
+    spoken-unit-ahead = go (find-unit card text place)
+      where
+        go : (f : Found) → All (λ r. Ahead text place (r .next)) (spoken-unit-found card text place f)
+        go (Row i) = all-bind (after-stretch (row-multiplier (row (card .units) i))) (λ unit a. all-got a)
+        go Nowhere = all-refused
+
+  -- a numeral and the delimiters behind it are read, so a spoken number ends beyond where it began
+  pub numeral-beyond : (place : ℕ) → place ≤ length text → All (λ r. Beyond text place (r .next)) (numeral-step card text place)
+  unfolding numeral-step numeral-found numeral-end delimiters
+  numeral-beyond place h = go (lookup (card .numerals) (slice place (numeral-end s text place) text))
+    where
+      end : ℕ
+      end = run (λ b. not (holds (s .inner) b)) text place
+
+      from : place ≤ end
+      from = run-from _ text place
+
+      behind : sees (holds (s .inner)) text end ≡ true → All (λ next. Beyond text place next) (delimiters (s .inner) text end)
+      behind e =
+          all-if (λ _. all-refused)
+          (λ _. all-got (record {
+            past = omega (arith, from, run-past (holds (s .inner)) text end e);
+            within = run-within (holds (s .inner)) text end (omega (arith, sees-in (holds (s .inner)) text end e));
+          }))
+
+      go : (f : Found) → All (λ r. Beyond text place (r .next)) (numeral-found card text place f)
+      go (Row i) = all-if (λ e. all-bind (behind e) (λ next b. all-got b)) (λ _. all-refused)
+      go Nowhere = all-refused
+
   -- ---- a part that is read ends beyond where it began and not beyond the text
 
-  finite-beyond : (table : List ℕ) (negative : Bool) (place : ℕ) → sees (λ b. is DIGIT b || is POINT b) text place ≡ true → All (λ p. Beyond text place (p .next)) (finite-part s table text negative place)
+  finite-beyond : (negative : Bool) (place : ℕ) → sees (λ b. is DIGIT b || is POINT b) text place ≡ true → All (λ p. Beyond text place (p .next)) (finite-part card text negative place)
   unfolding finite-part
-  finite-beyond table negative place h =
-      all-bind (number-beyond place h)
-      (λ number n. all-bind (exponent-ahead (number .next) (n .within))
-      (λ scaled e. all-bind (gap-ahead (s .«before_unit») (scaled .next) (e .within))
-      (λ name g. all-bind (unit-ahead table name (g .within))
-      (λ unit u. all-bind (connection-ahead (unit .next) (u .within))
+  finite-beyond negative place h =
+      all-bind (number-beyond s text place h)
+      (λ number n. all-bind (exponent-ahead s text (number .next) (n .within))
+      (λ scaled e. all-bind (gap-ahead s text (s .«before_unit») (scaled .next) (e .within))
+      (λ name g. all-bind (unit-ahead name (g .within))
+      (λ unit u. all-bind (connection-ahead s text (unit .next) (u .within))
       (λ next c. all-got (record { past = omega arith; within = c .within }))))))
 
-  pub part-beyond : (table : List ℕ) (place : ℕ) → All (λ p. Beyond text place (p .next)) (part s table text place)
+  spoken-beyond : (negative : Bool) (place : ℕ) → place ≤ length text → All (λ p. Beyond text place (p .next)) (spoken-part card text negative place)
+  unfolding spoken-part
+  spoken-beyond negative place h =
+      all-bind (numeral-beyond place h)
+      (λ numeral n. all-bind (spoken-unit-ahead (numeral .next) (n .within))
+      (λ unit u. all-bind (connection-ahead s text (unit .next) (u .within))
+      (λ next c. all-got (record { past = omega arith; within = c .within }))))
+
+  pub part-beyond : (place : ℕ) → All (λ p. Beyond text place (p .next)) (part card text place)
   unfolding part unsigned-part infinite-part ascii
-  part-beyond table place =
+  part-beyond place =
       all-if (λ _. all-refused)
-      (λ e. all-bind (sign-ahead place (not-ends-lt text place e))
+      (λ e. all-bind (sign-ahead s text place (not-ends-lt text place e))
       (λ signed a. all-if
-      (λ d. all-map (finite-beyond table (signed .negative) (signed .next) d) (λ p b. record { past = omega arith; within = b .within }))
+      (λ d. all-map (finite-beyond (signed .negative) (signed .next) d) (λ p b. record { past = omega arith; within = b .within }))
       (λ _. all-if
-      (λ i. all-bind (infinity-ahead (signed .next) (says-within (ascii "inf") text (signed .next) (a .within) (and-right (s .infinity) _ i)))
+      (λ i. all-bind (infinity-ahead s text (signed .next) (says-within (ascii "inf") text (signed .next) (a .within) (and-right (s .infinity) _ i)))
       (λ next b. all-got (record { past = omega arith; within = b .within })))
-      (λ _. all-refused))))
+      (λ _. all-map (spoken-beyond (signed .negative) (signed .next) (a .within)) (λ p b. record { past = omega arith; within = b .within })))))

@@ -7,11 +7,11 @@ use native.Mathlib.Omega.{arith}
 use lib.ListN.{length}
 use Rattle.rules.specs.declared.Length.{Length}
 use Rattle.rules.specs.declared.Answer.{Answer}
-use Rattle.rules.specs.declared.Settings.{Settings}
 use Rattle.rules.specs.declared.Refusal.{Refusal}
-use Rattle.rules.specs.declared.Refusal.the-variants.{Nothing, SignEnds, DelimiterEnds, FractionOff, FractionEmpty, ExponentOff, ExponentByte, ExponentEnds, ExponentAbove, ExponentBelow, InfinityByte, InfinityEnds, InfinityGoesOn, ConjunctionEnds, ConjunctionGoesOn, NegativeForbidden, NoNumber, Delimiters, Conjunctions, DefaultKind, TableSize, BadRow, TextTooLong, NoRoom, Beyond, Malformed, NotIso, YearOrMonth, TooLarge}
+use Rattle.rules.specs.declared.Refusal.the-variants.{Nothing, SignEnds, DelimiterEnds, FractionOff, FractionEmpty, ExponentOff, ExponentByte, ExponentEnds, ExponentAbove, ExponentBelow, InfinityByte, InfinityEnds, InfinityGoesOn, ConjunctionEnds, ConjunctionGoesOn, NegativeForbidden, NoNumber, NoUnit, OutOfRange, Delimiters, Conjunctions, DefaultKind, TableSize, BadRow, NumeralsSize, BadNumeral, TextTooLong, NoRoom, Beyond, Malformed, NotIso, YearOrMonth, TooLarge}
 use Rattle.rules.specs.ThePartOfTheCrateWeTake.{zero-length}
 use Rattle.rules.specs.NumbersHandedBack.{Outcome, got, refused, number, done, refusal, answered}
+use Rattle.rules.specs.SettingsAndUnitTable.{Card}
 use Rattle.rules.specs.WriterAndShiftTotal.{writing}
 use Rattle.rules.specs.WhatEveryEntryOwes.{read-part, part-answer, read-total, total-answer, write-answer, add-total, shift-answer}
 
@@ -35,11 +35,15 @@ refusal-number (ConjunctionEnds p) e = omega arith
 refusal-number (ConjunctionGoesOn p) e = omega arith
 refusal-number (NegativeForbidden p) e = omega arith
 refusal-number (NoNumber p) e = omega arith
+refusal-number (NoUnit p) e = omega arith
+refusal-number OutOfRange e = omega arith
 refusal-number Delimiters e = omega arith
 refusal-number Conjunctions e = omega arith
 refusal-number DefaultKind e = omega arith
 refusal-number TableSize e = omega arith
 refusal-number (BadRow i) e = omega arith
+refusal-number NumeralsSize e = omega arith
+refusal-number (BadNumeral i) e = omega arith
 refusal-number TextTooLong e = omega arith
 refusal-number (NoRoom p) e = omega arith
 refusal-number (Beyond p) e = omega arith
@@ -54,18 +58,18 @@ unfolding answered refusal
 refused-zero show (got a) ok h = absurd (h (ok a))
 refused-zero show (refused cause) ok h = refl
 
-pub part-refused : (s : Settings) (table text : List ℕ) (place : ℕ) → (part-answer s table text place) .number ≢ 0 → (part-answer s table text place) .length ≡ zero-length
+pub part-refused : (card : Card) (text : List ℕ) (place : ℕ) → (part-answer card text place) .number ≢ 0 → (part-answer card text place) .length ≡ zero-length
 unfolding part-answer done
-part-refused s table text place h = refused-zero _ (read-part s table text place) (λ r. refl) h
+part-refused card text place h = refused-zero _ (read-part card text place) (λ r. refl) h
 
-pub total-refused : (s : Settings) (table text : List ℕ) → (total-answer s table text) .number ≢ 0 → (total-answer s table text) .length ≡ zero-length
+pub total-refused : (card : Card) (text : List ℕ) → (total-answer card text) .number ≢ 0 → (total-answer card text) .length ≡ zero-length
 unfolding total-answer done
-total-refused s table text h = refused-zero _ (read-total s table text) (λ r. refl) h
+total-refused card text h = refused-zero _ (read-total card text) (λ r. refl) h
 
 pub write-refused : (l : Length) (buffer : List ℕ) (place : ℕ) → (write-answer l buffer place) .number ≢ 0 → (write-answer l buffer place) .length ≡ zero-length
 unfolding write-answer done
 write-refused l buffer place h = refused-zero _ (writing l buffer place) (λ r. refl) h
 
-pub shift-refused : (so-far : Length) (s : Settings) (table text : List ℕ) → (shift-answer so-far s table text) .number ≢ 0 → (shift-answer so-far s table text) .length ≡ zero-length
+pub shift-refused : (so-far : Length) (card : Card) (text : List ℕ) → (shift-answer so-far card text) .number ≢ 0 → (shift-answer so-far card text) .length ≡ zero-length
 unfolding shift-answer done
-shift-refused so-far s table text h = refused-zero _ (add-total so-far s table text) (λ r. refl) h
+shift-refused so-far card text h = refused-zero _ (add-total so-far card text) (λ r. refl) h

@@ -21,15 +21,20 @@ use Rattle.rules.specs.declared.Signed.{Signed}
 use Rattle.rules.specs.declared.Number.{Number}
 use Rattle.rules.specs.declared.Scaled.{Scaled}
 use Rattle.rules.specs.declared.Unit as declared-unit
+use Rattle.rules.specs.declared.Numeral.{Numeral}
+use Rattle.rules.specs.declared.SpokenUnit.{SpokenUnit}
 use Rattle.rules.specs.declared.DurationRepr.{DurationRepr}
+use Rattle.rules.specs.declared.SpokenRepr.{SpokenRepr}
+use Rattle.rules.specs.declared.Repr.{Repr}
+use Rattle.rules.specs.declared.Repr.the-variants.{Typed, Spoken}
 use Rattle.rules.specs.declared.Part.{Part}
 use Rattle.rules.specs.declared.Reading.{Reading}
-use Rattle.rules.specs.declared.Refusal.the-variants.{Nothing, SignEnds, DelimiterEnds, FractionOff, FractionEmpty, ExponentOff, ExponentByte, ExponentEnds, ExponentAbove, ExponentBelow, InfinityByte, InfinityEnds, InfinityGoesOn, ConjunctionEnds, ConjunctionGoesOn, NegativeForbidden, NoNumber}
+use Rattle.rules.specs.declared.Refusal.the-variants.{Nothing, SignEnds, DelimiterEnds, FractionOff, FractionEmpty, ExponentOff, ExponentByte, ExponentEnds, ExponentAbove, ExponentBelow, InfinityByte, InfinityEnds, InfinityGoesOn, ConjunctionEnds, ConjunctionGoesOn, NegativeForbidden, NoNumber, NoUnit, OutOfRange}
 use Rattle.rules.specs.Common.{if_then_else_, ascii, ends, sees, run}
-use Rattle.rules.specs.NumbersHandedBack.{Outcome, got, refused, _>>=_}
-use Rattle.rules.specs.SettingsAndUnitTable.{DIGIT, SIGN, POINT, is, holds, is-next-duration, letters-of, conjunctions-of, lookup, row, product}
-use Rattle.rules.specs.ReadingOnePart.{same-letter, says, delimiters, gap, sign-step, fraction-step, number-step, exponent-limit, exponent-passed, exponent-digits, exponent-number, exponent-step, in-stretch, closes-unit, ago-step, unit-found, unit-step, conjunction-size, after-conjunction, conjunction-step, connection, closes-infinity, letters-step, infinity-closed, infinity-step, infinite-part, finite-part, unsigned-part, part}
-use Rattle.rules.specs.Evaluation.{digits-of, evaluate, allowed, part-reading}
+use Rattle.rules.specs.NumbersHandedBack.{Outcome, got, refused, _>>=_, _>>_, unless}
+use Rattle.rules.specs.SettingsAndUnitTable.{DIGIT, SIGN, POINT, is, holds, is-next-duration, letters-of, conjunctions-of, times, in-range, Card, lookup, row, kind, kind-multiplier, row-multiplier, product}
+use Rattle.rules.specs.ReadingOnePart.{same-letter, says, delimiters, gap, sign-step, fraction-step, number-step, exponent-limit, exponent-passed, exponent-digits, exponent-number, exponent-step, in-stretch, closes-unit, ago-step, find-unit, unit-found, unit-step, numeral-end, numeral-found, numeral-step, spoken-unit-found, spoken-unit-step, conjunction-size, after-conjunction, conjunction-step, connection, closes-infinity, letters-step, infinity-closed, infinity-step, infinite-part, finite-part, spoken-part, unsigned-part, part}
+use Rattle.rules.specs.Evaluation.{digits-of, evaluate, multiplied, spoken-multiplier, worth, evaluate-spoken, evaluated, allowed, part-reading}
 use Rattle.rules.specs.Laws.Outcomes.{later, Moved, moved-got, moved-refused, moved-to, moved-cause, moved-if, moved-bind}
 use Rattle.rules.specs.Laws.Texts.{ends-shift, drop-shift, sees-shift, run-shift, slice-shift}
 
@@ -53,8 +58,14 @@ move-scaled k r = record { exponent = r .exponent; next = k + r .next }
 abbrev move-unit : ℕ → declared-unit.Unit → declared-unit.Unit
 move-unit k r = record { multiplier = r .multiplier; next = k + r .next }
 
-abbrev move-repr : ℕ → DurationRepr → DurationRepr
-move-repr k d = record {
+abbrev move-numeral : ℕ → Numeral → Numeral
+move-numeral k r = record { multiplier = r .multiplier; next = k + r .next }
+
+abbrev move-spoken-unit : ℕ → SpokenUnit → SpokenUnit
+move-spoken-unit k r = record { kind = r .kind; row = r .row; next = k + r .next }
+
+abbrev move-typed : ℕ → DurationRepr → DurationRepr
+move-typed k d = record {
   negative = d .negative;
   infinite = d .infinite;
   whole = move-whole k (d .whole);
@@ -62,6 +73,10 @@ move-repr k d = record {
   exponent = d .exponent;
   multiplier = d .multiplier;
 }
+
+abbrev move-repr : ℕ → Repr → Repr
+move-repr k (Typed d) = Typed (move-typed k d)
+move-repr k (Spoken d) = Spoken d
 
 abbrev move-part : ℕ → Part → Part
 move-part k p = record { repr = move-repr k (p .repr); next = k + p .next }
@@ -82,7 +97,19 @@ after-sign k p q e {b} f = rw (← f) (go b)
     go true = omega arith
     go false = omega arith
 
-module _ (s : Settings) (table text : List ℕ) (k : ℕ) where
+-- a product has no place
+product-from : (k : ℕ) (m n : Multiplier) → Moved (λ _ r. r) k (multiplied m n) (multiplied m n)
+unfolding multiplied unless _>>_ later
+product-from k m n = go (in-range (times m n))
+  where
+    go : (b : Bool) → Moved (λ _ r. r) k (unless OutOfRange b >> got (times m n)) (unless OutOfRange b >> got (times m n))
+    go true = moved-got
+    go false = moved-refused
+
+module _ (card : Card) (text : List ℕ) (k : ℕ) where
+  abbrev s : Settings
+  s = card .settings
+
   -- ---- tests and runs
 
   ends-at : (p q : ℕ) → q ≡ k + p → ends (drop k text) p ≡ ends text q
@@ -169,16 +196,46 @@ module _ (s : Settings) (table text : List ℕ) (k : ℕ) where
       (λ word. moved-if (ap₂ _&&_ (says-at (ascii "ago") word (k + word) refl) (closes-unit-at (word + 3) (k + word + 3) (omega arith)))
       (moved-to (cc (add-assoc k word 3))) (moved-to (cc))))
 
-  unit-from : (p q : ℕ) → q ≡ k + p → Moved move-unit k (unit-step s table (drop k text) p) (unit-step s table text q)
-  unfolding unit-step unit-found
-  unit-from p q e = rw (same-stretch) (go (lookup table (slice q (run (in-stretch s) text q) text)))
-    where
-      same-stretch : slice p (run (in-stretch s) (drop k text) p) (drop k text) ≡ slice q (run (in-stretch s) text q) text
-      same-stretch = slice-shift text k p _ ∙ ap₂ (λ a b. slice a b text) (sym e) (sym (run-at (in-stretch s) p q e))
+  -- the same stretch stands between the same places
+  stretch-at : (test : ℕ → Bool) (p q : ℕ) → q ≡ k + p → slice p (run test (drop k text) p) (drop k text) ≡ slice q (run test text q) text
+  stretch-at test p q e = slice-shift text k p _ ∙ ap₂ (λ a b. slice a b text) (sym e) (sym (run-at test p q e))
 
-      go : (f : Found) → Moved move-unit k (unit-found s table (drop k text) p f) (unit-found s table text q f)
-      go (Row i) = ago-from (product (row table i)) _ _ (run-at (in-stretch s) p q e)
+  find-at : (p q : ℕ) → q ≡ k + p → find-unit card (drop k text) p ≡ find-unit card text q
+  unfolding find-unit
+  find-at p q e = ap (lookup (card .units)) (stretch-at (in-stretch s) p q e)
+
+  unit-from : (p q : ℕ) → q ≡ k + p → Moved move-unit k (unit-step card (drop k text) p) (unit-step card text q)
+  unfolding unit-step unit-found
+  unit-from p q e = rw (find-at p q e) (go (find-unit card text q))
+    where
+      go : (f : Found) → Moved move-unit k (unit-found card (drop k text) p f) (unit-found card text q f)
+      go (Row i) = ago-from (product (row (card .units) i)) _ _ (run-at (in-stretch s) p q e)
       go Nowhere = moved-to (cc)
+
+  spoken-unit-from : (p q : ℕ) → q ≡ k + p → Moved move-spoken-unit k (spoken-unit-step card (drop k text) p) (spoken-unit-step card text q)
+  unfolding spoken-unit-step spoken-unit-found later
+  spoken-unit-from p q e = rw (find-at p q e) (go (find-unit card text q))
+    where
+      go : (f : Found) → Moved move-spoken-unit k (spoken-unit-found card (drop k text) p f) (spoken-unit-found card text q f)
+      go (Row i) = moved-bind _ _ (ago-from (row-multiplier (row (card .units) i)) _ _ (run-at (in-stretch s) p q e)) (λ unit. moved-got)
+      go Nowhere = moved-cause (ap NoUnit e)
+
+  numeral-from : (p q : ℕ) → q ≡ k + p → Moved move-numeral k (numeral-step card (drop k text) p) (numeral-step card text q)
+  unfolding numeral-step numeral-found numeral-end later
+  numeral-from p q e = rw (stretch-at _ p q e) (go (lookup (card .numerals) (slice q (run outside text q) text)))
+    where
+      outside : ℕ → Bool
+      outside b = not (holds (s .inner) b)
+
+      ended : run outside text q ≡ k + run outside (drop k text) p
+      ended = run-at outside p q e
+
+      go : (f : Found) → Moved move-numeral k (numeral-found card (drop k text) p f) (numeral-found card text q f)
+      go (Row i) =
+          moved-if (sees-at (holds (s .inner)) _ _ ended)
+          (moved-bind _ _ (delimiters-from (s .inner) _ _ ended) (λ next. moved-got))
+          (moved-cause (ap NoNumber e))
+      go Nowhere = moved-cause (ap NoNumber e)
 
   conjunction-at : (list : List Conjunction) (p q : ℕ) → q ≡ k + p → conjunction-size list (drop k text) p ≡ conjunction-size list text q
   unfolding conjunction-size
@@ -229,7 +286,7 @@ module _ (s : Settings) (table text : List ℕ) (k : ℕ) where
   unfolding infinite-part
   infinite-from negative p q e = moved-bind _ _ (infinity-from p q e) (λ next. moved-to (cc))
 
-  finite-from : (negative : Bool) (p q : ℕ) → q ≡ k + p → Moved move-part k (finite-part s table (drop k text) negative p) (finite-part s table text negative q)
+  finite-from : (negative : Bool) (p q : ℕ) → q ≡ k + p → Moved move-part k (finite-part card (drop k text) negative p) (finite-part card text negative q)
   unfolding finite-part
   finite-from negative p q e =
       moved-bind _ _ (number-from p q e)
@@ -239,25 +296,39 @@ module _ (s : Settings) (table text : List ℕ) (k : ℕ) where
       (λ unit. moved-bind _ _ (connection-from (unit .next) (k + unit .next) refl)
       (λ next. moved-got)))))
 
-  part-from : (p q : ℕ) → q ≡ k + p → Moved move-part k (part s table (drop k text) p) (part s table text q)
+  spoken-from : (negative : Bool) (p q : ℕ) → q ≡ k + p → Moved move-part k (spoken-part card (drop k text) negative p) (spoken-part card text negative q)
+  unfolding spoken-part
+  spoken-from negative p q e =
+      moved-bind _ _ (numeral-from p q e)
+      (λ numeral. moved-bind _ _ (spoken-unit-from (numeral .next) (k + numeral .next) refl)
+      (λ unit. moved-bind _ _ (connection-from (unit .next) (k + unit .next) refl)
+      (λ next. moved-got)))
+
+  part-from : (p q : ℕ) → q ≡ k + p → Moved move-part k (part card (drop k text) p) (part card text q)
   unfolding part unsigned-part later
   part-from p q e =
       moved-if (ends-at p q e) (moved-cause (ap Nothing e))
       (moved-bind _ _ (sign-from p q e)
       (λ signed. moved-if (sees-at _ (signed .next) (k + signed .next) refl) (finite-from (signed .negative) (signed .next) (k + signed .next) refl)
       (moved-if (ap (λ b. s .infinity && b) (says-at (ascii "inf") (signed .next) (k + signed .next) refl)) (infinite-from (signed .negative) (signed .next) (k + signed .next) refl)
-      moved-refused)))
+      (spoken-from (signed .negative) (signed .next) (k + signed .next) refl))))
 
   -- ---- the same digits, so the same length
 
-  evaluate-from : (d : DurationRepr) → evaluate (drop k text) d ≡ evaluate text (move-repr k d)
+  evaluate-from : (d : DurationRepr) → evaluate (drop k text) d ≡ evaluate text (move-typed k d)
   unfolding evaluate digits-of
   evaluate-from d =
       let sizes : k + d .fract .end - (k + d .fract .start) ≡ d .fract .end - d .fract .start = omega arith in
       rw (slice-shift text k (d .whole .start) (d .whole .end), slice-shift text k (d .fract .start) (d .fract .end), sizes)
 
-  pub reading-from : (p : ℕ) → Moved move-reading k (part-reading s table (drop k text) p) (part-reading s table text (k + p))
+  -- and a spoken number has no places
+  evaluated-from : (d : Repr) → Moved (λ _ l. l) k (evaluated (drop k text) d) (evaluated text (move-repr k d))
+  unfolding evaluated evaluate-spoken spoken-multiplier
+  evaluated-from (Typed d) = moved-to (sym (evaluate-from d))
+  evaluated-from (Spoken d) = moved-bind {moveB = λ _ m. m} _ _ (moved-bind {moveB = λ _ m. m} _ _ (product-from k (d .numeral) (d .kind)) (λ m. product-from k m (d .row))) (λ m. moved-got)
+
+  pub reading-from : (p : ℕ) → Moved move-reading k (part-reading card (drop k text) p) (part-reading card text (k + p))
   unfolding part-reading allowed later
   reading-from p =
       moved-bind _ _ (part-from p (k + p) refl)
-      (λ part. rw (← (evaluate-from (part .repr))) (moved-if refl moved-refused moved-got))
+      (λ part. moved-bind _ _ (evaluated-from (part .repr)) (λ l. moved-if refl moved-refused moved-got))

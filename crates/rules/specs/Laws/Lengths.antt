@@ -9,10 +9,13 @@ use lib.Dec.{leb, ltb, eqb, lit<}
 use borrow.Author.Tests.{lt-ltb, le-leb, leb-true, leb-false, eqb-true, eqb-false, ne-eqb, eq-eqb}
 use Rattle.rules.specs.declared.Length.{Length}
 use Rattle.rules.specs.declared.DurationRepr.{DurationRepr}
+use Rattle.rules.specs.declared.Repr.{Repr}
+use Rattle.rules.specs.declared.Repr.the-variants.{Typed, Spoken}
 use Rattle.rules.specs.Common.{if_then_else_}
 use Rattle.rules.specs.ThePartOfTheCrateWeTake.{nanoseconds-per-second, seconds-limit, zero-length, largest, size, well-formed}
-use Rattle.rules.specs.Evaluation.{length-of, evaluate, sum}
+use Rattle.rules.specs.Evaluation.{length-of, evaluate, spoken-multiplier, worth, evaluate-spoken, evaluated, sum}
 use Rattle.rules.specs.Laws.Choices.{if-either}
+use Rattle.rules.specs.Laws.Outcomes.{All, all-got, all-bind, always}
 
 -- so many nanoseconds, or more, are too many for a length
 abbrev pub limit : ℕ
@@ -75,6 +78,12 @@ length-of-within negative r = go (leb limit r) refl
 pub evaluate-well-formed : (text : List ℕ) (d : DurationRepr) → well-formed (evaluate text d) ≡ true
 unfolding evaluate
 evaluate-well-formed text d = if-either (λ l. well-formed l ≡ true) (d .infinite) (λ _. largest-well-formed (d .negative)) (λ _. length-of-well-formed _ _)
+
+-- and what a part comes to, if it comes to a length
+pub evaluated-well-formed : (text : List ℕ) (d : Repr) → All (λ l. well-formed l ≡ true) (evaluated text d)
+unfolding evaluated evaluate-spoken worth
+evaluated-well-formed text (Typed d) = all-got (evaluate-well-formed text d)
+evaluated-well-formed text (Spoken d) = all-bind (always (spoken-multiplier d)) (λ m _. all-got (length-of-well-formed _ _))
 
 -- ---- the sum, clamped, stays between MIN and MAX
 

@@ -3,7 +3,7 @@ use mathlib.Core.Path.{_≡_, refl, sym, ap, _∙_}
 use mathlib.Core.Bool.{Bool, true, false, false≢true}
 use Prim.Native.Nat.{ℕ, _+_}
 use Rattle.rules.specs.declared.Refusal.{Refusal}
-use Rattle.rules.specs.declared.Refusal.the-variants.{Nothing, SignEnds, DelimiterEnds, FractionOff, FractionEmpty, ExponentOff, ExponentByte, ExponentEnds, ExponentAbove, ExponentBelow, InfinityByte, InfinityEnds, InfinityGoesOn, ConjunctionEnds, ConjunctionGoesOn, NegativeForbidden, NoNumber, Delimiters, Conjunctions, DefaultKind, TableSize, BadRow, TextTooLong, NoRoom, Beyond, Malformed, NotIso, YearOrMonth, TooLarge}
+use Rattle.rules.specs.declared.Refusal.the-variants.{Nothing, SignEnds, DelimiterEnds, FractionOff, FractionEmpty, ExponentOff, ExponentByte, ExponentEnds, ExponentAbove, ExponentBelow, InfinityByte, InfinityEnds, InfinityGoesOn, ConjunctionEnds, ConjunctionGoesOn, NegativeForbidden, NoNumber, NoUnit, OutOfRange, Delimiters, Conjunctions, DefaultKind, TableSize, BadRow, NumeralsSize, BadNumeral, TextTooLong, NoRoom, Beyond, Malformed, NotIso, YearOrMonth, TooLarge}
 use Rattle.rules.specs.Common.{if_then_else_}
 use Rattle.rules.specs.NumbersHandedBack.{Outcome, got, refused, _>>=_, _>>_}
 
@@ -161,11 +161,15 @@ later k (ConjunctionEnds p) = ConjunctionEnds (k + p)
 later k (ConjunctionGoesOn p) = ConjunctionGoesOn (k + p)
 later k (NegativeForbidden p) = NegativeForbidden (k + p)
 later k (NoNumber p) = NoNumber (k + p)
+later k (NoUnit p) = NoUnit (k + p)
+later k OutOfRange = OutOfRange
 later k Delimiters = Delimiters
 later k Conjunctions = Conjunctions
 later k DefaultKind = DefaultKind
 later k TableSize = TableSize
 later k (BadRow i) = BadRow i
+later k NumeralsSize = NumeralsSize
+later k (BadNumeral i) = BadNumeral i
 later k TextTooLong = TextTooLong
 later k (NoRoom p) = NoRoom (k + p)
 later k (Beyond p) = Beyond (k + p)
