@@ -1,6 +1,6 @@
 // Card A of document 01: its settings, and its unit table as bytes.
 ghost use mathlib.Core.Path.{_≡_};
-ghost use Rattle.rules.specs.CardAAndItsReadings.{card-A, table-A};
+ghost use Rattle.rules.specs.CardAAndItsReadings.{settings-A, table-A};
 use rules::ByteSet;
 use rules::Conjunction;
 use rules::Settings;
@@ -228,7 +228,7 @@ const NO_CONJUNCTION: Conjunction = Conjunction {
 
 // All switches on but the one after a sign; both sets hold the space; one conjunction.
 pub fn settings() -> Settings
-    ensures { λ r. ⌜ r ≡ card-A ⌝ }
+    ensures { λ r. ⌜ r ≡ settings-A ⌝ }
 {
     Settings {
         negatives: true,

@@ -1,6 +1,6 @@
-// Cards of a list: a line of hexadecimal digits (switches, inner set, outer set, conjunctions, default kind, size of the table)
-// and then the rows of the table, each in its stored form, the last one whole. Sizes, counts and kinds can be wrong, since
-// refusal 7 is about such cards.
+// Cards of a list: a line of hexadecimal digits (switches, inner set, outer set, conjunctions, default kind, sizes of the unit table and
+// of the numeral table) and then the rows of the one and of the other, each in its stored form, the last one of each whole. Sizes, counts
+// and kinds can be wrong, since refusal 7 is about such cards.
 use crate::fields::byte_at;
 use crate::fields::flag_at;
 use crate::fields::further;
@@ -25,22 +25,25 @@ const CONJUNCTION: usize = 18;
 
 const KIND_AT: usize = 216;
 
-const SIZE_AT: usize = 218;
+const TABLE_SIZE_AT: usize = 218;
+
+const NUMERALS_SIZE_AT: usize = 222;
 
 // Bytes of a card's line, of a row and of its stored form, the newlines included.
-const HEAD: usize = 223;
+const HEAD: usize = 227;
 
 const ROW: usize = 32;
 
 const STORED: usize = 65;
 
-// The longest table of a list: four times as many rows as a table may have.
+// The longest table of a list: four times as many rows as a unit table may have.
 pub const MOST_BYTES: usize = 8_192;
 
-// Settings, and how many bytes the table has.
+// Settings, and how many bytes each table has.
 pub struct Card {
     pub settings: Settings,
-    pub size: usize,
+    pub table_size: usize,
+    pub numerals_size: usize,
 }
 
 pub enum Next {
@@ -106,15 +109,18 @@ fn read_table(table: &mut [u8], size: u16) -> bool {
     more
 }
 
-// The next card of the list; its table is put at the start of the buffer.
-pub fn next_card(table: &mut [u8]) -> Next {
+// The next card of the list; its tables are put at the starts of the buffers.
+pub fn next_card(table: &mut [u8], numerals: &mut [u8]) -> Next {
     let mut line = [0u8; HEAD];
     let more = read_line(&mut line);
-    let size = short_at(&line, SIZE_AT);
-    if read_table(table, size) & more {
+    let table_size = short_at(&line, TABLE_SIZE_AT);
+    let units = read_table(table, table_size);
+    let numerals_size = short_at(&line, NUMERALS_SIZE_AT);
+    if read_table(numerals, numerals_size) & units & more {
         Next::Card(Card {
             settings: settings_of(&line),
-            size: size as usize,
+            table_size: table_size as usize,
+            numerals_size: numerals_size as usize,
         })
     } else {
         Next::End

@@ -4,16 +4,16 @@ use libc::STDOUT_FILENO;
 // More of anything than a list has.
 pub const MOST: u64 = 1_000_000_000_000;
 
-// What a program counts: answers by their number, which is 0 to 14, and behind these what differs, the entries of its list and the cards.
-pub const NUMBERS: usize = 15;
+// What a program counts: answers by their number, which is 0 to 16, and behind these what differs, the entries of its list and the cards.
+pub const NUMBERS: usize = 17;
 
-pub const DIFFERENCE: usize = 15;
+pub const DIFFERENCE: usize = 17;
 
-pub const ENTRY: usize = 16;
+pub const ENTRY: usize = 18;
 
-pub const CARD: usize = 17;
+pub const CARD: usize = 19;
 
-pub const COUNTS: usize = 18;
+pub const COUNTS: usize = 20;
 
 pub fn one_more(count: u64) -> u64 {
     if count < MOST { count + 1 } else { count }

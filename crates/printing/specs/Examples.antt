@@ -4,7 +4,7 @@ use mathlib.Core.List.{List, [], _∷_}
 use Prim.Native.String.{String}
 use lib.Dec.{T}
 use Rattle.rules.specs.Common.{ascii, same, all}
-use Rattle.rules.specs.CardAAndItsReadings.{space, conjunction, card, card-A, row-of, table-A}
+use Rattle.rules.specs.CardAAndItsReadings.{space, conjunction, settings, settings-A, row-of, table-A, unspoken, card-A}
 use Rattle.rules.specs.Computing.{computing}
 use Rattle.printing.specs.Lines.{in-line, before-first, lines}
 use Rattle.printing.specs.Printed.{field, printed, printed-all, sheet-printed}
@@ -15,7 +15,7 @@ pub record Sheet : Type 0 where
 
 -- under card A
 unfoldable pub holds : Sheet → Bool
-holds s = same (sheet-printed card-A table-A (ascii (s .typed))) (ascii (s .gives))
+holds s = same (sheet-printed card-A (ascii (s .typed))) (ascii (s .gives))
 
 -- document 01's lines, the last without newline; nothing; newlines alone; an empty line between two; a carriage return, which is a
 -- byte like any other
@@ -29,5 +29,5 @@ sheets =
     ∷ []
 
 pub sheets-hold : T (all holds sheets)
-unfolding computing space conjunction card card-A row-of table-A in-line before-first lines field printed printed-all sheet-printed holds sheets
+unfolding computing space conjunction settings settings-A row-of table-A unspoken card-A in-line before-first lines field printed printed-all sheet-printed holds sheets
 sheets-hold = tt

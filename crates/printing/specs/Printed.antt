@@ -9,12 +9,11 @@ use lib.Dec.{leb}
 use lib.ListN.{length, take, drop, length-append, take-append-drop}
 use lib.Seq.{take-all, length-take-le}
 use Rattle.rules.specs.declared.Answer.{Answer}
-use Rattle.rules.specs.declared.Settings.{Settings}
 use Rattle.rules.specs.declared.Refusal.the-variants.{TextTooLong}
 use Rattle.rules.specs.Common.{if_then_else_, all, front}
 use Rattle.rules.specs.ThePartOfTheCrateWeTake.{longest-text}
 use Rattle.rules.specs.NumbersHandedBack.{Outcome, got, refused, _>>_, unless, done, answered}
-use Rattle.rules.specs.SettingsAndUnitTable.{card-check}
+use Rattle.rules.specs.SettingsAndUnitTable.{Card, card-check}
 use Rattle.rules.specs.WriterAndShiftTotal.{sign-byte, whole-digits}
 use Rattle.rules.specs.WhatEveryEntryOwes.{read-total, total-answer}
 use Rattle.rules.specs.Laws.Choices.{and-left}
@@ -40,16 +39,16 @@ printed a =
     ++ field (a .length .nanoseconds) newline
 
 -- for a line what is printed for its total
-abbrev pub line-printed : Settings → List ℕ → List ℕ → List ℕ
-line-printed s table line = printed (total-answer s table line)
+abbrev pub line-printed : Card → List ℕ → List ℕ
+line-printed card line = printed (total-answer card line)
 
-unfoldable pub printed-all : Settings → List ℕ → List (List ℕ) → List ℕ
-printed-all s table [] = []
-printed-all s table (line ∷ more) = line-printed s table line ++ printed-all s table more
+unfoldable pub printed-all : Card → List (List ℕ) → List ℕ
+printed-all card [] = []
+printed-all card (line ∷ more) = line-printed card line ++ printed-all card more
 
 -- for a sheet what is printed for its lines, one after another
-unfoldable pub sheet-printed : Settings → List ℕ → List ℕ → List ℕ
-sheet-printed s table sheet = printed-all s table (lines sheet)
+unfoldable pub sheet-printed : Card → List ℕ → List ℕ
+sheet-printed card sheet = printed-all card (lines sheet)
 
 -- of a line that has not ended as many bytes as the longest text has, and one more: what it has beyond them changes no answer
 abbrev pub kept-of : List ℕ → List ℕ
@@ -102,21 +101,21 @@ all-take : (n : ℕ) (line : List ℕ) → all in-line line ≡ true → all in-
 unfolding all
 all-take n line e = and-left _ _ (sym (all-both in-line (take n line) (drop n line)) ∙ ap (all in-line) (take-append-drop n line) ∙ e)
 
-module _ (s : Settings) (table : List ℕ) where
-  pub printed-both : (these those : List (List ℕ)) → printed-all s table (these ++ those) ≡ printed-all s table these ++ printed-all s table those
+module _ (card : Card) where
+  pub printed-both : (these those : List (List ℕ)) → printed-all card (these ++ those) ≡ printed-all card these ++ printed-all card those
   unfolding printed-all
   printed-both [] those = refl
   printed-both (line ∷ these) those = rw (printed-both these those, append-assoc)
 
   -- a sheet may be cut behind any newline
-  pub sheet-cut : (sheet rest : List ℕ) → sheet-printed s table (sheet ++ newline ∷ rest) ≡ sheet-printed s table (sheet ++ newline ∷ []) ++ sheet-printed s table rest
+  pub sheet-cut : (sheet rest : List ℕ) → sheet-printed card (sheet ++ newline ∷ rest) ≡ sheet-printed card (sheet ++ newline ∷ []) ++ sheet-printed card rest
   unfolding sheet-printed
-  sheet-cut sheet rest = ap (printed-all s table) (newline-cuts sheet rest) ∙ printed-both (lines (sheet ++ newline ∷ [])) (lines rest)
+  sheet-cut sheet rest = ap (printed-all card) (newline-cuts sheet rest) ∙ printed-both (lines (sheet ++ newline ∷ [])) (lines rest)
 
   -- texts that are too long have one answer, whatever they hold
-  long-answer : (text : List ℕ) → longest-text < length text → total-answer s table text ≡ answered (done 0) (card-check s table >> refused TextTooLong)
+  long-answer : (text : List ℕ) → longest-text < length text → total-answer card text ≡ answered (done 0) (card-check card >> refused TextTooLong)
   unfolding total-answer read-total answered unless _>>_
-  long-answer text long = rw (lt-leb (length text) longest-text long) (go (card-check s table))
+  long-answer text long = rw (lt-leb (length text) longest-text long) (go (card-check card))
     where
       go : (o : Outcome (Unit {0})) → answered (done (length text)) (o >> refused TextTooLong) ≡ answered (done 0) (o >> refused TextTooLong)
       go (got a) = refl
@@ -127,22 +126,22 @@ module _ (s : Settings) (table : List ℕ) where
       (line rest : List ℕ)
       → all in-line line ≡ true
       → longest-text < length line
-      → sheet-printed s table (line ++ rest) ≡ sheet-printed s table (kept-of line ++ rest)
+      → sheet-printed card (line ++ rest) ≡ sheet-printed card (kept-of line ++ rest)
   unfolding sheet-printed printed-all
   sheet-long line rest clean long =
       let most : ℕ = longest-text + 1 in
       let size : length (take most line) ≡ most = length-take-le most line (omega arith) in
       let first : ℕ = front in-line rest in
-      ap (printed-all s table) (line-goes-on line clean rest (omega arith))
-      ∙ ap (λ a. printed a ++ printed-all s table (lines (drop (suc first) rest)))
+      ap (printed-all card) (line-goes-on line clean rest (omega arith))
+      ∙ ap (λ a. printed a ++ printed-all card (lines (drop (suc first) rest)))
       (long-answer (line ++ take first rest) (omega (arith, length-append line (take first rest)))
       ∙ sym (long-answer (take most line ++ take first rest) (omega (arith, length-append (take most line) (take first rest), size))))
-      ∙ sym (ap (printed-all s table) (line-goes-on (take most line) (all-take most line clean) rest (omega (arith, size))))
+      ∙ sym (ap (printed-all card) (line-goes-on (take most line) (all-take most line clean) rest (omega (arith, size))))
 
   -- and of any other line it is all
-  pub sheet-kept : (line rest : List ℕ) → all in-line line ≡ true → sheet-printed s table (line ++ rest) ≡ sheet-printed s table (kept-of line ++ rest)
+  pub sheet-kept : (line rest : List ℕ) → all in-line line ≡ true → sheet-printed card (line ++ rest) ≡ sheet-printed card (kept-of line ++ rest)
   sheet-kept line rest clean = go (leb (length line) longest-text) refl
     where
-      go : (b : Bool) → leb (length line) longest-text ≡ b → sheet-printed s table (line ++ rest) ≡ sheet-printed s table (kept-of line ++ rest)
+      go : (b : Bool) → leb (length line) longest-text ≡ b → sheet-printed card (line ++ rest) ≡ sheet-printed card (kept-of line ++ rest)
       go true e = rw (take-all (longest-text + 1) line (omega (arith, leb-true (length line) longest-text e)))
       go false e = sheet-long line rest clean (leb-false (length line) longest-text e)

@@ -10,8 +10,8 @@ use lib.Dec.{leb, eqb}
 use lib.ListN.{length, take, length-append}
 use lib.Seq.{take-all}
 use Rattle.rules.specs.declared.Answer.{Answer}
-use Rattle.rules.specs.declared.Settings.{Settings}
 use Rattle.rules.specs.Common.{if_then_else_, all}
+use Rattle.rules.specs.SettingsAndUnitTable.{Card}
 use Rattle.rules.specs.WhatEveryEntryOwes.{total-answer}
 use Rattle.rules.specs.WriterAndShiftTotal.{no-leading-zeros, decimals, second-digits, whole-digits}
 use Rattle.writing.specs.Digits.{decimals-length}
@@ -24,40 +24,40 @@ unfoldable pub joined : List (List ℕ) → List ℕ
 joined [] = []
 joined (piece ∷ more) = piece ++ joined more
 
-module _ (s : Settings) (table : List ℕ) where
+module _ (card : Card) where
   -- a run that holds some bytes and has some pieces to read prints, from here on, what is printed for all of them
   abbrev pub Right : List ℕ → List (List ℕ) → List ℕ → Type 0
-  Right held pieces out = out ≡ sheet-printed s table (held ++ joined pieces)
+  Right held pieces out = out ≡ sheet-printed card (held ++ joined pieces)
 
   -- it reads the next piece behind what it holds
   pub reads : (held piece : List ℕ) (more : List (List ℕ)) {out : List ℕ} → Right (held ++ piece) more out → Right held (piece ∷ more) out
   unfolding joined
-  reads held piece more right = right ∙ ap (sheet-printed s table) (append-assoc held piece (joined more))
+  reads held piece more right = right ∙ ap (sheet-printed card) (append-assoc held piece (joined more))
 
   -- it answers whole lines, and goes on behind them
   pub answers :
       (whole rest : List ℕ) (more : List (List ℕ)) {out : List ℕ}
       → Whole whole
       → Right rest more out
-      → Right (whole ++ rest) more (sheet-printed s table whole ++ out)
+      → Right (whole ++ rest) more (sheet-printed card whole ++ out)
   unfolding sheet-printed
   answers whole rest more w right =
-      ap (λ l. sheet-printed s table whole ++ l) right
-      ∙ sym (ap (printed-all s table) (w (rest ++ joined more)) ∙ printed-both s table (lines whole) (lines (rest ++ joined more)))
-      ∙ ap (sheet-printed s table) (sym (append-assoc whole rest (joined more)))
+      ap (λ l. sheet-printed card whole ++ l) right
+      ∙ sym (ap (printed-all card) (w (rest ++ joined more)) ∙ printed-both card (lines whole) (lines (rest ++ joined more)))
+      ∙ ap (sheet-printed card) (sym (append-assoc whole rest (joined more)))
 
   -- it keeps of a line that has not ended what changes its answer
   pub keeps : (line : List ℕ) (more : List (List ℕ)) {out : List ℕ} → all in-line line ≡ true → Right (kept-of line) more out → Right line more out
-  keeps line more clean right = right ∙ sym (sheet-kept s table line (joined more) clean)
+  keeps line more clean right = right ∙ sym (sheet-kept card line (joined more) clean)
 
   -- nothing is left to read: the last line is answered, if it is not empty, as if a newline stood behind it
   pub ends-empty : Right [] [] []
   unfolding joined sheet-printed printed-all lines
   ends-empty = refl
 
-  pub ends : (line : List ℕ) → all in-line line ≡ true → 0 < length line → Right line [] (sheet-printed s table (line ++ newline ∷ []))
+  pub ends : (line : List ℕ) → all in-line line ≡ true → 0 < length line → Right line [] (sheet-printed card (line ++ newline ∷ []))
   unfolding joined sheet-printed lines
-  ends line clean some = ap (printed-all s table) (line-then line clean [] ∙ sym (ap lines (append-nil line) ∙ line-last line clean some))
+  ends line clean some = ap (printed-all card) (line-then line clean [] ∙ sym (ap lines (append-nil line) ∙ line-last line clean some))
 
 -- ---- how far a chunk is answered: whole lines, and all of them if a line's answer has room
 
@@ -92,54 +92,54 @@ printed-most a =
       field-most (a .length .nanoseconds) newline,
     ))
 
-module _ (s : Settings) (table sheet : List ℕ) (room : ℕ) where
+module _ (card : Card) (sheet : List ℕ) (room : ℕ) where
   abbrev Come : ℕ → Progress → Type 0
   Come from p = (from ≤ p .read) × Whole (take (p .read) sheet)
 
   come-step :
       (from place : ℕ)
       → Whole (take from sheet)
-      → (line-end sheet from < length sheet → (n : ℕ) → Come (line-end sheet from + 1) (going-on s table sheet room (line-end sheet from + 1) n))
-      → Come from (going-on s table sheet room from place)
+      → (line-end sheet from < length sheet → (n : ℕ) → Come (line-end sheet from + 1) (going-on card sheet room (line-end sheet from + 1) n))
+      → Come from (going-on card sheet room from place)
   come-step from place whole on = ended (leb (length sheet) (line-end sheet from)) refl
     where
       size : ℕ
-      size = length (line-printed s table (line-at sheet from))
+      size = length (line-printed card (line-at sheet from))
 
-      stays-here : record { read = from; printed = place } ≡ going-on s table sheet room from place → Come from (going-on s table sheet room from place)
+      stays-here : record { read = from; printed = place } ≡ going-on card sheet room from place → Come from (going-on card sheet room from place)
       stays-here e = rw (← e) (omega arith, whole)
 
-      full : line-end sheet from < length sheet → (b : Bool) → leb (place + size) room ≡ b → Come from (going-on s table sheet room from place)
+      full : line-end sheet from < length sheet → (b : Bool) → leb (place + size) room ≡ b → Come from (going-on card sheet room from place)
       full h true e =
           let more = on h (place + size) in
-          rw (← (on-more s table sheet room from place h (leb-true (place + size) room e))) (omega (arith, more .0, end-from sheet from), more .1)
-      full h false e = stays-here (on-full s table sheet room from place h (leb-false (place + size) room e))
+          rw (← (on-more card sheet room from place h (leb-true (place + size) room e))) (omega (arith, more .0, end-from sheet from), more .1)
+      full h false e = stays-here (on-full card sheet room from place h (leb-false (place + size) room e))
 
-      ended : (b : Bool) → leb (length sheet) (line-end sheet from) ≡ b → Come from (going-on s table sheet room from place)
-      ended true e = stays-here (on-end s table sheet room from place (leb-true (length sheet) (line-end sheet from) e))
+      ended : (b : Bool) → leb (length sheet) (line-end sheet from) ≡ b → Come from (going-on card sheet room from place)
+      ended true e = stays-here (on-end card sheet room from place (leb-true (length sheet) (line-end sheet from) e))
       ended false e = full (leb-false (length sheet) (line-end sheet from) e) (leb (place + size) room) refl
 
-  come-on : (fuel from place : ℕ) → length sheet ≤ from + fuel → Whole (take from sheet) → Come from (going-on s table sheet room from place)
+  come-on : (fuel from place : ℕ) → length sheet ≤ from + fuel → Whole (take from sheet) → Come from (going-on card sheet room from place)
   come-on zero from place enough whole = come-step from place whole (λ h n. absurd (omega (arith, end-from sheet from)))
   come-on (suc fuel) from place enough whole =
       come-step from place whole
       (λ h n. come-on fuel (line-end sheet from + 1) n (omega (arith, end-from sheet from)) (whole-line sheet from h))
 
   -- what has been answered is whole lines
-  pub answered-whole : Whole (take (answered-to s table sheet room .read) sheet)
+  pub answered-whole : Whole (take (answered-to card sheet room .read) sheet)
   unfolding answered-to going-on lines
   answered-whole = come-on (length sheet) 0 0 (omega arith) whole-nothing .1
 
   -- where nothing has been answered, though a line's answer has room, there is no newline
-  pub answered-nothing : answered-to s table sheet room .read ≡ 0 → most-printed ≤ room → all in-line sheet ≡ true
+  pub answered-nothing : answered-to card sheet room .read ≡ 0 → most-printed ≤ room → all in-line sheet ≡ true
   unfolding answered-to going-on
   answered-nothing none enough = go (leb (length sheet) (line-end sheet 0)) refl
     where
-      some : line-end sheet 0 < length sheet → 0 < answered-to s table sheet room .read
+      some : line-end sheet 0 < length sheet → 0 < answered-to card sheet room .read
       some h =
-          let size : ℕ = length (line-printed s table (line-at sheet 0)) in
-          let more : going-on s table sheet room (line-end sheet 0 + 1) (0 + size) ≡ answered-to s table sheet room =
-          on-more s table sheet room 0 0 h (omega (arith, printed-most (total-answer s table (line-at sheet 0)))) in
+          let size : ℕ = length (line-printed card (line-at sheet 0)) in
+          let more : going-on card sheet room (line-end sheet 0 + 1) (0 + size) ≡ answered-to card sheet room =
+          on-more card sheet room 0 0 h (omega (arith, printed-most (total-answer card (line-at sheet 0)))) in
           let further = come-on (length sheet) (line-end sheet 0 + 1) (0 + size) (omega arith) (whole-line sheet 0 h) .0 in
           omega (arith, ap (λ p. p .read) more, further)
 

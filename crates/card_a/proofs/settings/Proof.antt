@@ -2,12 +2,12 @@
 use mathlib.Core.Path.{refl}
 use Rattle.rules.specs.Common.{ascii}
 use Rattle.rules.specs.SettingsAndUnitTable.{low-first}
-use Rattle.rules.specs.CardAAndItsReadings.{space, conjunction, card, card-A}
+use Rattle.rules.specs.CardAAndItsReadings.{space, conjunction, settings, settings-A}
 use Rattle.card_a.proofs.settings.Statement.{statement}
 use Rattle.card_a.proofs.settings.Tie as tie
 
 returns : tie.Need-returns
-unfolding card-A card space conjunction ascii low-first
+unfolding settings-A settings space conjunction ascii low-first
 returns c = refl
 
 pub settings-spec : {M : Type 1} → statement M
