@@ -5,7 +5,7 @@ use Prim.Native.Nat.{ℕ, _+_}
 use Rattle.rules.specs.declared.Refusal.{Refusal}
 use Rattle.rules.specs.declared.Refusal.the-variants.{Nothing, SignEnds, DelimiterEnds, FractionOff, FractionEmpty, ExponentOff, ExponentByte, ExponentEnds, ExponentAbove, ExponentBelow, InfinityByte, InfinityEnds, InfinityGoesOn, ConjunctionEnds, ConjunctionGoesOn, NegativeForbidden, NoNumber, NoUnit, OutOfRange, Delimiters, Conjunctions, DefaultKind, TableSize, BadRow, NumeralsSize, BadNumeral, TextTooLong, NoRoom, Beyond, Malformed, NotIso, YearOrMonth, TooLarge}
 use Rattle.rules.specs.Common.{if_then_else_}
-use Rattle.rules.specs.NumbersHandedBack.{Outcome, got, refused, _>>=_, _>>_}
+use Rattle.rules.specs.NumbersHandedBack.{Outcome, got, refused, _>>=_, _>>_, unless}
 
 -- ---- what holds of whatever is got
 
@@ -140,6 +140,12 @@ module _ {A : Type 0} {P : Refusal → Type 0} where
   unfolding _>>_
   refused-then (got b) h f = f
   refused-then (refused cause) (refused-by p) f = refused-by p
+
+-- a test that fails
+pub refused-unless : {P : Refusal → Type 0} (cause : Refusal) (test : Bool) → (test ≡ false → P cause) → Refused P (unless cause test)
+unfolding unless
+refused-unless cause true f = not-refused
+refused-unless cause false f = refused-by (f refl)
 
 -- ---- moved by k places
 

@@ -1,0 +1,5 @@
+-- Request four: spoken numbers.
+pub mod TheReadingBefore
+pub mod NothingChanges
+pub mod WhenNoUnitFollows
+pub mod WhenAProductLeavesItsRange
