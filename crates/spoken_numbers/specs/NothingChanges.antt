@@ -1,8 +1,8 @@
 -- With an empty numeral table nothing changes: whatever its other arguments, every entry answers as before request four. The writer did not
 -- move. Assumes nothing.
-use mathlib.Core.Path.{_≡_, refl, ap, _∙_}
+use mathlib.Core.Path.{_≡_, refl}
 use mathlib.Core.Bool.{Bool, true, false}
-use mathlib.Core.List.{List, [], _∷_}
+use mathlib.Core.List.{List}
 use Prim.Native.Nat.{ℕ, zero, suc, zero-le}
 use borrow.Author.Tests.{le-leb}
 use lib.Seq.{slice}

@@ -3,8 +3,7 @@
 use mathlib.Core.Bool.{Bool, true, false, not, _&&_, _||_}
 use mathlib.Core.List.{List, [], _∷_}
 use Prim.Native.Nat.{ℕ, zero, suc, _%_}
-use Prim.Native.String.{String}
-use lib.Dec.{T, leb, eqb}
+use lib.Dec.{leb, eqb}
 use lib.ListN.{length, drop}
 use lib.Seq.{slice}
 use Rattle.rules.specs.declared.Answer.{Answer}
@@ -25,8 +24,6 @@ use Rattle.rules.specs.SettingsAndUnitTable.{DIGIT, POINT, is, last-kind, kind-
 use Rattle.rules.specs.ReadingOnePart.{says, gap, sign-step, number-step, exponent-step, in-stretch, ago-step, connection, infinity-step}
 use Rattle.rules.specs.Evaluation.{evaluate, allowed, sum-all}
 use Rattle.rules.specs.WriterAndShiftTotal.{shifting, record-after}
-use Rattle.rules.specs.Computing.{computing}
-use Rattle.rules.specs.CardAAndItsReadings.{space, conjunction, settings, settings-A, row-of, table-A, same-length, same-answer, Case, reads, plus, fails}
 
 -- ---- the card: settings and a unit table
 

@@ -1,9 +1,9 @@
 -- A part is refused by 15 exactly if the steps come to the numeral lookup, it finds a row, a run of inner delimiters that does not end the
 -- text follows, and the stretch of step 6 from the byte after it names no row; and 15 is at that byte. Assumes nothing.
-use mathlib.Core.Path.{_≡_, refl, sym, ap, _∙_}
-use mathlib.Core.Bool.{Bool, true, false, _&&_, _||_}
+use mathlib.Core.Path.{_≡_, refl, ap, _∙_}
+use mathlib.Core.Bool.{true, false, _&&_, _||_}
 use mathlib.Core.List.{List}
-use mathlib.Core.Logic.{_↔_, _⊎_, inl, inr}
+use mathlib.Core.Logic.{_↔_}
 use Prim.Native.Nat.{ℕ, _≤_}
 use native.Mathlib.Omega.{arith}
 use lib.Dec.{lit≤}
@@ -11,7 +11,6 @@ use lib.Seq.{slice}
 use Rattle.rules.specs.declared.ByteSet.{ByteSet}
 use Rattle.rules.specs.declared.Found.{Found}
 use Rattle.rules.specs.declared.Found.the-variants.{Row, Nowhere}
-use Rattle.rules.specs.declared.Numeral.{Numeral}
 use Rattle.rules.specs.declared.Refusal.{Refusal}
 use Rattle.rules.specs.declared.Refusal.the-variants.{NoUnit}
 use Rattle.rules.specs.declared.Signed.{Signed}
@@ -19,9 +18,9 @@ use Rattle.rules.specs.Common.{if_then_else_, ascii, ends, sees, run}
 use Rattle.rules.specs.NumbersHandedBack.{Outcome, got, refused, _>>=_, number, position}
 use Rattle.rules.specs.SettingsAndUnitTable.{DIGIT, POINT, is, holds, Card, lookup, row, row-multiplier}
 use Rattle.rules.specs.ReadingOnePart.{says, delimiters, sign-step, ago-step, find-unit, numeral-end, numeral-found, numeral-step, spoken-unit-found, spoken-unit-step, connection, spoken-part, unsigned-part, part}
-use Rattle.rules.specs.Evaluation.{evaluated, allowed, part-reading}
-use Rattle.rules.specs.Laws.Choices.{if-then, if-else}
-use Rattle.rules.specs.Laws.Outcomes.{All, all-got, all-refused, all-of, all-if, all-map, all-bind, bind-got, bind-refused, Refused, not-refused, refused-by, the-cause, refused-map, refused-if, refused-bind}
+use Rattle.rules.specs.Evaluation.{evaluated, part-reading}
+use Rattle.rules.specs.Laws.Choices.{if-else}
+use Rattle.rules.specs.Laws.Outcomes.{All, all-got, all-refused, all-of, all-if, all-bind, bind-got, bind-refused, Refused, not-refused, refused-by, the-cause, refused-map, refused-if, refused-bind}
 use Rattle.rules.specs.Laws.Refusals.{By, UpTo, up-to, sign-by, ago-by, connection-by, numeral-by, infinite-by, finite-by, evaluated-by, allowed-by}
 
 -- ---- in the issue's words

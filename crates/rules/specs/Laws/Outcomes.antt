@@ -147,6 +147,20 @@ unfolding unless
 refused-unless cause true f = not-refused
 refused-unless cause false f = refused-by (f refl)
 
+-- ---- a check, and what follows it
+
+-- a test that has passed
+pub unless-got : (cause : Refusal) (test : Bool) → unless cause test ≡ got tt → test ≡ true
+unfolding unless
+unless-got cause true e = refl
+unless-got cause false e = absurd (not-got cause e)
+
+-- a refusal that is none of the check's comes behind it
+pub check-got : {A : Type 0} {P : Refusal → Type 0} {check : Outcome (Unit {0})} (next : Outcome A) {cause : Refusal} → Refused P check → (P cause → ⊥) → (check >> next) ≡ refused cause → (check ≡ got tt) × (next ≡ refused cause)
+unfolding _>>_ why
+check-got next (not-refused {a = tt}) other e = (refl, e)
+check-got next (refused-by {cause = first} p) other e = absurd (other (rw (ap (why first) e) at p))
+
 -- ---- moved by k places
 
 unfoldable pub later : ℕ → Refusal → Refusal

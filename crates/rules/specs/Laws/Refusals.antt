@@ -1,6 +1,6 @@
 -- Laws of refusals: by which numbers each step and each check refuses, whatever it is asked. Assumes nothing.
 use mathlib.Core.Path.{_≡_, refl}
-use mathlib.Core.Bool.{Bool, true, false, not}
+use mathlib.Core.Bool.{Bool, true, false}
 use mathlib.Core.List.{List, [], _∷_}
 use Prim.Native.Nat.{ℕ, zero, suc, _+_, _*_, _-_, _≤_}
 use native.Mathlib.Omega.{arith}
@@ -17,9 +17,9 @@ use Rattle.rules.specs.declared.Refusal.the-variants.{Delimiters, Conjun
 use Rattle.rules.specs.declared.Repr.{Repr}
 use Rattle.rules.specs.declared.Repr.the-variants.{Typed, Spoken}
 use Rattle.rules.specs.declared.Settings.{Settings}
-use Rattle.rules.specs.Common.{if_then_else_, ascii, run}
-use Rattle.rules.specs.NumbersHandedBack.{Outcome, got, refused, number, unless}
-use Rattle.rules.specs.SettingsAndUnitTable.{row, product, lookup, Card, settings-check, rows-check, table-check, numerals-check, card-check, delimiters-accepted, conjunctions-accepted, row-accepted, numeral-accepted, rows}
+use Rattle.rules.specs.Common.{if_then_else_, ascii}
+use Rattle.rules.specs.NumbersHandedBack.{Outcome, number, unless}
+use Rattle.rules.specs.SettingsAndUnitTable.{row, lookup, Card, settings-check, rows-check, table-check, numerals-check, card-check, rows}
 use Rattle.rules.specs.ReadingOnePart.{delimiters, gap, sign-step, fraction-step, number-step, exponent-passed, exponent-digits, exponent-number, exponent-step, ago-step, find-unit, unit-found, unit-step, numeral-end, numeral-found, numeral-step, after-conjunction, conjunction-step, connection, letters-step, infinity-closed, infinity-step, infinite-part, finite-part}
 use Rattle.rules.specs.Evaluation.{multiplied, spoken-multiplier, evaluate-spoken, evaluated, allowed}
 use Rattle.rules.specs.Laws.Outcomes.{Refused, not-refused, refused-by, refused-map, refused-if, refused-bind, refused-then, refused-unless}
