@@ -50,8 +50,10 @@ pub record OutOfItsRange (card : Card) (text : List ℕ) (place : ℕ) : Type 0 
 outside : (m : Multiplier) → in-range m ≡ false → Outside m
 unfolding in-range
 outside m e =
-    ⊎-elim (λ e. ⊎-elim (λ e. too-large (ltb-false _ _ e)) (λ e. too-high (leb-false _ _ e)) (and-either (ltb (m .coefficient) (2 ^ 63)) _ e)) (λ e. too-low (leb-false _ _ e))
-    (and-either _ (leb (m .down) (m .up + 32768)) e)
+    let coefficient : ltb (m .coefficient) (2 ^ 63) ≡ false → Outside m = λ e. too-large (ltb-false _ _ e) in
+    let above : leb (m .up) (m .down + 32767) ≡ false → Outside m = λ e. too-high (leb-false _ _ e) in
+    let below : leb (m .down) (m .up + 32768) ≡ false → Outside m = λ e. too-low (leb-false _ _ e) in
+    ⊎-elim (λ e. ⊎-elim coefficient above (and-either _ _ e)) below (and-either _ _ e)
 
 not-in-range : (m : Multiplier) → Outside m → in-range m ≡ false
 unfolding in-range

@@ -23,7 +23,7 @@ use Rattle.rules.specs.Laws.Choices.{if-else}
 use Rattle.rules.specs.Laws.Outcomes.{All, all-got, all-refused, all-of, all-if, all-bind, bind-got, bind-refused, Refused, not-refused, refused-by, the-cause, refused-map, refused-if, refused-bind}
 use Rattle.rules.specs.Laws.Refusals.{By, UpTo, up-to, sign-by, ago-by, connection-by, numeral-by, infinite-by, finite-by, evaluated-by, allowed-by}
 
--- ---- in the issue's words
+-- ---- a numeral without a unit
 
 -- the steps come to the numeral lookup: behind the sign stands no digit, no point and no allowed infinity
 pub record NumeralAsked (card : Card) (text : List ℕ) (place : ℕ) (signed : Signed) : Type 0 where
