@@ -39,11 +39,11 @@ agrees a n ps l = eqb (a .number) n && at-place ps (a .position) && same-length 
 ";
 
 /// Writes the modules and their list into the folder `specs`, and says how many
-/// requests they hold; those whose answer is `-` are left out.
+/// requests they hold; those whose answer begins with `-` are left out.
 pub fn write_modules(requests: &str, answers: &str, specs: &Path) -> Result<usize, String> {
     let mut held = Vec::new();
     for (index, (line, answer)) in requests.lines().zip(answers.lines()).enumerate() {
-        if answer != "-" {
+        if !answer.starts_with('-') {
             held.push((index + 1, Request::parse(line)?, answer));
         }
     }

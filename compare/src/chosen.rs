@@ -1,11 +1,12 @@
 //! Answers for the lists that programs of the test make again.
 //!
 //! An answer is the crate's where it has one, and it must be the plain
-//! reading's as well; where it has none, and for the places of 1, 3, 4 and 6,
-//! it is the plain reading's.
+//! reading's as well; where it has none, and for the places of 1, 3, 4, 6 and
+//! 16, it is the plain reading's.
 
 use crate::card_a::same_answer;
 use crate::crate_side::{CrateAnswer, ask};
+use crate::left_out::LeftOut;
 use crate::plain;
 use crate::request::{Answer, Card, Request};
 
@@ -14,12 +15,12 @@ use crate::request::{Answer, Card, Request};
 pub struct Chosen {
     by_the_crate: u64,
     by_document: u64,
-    left_out: u64,
+    left_out: LeftOut,
 }
 
 impl Chosen {
-    /// The answer of a request, or nothing if document 01 leaves it out of the
-    /// comparison. An answer written by hand must be the same.
+    /// The answer of a request, or nothing if it is left out of the comparison.
+    /// An answer written by hand must be the same.
     pub fn answer(
         &mut self,
         request: &Request,
@@ -35,8 +36,8 @@ impl Chosen {
         match ask(request) {
             CrateAnswer::Says(said) if same_answer(&said, &answer) => self.by_the_crate += 1,
             CrateAnswer::Unasked(_) => self.by_document += 1,
-            CrateAnswer::LeftOut => {
-                self.left_out += 1;
+            CrateAnswer::LeftOut(reason) => {
+                self.left_out.count(reason);
                 return Ok(None);
             }
             said => return Err(differ(request, &answer, "crate", &said.to_string())),
@@ -46,7 +47,7 @@ impl Chosen {
 
     pub fn told(&self) -> String {
         format!(
-            "{} answers by the crate and the plain reading alike, {} by the plain reading alone, {} requests left out",
+            "{} answers by the crate and the plain reading alike, {} by the plain reading alone, {}",
             self.by_the_crate, self.by_document, self.left_out
         )
     }

@@ -15,6 +15,7 @@ mod iso_antt;
 mod iso_lengths;
 mod iso_list;
 mod iso_texts;
+mod left_out;
 mod limits;
 mod lines;
 mod long_texts;

@@ -69,6 +69,7 @@ pub fn make_card(random: &mut Random) -> Card {
         conjunctions: Conjunctions::of(&words),
         kind: make_kind(random),
         table: Vec::new(),
+        numerals: Vec::new(),
     };
     // Which names are allowed depends on all the rest.
     card.table = table_bytes(&make_rows(random, &card, &words));

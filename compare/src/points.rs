@@ -45,7 +45,7 @@ impl Asking {
         });
         let verdict = match &crate_answer {
             CrateAnswer::Says(answer) if same_answer(answer, &plain_answer) => "agrees",
-            CrateAnswer::LeftOut => "left out",
+            CrateAnswer::LeftOut(_) => "left out",
             _ => {
                 self.all_agree = false;
                 "DIFFERENT"
