@@ -32,6 +32,7 @@ mod replay;
 mod request;
 mod rng;
 mod round;
+mod spoken;
 mod stored;
 mod table;
 mod tally;
