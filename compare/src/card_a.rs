@@ -99,7 +99,7 @@ fn reads(text: &str, sign: char, seconds: u64, nanos: u64) -> Answer {
     Answer::success(text.len() as u64, length)
 }
 
-/// Whether the crate's answer is the one wanted; for 1, 3, 4, 6 and 16 the crate
+/// Whether the crate's answer is the one wanted; for 1, 3, 4 and 6 the crate
 /// gives no place, so only the number counts there.
 pub fn same_answer(crate_answer: &Answer, wanted: &Answer) -> bool {
     crate_answer.number == wanted.number

@@ -1,8 +1,8 @@
 //! Answers for the lists that programs of the test make again.
 //!
 //! An answer is the crate's where it has one, and it must be the plain
-//! reading's as well; where it has none, and for the places of 1, 3, 4, 6 and
-//! 16, it is the plain reading's.
+//! reading's as well; where it has none, and for the places of 1, 3, 4 and 6,
+//! it is the plain reading's.
 
 use crate::card_a::same_answer;
 use crate::crate_side::{CrateAnswer, ask};
@@ -15,12 +15,14 @@ use crate::request::{Answer, Card, Request};
 pub struct Chosen {
     by_the_crate: u64,
     by_document: u64,
+    /// Written by hand where the crate is not compared.
+    by_hand: u64,
     left_out: LeftOut,
 }
 
 impl Chosen {
-    /// The answer of a request, or nothing if it is left out of the comparison.
-    /// An answer written by hand must be the same.
+    /// The answer of a request, or nothing if it is left out of the comparison
+    /// and was not written by hand. An answer that was must be the same.
     pub fn answer(
         &mut self,
         request: &Request,
@@ -30,12 +32,13 @@ impl Chosen {
             (None, card, text) => plain::total(card, text),
             (Some(place), card, text) => plain::part(card, text, place),
         };
-        if let Some(written) = written.filter(|written| *written != answer) {
+        if let Some(written) = written.as_ref().filter(|written| **written != answer) {
             return Err(differ(request, &answer, "by hand", &written.to_string()));
         }
         match ask(request) {
             CrateAnswer::Says(said) if same_answer(&said, &answer) => self.by_the_crate += 1,
             CrateAnswer::Unasked(_) => self.by_document += 1,
+            CrateAnswer::LeftOut(_) if written.is_some() => self.by_hand += 1,
             CrateAnswer::LeftOut(reason) => {
                 self.left_out.count(reason);
                 return Ok(None);
@@ -47,8 +50,8 @@ impl Chosen {
 
     pub fn told(&self) -> String {
         format!(
-            "{} answers by the crate and the plain reading alike, {} by the plain reading alone, {}",
-            self.by_the_crate, self.by_document, self.left_out
+            "{} answers by the crate and the plain reading alike, {} by the plain reading alone, {} written by hand where the crate is not compared, {}",
+            self.by_the_crate, self.by_document, self.by_hand, self.left_out
         )
     }
 }

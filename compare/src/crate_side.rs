@@ -228,18 +228,16 @@ impl SetUp<'_> {
 
     /// The answer to a question about a text that the crate may be asked about.
     /// Where the product of a spoken number overflows the crate panics; that is
-    /// 16, without a place.
+    /// 16.
     fn asked(&self, text: &str, question: impl FnOnce() -> CrateAnswer) -> CrateAnswer {
         if text.len() > plain::MOST_TEXT_BYTES {
             return CrateAnswer::Unasked("the text is too long".to_string());
         }
         match catch_unwind(AssertUnwindSafe(question)) {
             Ok(answer) => answer,
-            Err(panic) if self.numerals.is_some() && is_overflow(&*panic) => said(Answer {
-                number: 16,
-                position: None,
-                length: Length::ZERO,
-            }),
+            Err(panic) if self.numerals.is_some() && is_overflow(&*panic) => {
+                said(Answer::refusal(16, 0))
+            }
             Err(_) => CrateAnswer::Loud("panicked".to_string()),
         }
     }

@@ -8,7 +8,7 @@ use crate::request::{ByteSet, Card};
 use crate::table::{Row, table_bytes};
 
 /// A text with the crate's answer and the one by the request's words. Where the
-/// crate panics its answer is 16 without a place.
+/// crate panics its answer is 16.
 type Asked = (&'static str, &'static str, &'static str);
 
 /// Above the nineteenth power the crate forgets the typed sign.
@@ -87,18 +87,18 @@ const PRODUCTS: [Asked; 16] = [
     ("-half two", "0 9 + 9223372036854775808 0", "16 0 + 0 0"),
     ("half two x", "6 * + 0 0", "16 0 + 0 0"),
     // Exactly 9223372036854775808, and further out on both sides.
-    ("half two ago", "16 * + 0 0", "16 0 + 0 0"),
-    ("most two", "16 * + 0 0", "16 0 + 0 0"),
-    ("least two", "16 * + 0 0", "16 0 + 0 0"),
+    ("half two ago", "16 0 + 0 0", "16 0 + 0 0"),
+    ("most two", "16 0 + 0 0", "16 0 + 0 0"),
+    ("least two", "16 0 + 0 0", "16 0 + 0 0"),
     // The first product is out of range, whatever the row is.
-    ("most min", "16 * + 0 0", "16 0 + 0 0"),
-    ("most nilmin", "16 * + 0 0", "16 0 + 0 0"),
+    ("most min", "16 0 + 0 0", "16 0 + 0 0"),
+    ("most nilmin", "16 0 + 0 0", "16 0 + 0 0"),
     // Powers at the limits and beyond them, by the row and by the kind.
     ("up s", "0 4 MAX", "0 4 MAX"),
-    ("up ten", "16 * + 0 0", "16 0 + 0 0"),
+    ("up ten", "16 0 + 0 0", "16 0 + 0 0"),
     ("down s", "0 6 + 0 0", "0 6 + 0 0"),
-    ("down ms", "16 * + 0 0", "16 0 + 0 0"),
-    ("down back", "16 * + 0 0", "16 0 + 0 0"),
+    ("down ms", "16 0 + 0 0", "16 0 + 0 0"),
+    ("down back", "16 0 + 0 0", "16 0 + 0 0"),
 ];
 
 /// Asks the texts; true if both answer each as is written here.
