@@ -1215,7 +1215,7 @@ fn numeral_layout() -> Vec<Case> {
     ]
 }
 
-// 7 at 68 and the numeral's row: letters and the bytes beside them, first and last; what a unit's name may have is no matter.
+// 7 at 68 and the numeral's row: letters and the bytes beside them, first and last, whatever a unit's name may have.
 #[rustfmt::skip]
 fn numeral_names() -> Vec<Case> {
     let one = |row| card().with_numerals(&[row]);
@@ -1342,7 +1342,7 @@ fn first_bad_numeral() -> Vec<Case> {
     ]
 }
 
-// The order of 7 (the unit table's 64 and rows, 100, numerals), then 11, 8, 10: each card has all that the one before has wrong.
+// The order of 7 (64, the units' rows, 100, the numerals'), then 11, 8, 10: each card has all that the one before has wrong.
 #[rustfmt::skip]
 fn order_with_numerals() -> Vec<Case> {
     let bad = unit(8, 1, 0);
@@ -1565,7 +1565,7 @@ fn numerals_without_units() -> Vec<Case> {
     ]
 }
 
-// 16: each of the two products within plus or minus 9223372036854775807. 7 times `seventh` is that, 60 times `sixty` just below it.
+// 16: each of the two products within plus or minus 9223372036854775807: 7 times `seventh` is that, 60 times `sixty` nearly.
 #[rustfmt::skip]
 fn product_coefficients() -> Vec<Case> {
     let card = || {
@@ -1665,7 +1665,8 @@ fn product_powers() -> Vec<Case> {
 // 16 at 0: after every refusal of the same part's steps, connection included, before 5, and left to right among parts.
 #[rustfmt::skip]
 fn order_with_products() -> Vec<Case> {
-    let card = || spoken().with_numerals(&[times("most", i64::MAX, 0), times("five", 5, 0)]).with_more_rows(&[times("two", 2, 0)]);
+    let numerals = [times("most", i64::MAX, 0), times("five", 5, 0)];
+    let card = || card().with_numerals(&numerals).with_more_rows(&[times("two", 2, 0)]);
     let negatives_off = || card().without_negatives();
     vec![
         case("delimiters", total(card(), "most "), "2 4 + 0 0"),
@@ -1698,10 +1699,11 @@ fn order_with_products() -> Vec<Case> {
     ]
 }
 
-// The worth of a spoken number: its product times 1, cut at the eighteenth decimal before it is multiplied; MAX and MIN by the sign.
+// The worth of a spoken number: 1 times its power, cut at the eighteenth decimal, times its coefficient; MAX and MIN by the sign.
 #[rustfmt::skip]
 fn spoken_worth() -> Vec<Case> {
-    let x = |coefficient, power| card().with_numerals(&[times("x", coefficient, power)]).with_more_rows(&[times("ten", 1, 1)]);
+    let with_ten = || card().with_more_rows(&[times("ten", 1, 1)]);
+    let x = |coefficient, power| with_ten().with_numerals(&[times("x", coefficient, power)]);
     let (max, min) = ("+ 18446744073709551615 999999999", "- 18446744073709551615 999999999");
     let ten_digits = 10_000_000_000;
     vec![
@@ -1744,14 +1746,16 @@ fn spoken_worth() -> Vec<Case> {
         case("power 20 by the row", total(x(1, 19), "-x ten"), format!("0 6 {min}")),
         case("power 20 and -3", total(x(1, 20), "-x ms"), "0 5 - 100000000000000000 0"),
         case("power 20, two parts", total(x(1, 20), "-x s x s"), "0 8 + 0 0"),
-        case("power 20, shift", shift(plus(5, 0), x(1, 20), "-x s"), "0 4 - 18446744073709551610 999999999 - 18446744073709551610 999999999"),
+        case("power 20, shift", shift(plus(5, 0), x(1, 20), "-x s"),
+            "0 4 - 18446744073709551610 999999999 - 18446744073709551610 999999999"),
     ]
 }
 
 // 5 of a spoken part: by its sign, its numeral, its unit or `ago`, unless it comes to zero.
 #[rustfmt::skip]
 fn spoken_negatives() -> Vec<Case> {
-    let big = || spoken().with_numerals(&[times("big", 1, 20), times("low", -1, 20), times("small", 1, -18)]).without_negatives();
+    let numerals = [times("big", 1, 20), times("low", -1, 20), times("small", 1, -18)];
+    let big = || card().with_numerals(&numerals).without_negatives();
     let card = || spoken().without_negatives().with_more_rows(&[times("back", -1, 0)]);
     vec![
         case("plus", total(card(), "+five min"), "0 9 + 300 0"),
@@ -1778,8 +1782,8 @@ fn spoken_negatives() -> Vec<Case> {
     ]
 }
 
-// A numeral that begins where a unit's lookup failed: with ago off the unit's stretch went on behind an inner delimiter, and the
-// numeral's does not; read from its own place, the part is the same.
+// A numeral that begins where a unit's lookup failed: with ago off the unit's stretch went on behind an inner delimiter, and
+// the numeral's does not; read from its own place, the part is the same.
 #[rustfmt::skip]
 fn where_a_lookup_failed() -> Vec<Case> {
     let on = || spoken().with_inner(b",_").with_outer(b" _");
