@@ -110,6 +110,7 @@ fn a_forbidden_negative_comes_after_the_product() {
         .expect("the card is accepted");
     assert_eq!(card.read_total("five min ago"), Err(refusal(5, 0)));
     assert_eq!(card.read_total("most min ago"), Err(refusal(16, 0)));
+    assert_eq!(card.read_total("-most min"), Err(refusal(16, 0)));
 }
 
 #[test]
