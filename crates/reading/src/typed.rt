@@ -11,18 +11,23 @@ ghost use Rattle.steps.specs.Numerals.{CardReady};
 ghost use Rattle.reading.specs.Outcomes.{part};
 ghost use Rattle.reading.specs.Sums.{sums};
 ghost use Rattle.reading.specs.Typed.{class-at, typed-infinite, typed-finite, typed-spoken, typed-word, typed-unsigned};
+use rows::fields::KIND_AT;
+use rows::fields::row_at;
+use rows::fields::row_multiplier;
+use rows::fields::row_product;
 use rules::DurationRepr;
 use rules::Exponent;
+use rules::Found;
 use rules::Fract;
-use rules::Part;
+use rules::Multiplier;
 use rules::Refusal;
-use rules::Repr;
 use rules::SpokenRepr;
 use rules::Whole;
 use settings::fields::before_unit;
 use settings::fields::default_kind;
 use settings::fields::infinity;
 use settings::sets::AsciiSet;
+use spoken::spoken_product;
 use steps::Next;
 use steps::delimiters::parse_number_delimiter;
 use steps::exponent::ScaledRead;
@@ -33,19 +38,35 @@ use steps::number::NumberRead;
 use steps::number::parse_number;
 use steps::numeral::NumeralRead;
 use steps::numeral::parse_numeral;
-use steps::unit::SpokenUnitRead;
 use steps::unit::UnitRead;
-use steps::unit::parse_spoken_unit;
 use steps::unit::parse_time_unit;
 use tables::DIGIT;
 use tables::LETTER;
 use tables::POINT;
 use tables::kind_multiplier;
 
-// What was typed of a part, and the sum of its digits.
-pub struct SummedPart {
-    pub part: Part,
+// What a part counts, before its unit: digits, with their sum and exponent; or a numeral, by its row, which counts 1 and has no digits. And
+// where the unit's name begins.
+pub struct Counted {
+    pub numeral: Found,
+    pub whole: Whole,
+    pub fract: Fract,
     pub number: u64,
+    pub exponent: Exponent,
+    pub next: usize,
+}
+
+pub enum CountRead {
+    Got(Counted),
+    Refused(Refusal),
+}
+
+// A part as it is evaluated: what was typed, with the sum of its digits; or 1 times the product of a spoken number, which may be out of range.
+pub struct SummedPart {
+    pub repr: DurationRepr,
+    pub number: u64,
+    pub out_of_range: bool,
+    pub next: usize,
 }
 
 pub enum PartRead {
@@ -53,149 +74,193 @@ pub enum PartRead {
     Refused(Refusal),
 }
 
-// `inf` or `infinity`.
-fn infinite_part(settings: &[u64; 25], text: &[u8], negative: bool, place: usize) -> PartRead
-    requires { ⌜ settings-check (settings-of (now settings)) ≡ got tt ⌝ }
-    requires { ⌜ place + 3 ≤ length (now text) ⌝ }
-    ensures { λ r. ⌜ part r ≡ sums (now (text .entry)) (typed-infinite (settings-of (now (settings .entry))) (now (text .entry)) negative place) ⌝ }
+// What `inf` or `infinity` comes to.
+fn infinite_part(settings: &[u64; 25], negative: bool, place: usize, next: usize) -> PartRead
+    ensures { λ r. ⌜ ((text : List ℕ) → part r ≡ codes text (got (infinite (settings-of (now (settings .entry))) negative place next))) ⌝ }
 {
-    match parse_infinity_remainder(settings, text, place) {
-        Next::Refused(cause) => PartRead::Refused(cause),
-        Next::At(next) => PartRead::Got(SummedPart {
-            part: Part {
-                repr: Repr::Typed(DurationRepr {
-                    negative,
-                    infinite: true,
-                    whole: Whole {
-                        start: place,
-                        end: place,
-                    },
-                    fract: Fract {
-                        start: place,
-                        end: place,
-                    },
-                    exponent: Exponent {
-                        negative: false,
-                        power: 0,
-                    },
-                    multiplier: kind_multiplier(default_kind(settings)),
-                }),
-                next,
+    PartRead::Got(SummedPart {
+        repr: DurationRepr {
+            negative,
+            infinite: true,
+            whole: Whole {
+                start: place,
+                end: place,
             },
-            number: 0,
-        }),
-    }
+            fract: Fract {
+                start: place,
+                end: place,
+            },
+            exponent: Exponent {
+                negative: false,
+                power: 0,
+            },
+            multiplier: kind_multiplier(default_kind(settings)),
+        },
+        number: 0,
+        out_of_range: false,
+        next,
+    })
 }
 
-// Steps 2 to 6, one after another: the first refusal stands.
-fn finite_part(
-    settings: &[u64; 25],
-    stops: AsciiSet,
-    table: &[u8],
-    text: &[u8],
-    negative: bool,
-    place: usize,
-) -> PartRead
-    requires { ⌜ Ready (settings-of (now settings)) stops (now table) ⌝ }
-    ensures { λ r. ⌜ ((numerals : List ℕ) → part r ≡ sums (now (text .entry)) (typed-finite (card-of (now (settings .entry)) (now (table .entry)) numerals) (now (text .entry)) negative place)) ⌝ }
+// Steps 2 to 5, one after another: the first refusal stands.
+fn typed_count(settings: &[u64; 25], text: &[u8], place: usize) -> CountRead
+    requires { ⌜ settings-check (settings-of (now settings)) ≡ got tt ⌝ }
+    ensures { λ r. ⌜ counted r ≡ typed-count (settings-of (now (settings .entry))) (now (text .entry)) place ⌝ }
 {
     let summed = match parse_number(settings, text, place) {
         NumberRead::Got(summed) => summed,
-        NumberRead::Refused(cause) => return PartRead::Refused(cause),
+        NumberRead::Refused(cause) => return CountRead::Refused(cause),
     };
     let typed = summed.typed;
     let scaled = match parse_number_exponent(settings, text, typed.next) {
         ScaledRead::Got(scaled) => scaled,
-        ScaledRead::Refused(cause) => return PartRead::Refused(cause),
+        ScaledRead::Refused(cause) => return CountRead::Refused(cause),
     };
     let name = match parse_number_delimiter(before_unit(settings), settings, text, scaled.next) {
         Next::At(name) => name,
-        Next::Refused(cause) => return PartRead::Refused(cause),
-    };
-    let unit = match parse_time_unit(settings, stops, table, text, name) {
-        UnitRead::Got(unit) => unit,
-        UnitRead::Refused(cause) => return PartRead::Refused(cause),
+        Next::Refused(cause) => return CountRead::Refused(cause),
     };
     let whole = typed.whole;
     let fract = typed.fract;
     let exponent = scaled.exponent;
-    let multiplier = unit.multiplier;
-    PartRead::Got(SummedPart {
-        part: Part {
-            repr: Repr::Typed(DurationRepr {
-                negative,
-                infinite: false,
-                whole,
-                fract,
-                exponent,
-                multiplier,
-            }),
-            next: unit.next,
-        },
+    CountRead::Got(Counted {
+        numeral: Found::Nowhere,
+        whole,
+        fract,
         number: summed.number,
+        exponent,
+        next: name,
     })
 }
 
-// A numeral and its unit, one after the other.
-fn spoken_part(
-    settings: &[u64; 25],
-    stops: AsciiSet,
-    table: &[u8],
-    numerals: &[u8],
-    text: &[u8],
-    negative: bool,
-    place: usize,
-) -> PartRead
-    requires { ⌜ CardReady (card-of (now settings) (now table) (now numerals)) stops ⌝ }
-    ensures { λ r. ⌜ part r ≡ sums (now (text .entry)) (typed-spoken (card-of (now (settings .entry)) (now (table .entry)) (now (numerals .entry))) (now (text .entry)) negative place) ⌝ }
+fn spoken_count(settings: &[u64; 25], numerals: &[u8], text: &[u8], place: usize) -> CountRead
+    requires { ⌜ settings-check (settings-of (now settings)) ≡ got tt ⌝ }
+    requires { ⌜ Sayable (now numerals) ⌝ }
+    ensures { λ r. ⌜ ((units : List ℕ) → SpokenCount (card-of (now (settings .entry)) units (now (numerals .entry))) (now (text .entry)) place r) ⌝ }
 {
-    let numeral = match parse_numeral(settings, numerals, text, place) {
-        NumeralRead::Got(numeral) => numeral,
-        NumeralRead::Refused(cause) => return PartRead::Refused(cause),
-    };
-    let unit = match parse_spoken_unit(settings, stops, table, text, numeral.next) {
-        SpokenUnitRead::Got(unit) => unit,
-        SpokenUnitRead::Refused(cause) => return PartRead::Refused(cause),
-    };
-    let multiplier = numeral.multiplier;
-    let kind = unit.kind;
-    let row = unit.row;
+    match parse_numeral(settings, numerals, text, place) {
+        NumeralRead::Refused(cause) => CountRead::Refused(cause),
+        NumeralRead::Got(found) => CountRead::Got(Counted {
+            numeral: Found::Row(found.row),
+            whole: Whole { start: 0, end: 0 },
+            fract: Fract { start: 0, end: 0 },
+            number: 1,
+            exponent: Exponent {
+                negative: false,
+                power: 0,
+            },
+            next: found.next,
+        }),
+    }
+}
+
+// A part that counts so much of a multiplier.
+fn multiplied_part(
+    negative: bool,
+    counted: Counted,
+    multiplier: Multiplier,
+    out_of_range: bool,
+    next: usize,
+) -> PartRead
+    ensures { λ r. ⌜ part r ≡ got (multiplied-part negative counted multiplier «out_of_range» next) ⌝ }
+{
+    let whole = counted.whole;
+    let fract = counted.fract;
+    let exponent = counted.exponent;
     PartRead::Got(SummedPart {
-        part: Part {
-            repr: Repr::Spoken(SpokenRepr {
-                negative,
-                numeral: multiplier,
-                kind,
-                row,
-            }),
-            next: unit.next,
+        repr: DurationRepr {
+            negative,
+            infinite: false,
+            whole,
+            fract,
+            exponent,
+            multiplier,
         },
-        number: 0,
+        number: counted.number,
+        out_of_range,
+        next,
     })
 }
 
-// Infinity, if it is allowed; any other word may be a numeral.
-fn word_part(
-    settings: &[u64; 25],
-    stops: AsciiSet,
-    table: &[u8],
-    numerals: &[u8],
-    text: &[u8],
-    negative: bool,
-    place: usize,
-) -> PartRead
-    requires { ⌜ CardReady (card-of (now settings) (now table) (now numerals)) stops ⌝ }
-    ensures { λ r. ⌜ part r ≡ sums (now (text .entry)) (typed-word (card-of (now (settings .entry)) (now (table .entry)) (now (numerals .entry))) (now (text .entry)) negative place) ⌝ }
+fn negated(negate: bool, m: Multiplier) -> Multiplier
+    ensures { λ r. ⌜ r ≡ (if negate then negated m else m) ⌝ }
 {
-    if infinity(settings) {
-        if next_is_ignore_ascii_case(b"inf", text, place) {
-            return infinite_part(settings, text, negative, place);
+    Multiplier {
+        negative: m.negative != negate,
+        coefficient: m.coefficient,
+        up: m.up,
+        down: m.down,
+    }
+}
+
+// Where no row has the stretch as its name, the place goes back and the part has no unit.
+fn typed_part(
+    settings: &[u64; 25],
+    table: &[u8],
+    negative: bool,
+    counted: Counted,
+    unit: UnitRead,
+) -> PartRead
+{
+    match unit {
+        UnitRead::Refused(cause) => PartRead::Refused(cause),
+        UnitRead::Nowhere => {
+            let multiplier = kind_multiplier(default_kind(settings));
+            multiplied_part(negative, counted, multiplier, false, counted.next)
+        }
+        UnitRead::Got(found) => {
+            let multiplier = negated(found.ago.negated, row_product(table, found.row));
+            multiplied_part(negative, counted, multiplier, false, found.ago.next)
         }
     }
-    spoken_part(settings, stops, table, numerals, text, negative, place)
 }
 
-// The class of the byte at the place decides: digits, a point, a word, or no number.
+// A spoken number must have a unit.
+fn spoken_part(
+    table: &[u8],
+    numerals: &[u8],
+    negative: bool,
+    numeral: usize,
+    counted: Counted,
+    unit: UnitRead,
+) -> PartRead
+{
+    match unit {
+        UnitRead::Refused(cause) => PartRead::Refused(cause),
+        UnitRead::Nowhere => PartRead::Refused(Refusal::NoUnit(counted.next)),
+        UnitRead::Got(found) => {
+            let own = row_at(table, found.row);
+            let product = spoken_product(SpokenRepr {
+                negative,
+                numeral: row_multiplier(row_at(numerals, numeral)),
+                kind: kind_multiplier(own[KIND_AT]),
+                row: negated(found.ago.negated, row_multiplier(own)),
+            });
+            let multiplier = product.multiplier;
+            multiplied_part(negative, counted, multiplier, product.out_of_range, found.ago.next)
+        }
+    }
+}
+
+fn unit_part(
+    settings: &[u64; 25],
+    stops: AsciiSet,
+    table: &[u8],
+    numerals: &[u8],
+    text: &[u8],
+    negative: bool,
+    counted: Counted,
+) -> PartRead
+{
+    let unit = parse_time_unit(settings, stops, table, text, counted.next);
+    let numeral = counted.numeral;
+    match numeral {
+        Found::Nowhere => typed_part(settings, table, negative, counted, unit),
+        Found::Row(row) => spoken_part(table, numerals, negative, row, counted, unit),
+    }
+}
+
+// The class of the byte at the place decides: digits, a point, infinity, a numeral, or no number.
 pub fn unsigned_part(
     settings: &[u64; 25],
     stops: AsciiSet,
@@ -206,13 +271,27 @@ pub fn unsigned_part(
     class: u8,
     place: usize,
 ) -> PartRead
-    requires { ⌜ CardReady (card-of (now settings) (now table) (now numerals)) stops ⌝ }
-    requires { ⌜ class ≡ class-at (now text) place ⌝ }
-    ensures { λ r. ⌜ part r ≡ sums (now (text .entry)) (typed-unsigned (card-of (now (settings .entry)) (now (table .entry)) (now (numerals .entry))) (now (text .entry)) negative place) ⌝ }
 {
-    match class {
-        DIGIT | POINT => finite_part(settings, stops, table, text, negative, place),
-        LETTER => word_part(settings, stops, table, numerals, text, negative, place),
-        _ => PartRead::Refused(Refusal::NoNumber(place)),
-    }
+    let counted = match class {
+        DIGIT | POINT => match typed_count(settings, text, place) {
+            CountRead::Got(counted) => counted,
+            CountRead::Refused(cause) => return PartRead::Refused(cause),
+        },
+        LETTER => {
+            if infinity(settings) {
+                if next_is_ignore_ascii_case(b"inf", text, place) {
+                    return match parse_infinity_remainder(settings, text, place) {
+                        Next::Refused(cause) => PartRead::Refused(cause),
+                        Next::At(next) => infinite_part(settings, negative, place, next),
+                    };
+                }
+            }
+            match spoken_count(settings, numerals, text, place) {
+                CountRead::Got(counted) => counted,
+                CountRead::Refused(cause) => return PartRead::Refused(cause),
+            }
+        }
+        _ => return PartRead::Refused(Refusal::NoNumber(place)),
+    };
+    unit_part(settings, stops, table, numerals, text, negative, counted)
 }
