@@ -2,12 +2,13 @@
 use mathlib.Core.Path.{_≡_, refl, sym, ap, _∙_}
 use mathlib.Core.Bool.{Bool, true, false, not, Bool·beq, false≢true}
 use mathlib.Core.List.{List, [], _∷_}
-use Prim.Native.Nat.{ℕ, suc, _+_, _≤_, _<_}
+use Prim.Native.Nat.{ℕ, _≤_, _<_}
 use native.Mathlib.Omega.{arith}
 use lib.ListN.{length, getD}
 use lib.Seq.{slice}
 use Rattle.rules.specs.declared.ByteSet.{ByteSet}
 use Rattle.rules.specs.declared.Settings.{Settings}
+use Rattle.rules.specs.declared.Numeral.{Numeral}
 use Rattle.rules.specs.declared.Found.{Found}
 use Rattle.rules.specs.declared.Found.the-variants.{Row, Nowhere}
 use Rattle.rules.specs.declared.Refusal.{Refusal}
@@ -36,22 +37,27 @@ pub record CardReady (card : Card) (stops : AsciiSet) : Type 0 where
 
 -- ---- the step, with the row in place of what it multiplies by
 
-numeral-here : Settings → List ℕ → ℕ → Found → Outcome FoundNumeral
+abbrev row-and-place : ℕ → ℕ → FoundNumeral
+row-and-place i next = record { row = i; next = next }
+
+unfoldable pub numeral-here : Settings → List ℕ → ℕ → Found → Outcome FoundNumeral
 numeral-here s text place (Row i) =
     if sees (holds (s .inner)) text (numeral-end s text place)
-    then (delimiters (s .inner) text (numeral-end s text place) >>= λ next. got (record { row = i; next = next }))
+    then (delimiters (s .inner) text (numeral-end s text place) >>= λ next. got (row-and-place i next))
     else refused (NoNumber place)
 numeral-here s text place Nowhere = refused (NoNumber place)
 
 unfoldable pub numeral-row : Settings → List ℕ → List ℕ → ℕ → Outcome FoundNumeral
 numeral-row s numerals text place = numeral-here s text place (lookup numerals (slice place (numeral-end s text place) text))
 
+-- what the row of a numeral multiplies by
+abbrev pub numeral-of : List ℕ → FoundNumeral → Numeral
+numeral-of numerals found = record { multiplier = row-multiplier (row numerals (found .row)); next = found .next }
+
 -- is the request's step
 pub numeral-is :
     (card : Card) (text : List ℕ) (place : ℕ)
-    → numeral-step card text place
-    ≡ (numeral-row (card .settings) (card .numerals) text place
-    >>= λ found. got (record { multiplier = row-multiplier (row (card .numerals) (found .row)); next = found .next }))
+    → numeral-step card text place ≡ (numeral-row (card .settings) (card .numerals) text place >>= λ found. got (numeral-of (card .numerals) found))
 unfolding numeral-step numeral-found numeral-row numeral-here if_then_else_ _>>=_
 numeral-is card text place = go (lookup (card .numerals) (slice place end text))
   where
@@ -59,16 +65,13 @@ numeral-is card text place = go (lookup (card .numerals) (slice place end text))
     end = numeral-end (card .settings) text place
 
     told : (i : ℕ) (b : Bool) (run : Outcome ℕ)
-        → (if b then (run >>= λ next. got (record { multiplier = row-multiplier (row (card .numerals) i); next = next })) else refused (NoNumber place))
-        ≡ ((if b then (run >>= λ next. got (record { row = i; next = next })) else refused (NoNumber place))
-        >>= λ found. got (record { multiplier = row-multiplier (row (card .numerals) (found .row)); next = found .next }))
+        → (if b then (run >>= λ next. got (numeral-of (card .numerals) (row-and-place i next))) else refused (NoNumber place))
+        ≡ ((if b then (run >>= λ next. got (row-and-place i next)) else refused (NoNumber place)) >>= λ found. got (numeral-of (card .numerals) found))
     told i true (got next) = refl
     told i true (refused cause) = refl
     told i false run = refl
 
-    go : (f : Found)
-        → numeral-found card text place f
-        ≡ (numeral-here (card .settings) text place f >>= λ found. got (record { multiplier = row-multiplier (row (card .numerals) (found .row)); next = found .next }))
+    go : (f : Found) → numeral-found card text place f ≡ (numeral-here (card .settings) text place f >>= λ found. got (numeral-of (card .numerals) found))
     go (Row i) = told i (sees (holds (card .settings .inner)) text end) (delimiters (card .settings .inner) text end)
     go Nowhere = refl
 
@@ -99,7 +102,11 @@ module _ (s : Settings) (numerals text : List ℕ) (place : ℕ) where
 
     end-is : numeral-end s text place ≡ end
     unfolding numeral-end passes
-    end-is = sym (ended ∙ ap (λ set. run (passes set false) text place) i ∙ run-alike _ _ text place (λ k. not-held _))
+    end-is =
+        sym
+        (ended
+        ∙ ap (λ set. run (passes set false) text place) i
+        ∙ run-alike (passes (s .inner) false) (λ b. not (holds (s .inner) b)) text place (λ k. not-held (holds (s .inner) (getD text k 0))))
 
     pub numeral-from : place ≤ end
     numeral-from = rw ended (run-from _ text place)
@@ -134,12 +141,12 @@ module _ (s : Settings) (numerals text : List ℕ) (place : ℕ) where
             held false e = absurd (false≢true (sym e))
 
         module _ {k : ℕ} (r : found ≡ Row k) where
-          asked : numeral-row s numerals text place ≡ (delimiters inner text end >>= λ next. got (record { row = k; next = next }))
+          asked : numeral-row s numerals text place ≡ (delimiters inner text end >>= λ next. got (row-and-place k next))
           unfolding numeral-row numeral-here if_then_else_
           asked = rw (looked, r, end-is, ← i, delimiter-behind)
 
           pub numeral-refused : {cause : Refusal} → delimiters inner text end ≡ refused cause → refused cause ≡ numeral-row s numerals text place
           numeral-refused d = sym (asked ∙ bind-refused _ d)
 
-          pub numeral-got : {next : ℕ} → delimiters inner text end ≡ got next → got (record { row = k; next = next }) ≡ numeral-row s numerals text place
+          pub numeral-got : {next : ℕ} → delimiters inner text end ≡ got next → got (row-and-place k next) ≡ numeral-row s numerals text place
           numeral-got d = sym (asked ∙ bind-got _ d)

@@ -1,6 +1,6 @@
 -- Laws of the unit step: the stretch, `ago`, and what the lookup finds. Assumes nothing.
 use mathlib.Core.Path.{_≡_, refl, sym, ap, _∙_}
-use mathlib.Core.Bool.{Bool, true, false, not, _||_, Bool·beq, false≢true}
+use mathlib.Core.Bool.{Bool, true, false, not, _&&_, _||_, Bool·beq, false≢true}
 use mathlib.Core.List.{List, [], _∷_}
 use Prim.Native.Nat.{ℕ, suc, _+_, _-_, _≤_, _<_}
 use native.Mathlib.Nat.{add-zero}
@@ -57,8 +57,8 @@ stretch-within test text place {end = end} e h = go (leb (length text) place) re
     go true past = absurd (omega (arith, run-end test text place (leb-true (length text) place past)))
     go false here = rw e (run-within test text place (omega (arith, leb-false (length text) place here)))
 
--- the part of the text between two places that ascend
-pub stretch-part : (text : List ℕ) (place end : ℕ) → place < end → take (end - place) (drop place text) ≡ slice place end text
+-- the part of the text between two places that do not fall
+pub stretch-part : (text : List ℕ) (place end : ℕ) → place ≤ end → take (end - place) (drop place text) ≡ slice place end text
 stretch-part text place end h =
     let whole : place + (end - place) ≡ end = omega arith in
     slice-shift text place 0 (end - place) ∙ rw (add-zero place, whole)
@@ -151,7 +151,7 @@ ago-within text word h w = says-within (ascii "ago") text word h w
 abbrev pub back : ℕ → AgoRead
 back place = AgoRead.Got (record { negated = false; next = place })
 
-ago-after : Settings → List ℕ → ℕ → Outcome ℕ → AgoRead
+unfoldable pub ago-after : Settings → List ℕ → ℕ → Outcome ℕ → AgoRead
 ago-after s text place (got word) =
     if says (ascii "ago") text word && closes-unit s text (word + 3) then AgoRead.Got (record { negated = true; next = word + 3 }) else back place
 ago-after s text place (refused cause) = AgoRead.Refused cause
@@ -230,11 +230,11 @@ module _ (s : Settings) {inner : ByteSet} (i : s .inner ≡ inner) (text : List 
 
 -- ---- what the lookup finds
 
-with-row : ℕ → AgoRead → UnitRead
+unfoldable pub with-row : ℕ → AgoRead → UnitRead
 with-row i (AgoRead.Got found) = UnitRead.Got (record { row = i; ago = found })
 with-row i (AgoRead.Refused cause) = UnitRead.Refused cause
 
-row-read : Settings → List ℕ → ℕ → Found → UnitRead
+unfoldable pub row-read : Settings → List ℕ → ℕ → Found → UnitRead
 row-read s text end (Row i) = with-row i (ago-read s text end)
 row-read s text end Nowhere = UnitRead.Nowhere
 
@@ -329,7 +329,7 @@ module _ (card : Card) (text : List ℕ) (place : ℕ) where
       end : ℕ
       end = run (in-stretch s) text place
 
-      abbrev finish : ℕ → declared-unit.Unit → Outcome SpokenUnit
+      finish : ℕ → declared-unit.Unit → Outcome SpokenUnit
       finish i unit = got (record { kind = kind-multiplier (kind (row (card .units) i)); row = unit .multiplier; next = unit .next })
 
       told : (i : ℕ) (read : AgoRead) → (agoed (row-multiplier (row (card .units) i)) read >>= finish i) ≡ spoken-unit (with-row i read)

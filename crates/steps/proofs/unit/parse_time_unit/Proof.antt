@@ -26,13 +26,25 @@ find-unit-requires : tie.Need-find-unit-requires
 find-unit-requires c κs = (c .before .before .before .pre .readable, stretch-within _ _ _ (stretch c))
 
 returns : tie.Need-returns
-returns c = ?
+returns c =
+    let found = c .before .before in
+    unit-none (settings-of (found .before .before .before .before .args .settings .now)) _ _ _ (stretch (found .before)) (found .find-unit .ensures) (c .enum-told .given .1)
 
 returns-2 : tie.Need-returns-2
-returns-2 c = ?
+returns-2 c =
+    let asked = c .before .before .before in
+    let row = asked .before .before in
+    let found = row .before .before in
+    unit-refused (settings-of (found .before .before .before .before .args .settings .now)) _ _ _ (stretch (found .before)) (found .find-unit .ensures)
+    (row .row .given .1) (asked .parse-ago .ensures) (c .before .cause .given .1)
 
 returns-3 : tie.Need-returns-3
-returns-3 c = ?
+returns-3 c =
+    let asked = c .before .before .before in
+    let row = asked .before .before in
+    let found = row .before .before in
+    unit-got (settings-of (found .before .before .before .before .args .settings .now)) _ _ _ (stretch (found .before)) (found .find-unit .ensures)
+    (row .row .given .1) (asked .parse-ago .ensures) (c .before .ago .given .1)
 
 pub parse-time-unit-spec : {M : Type 1} → statement M
 parse-time-unit-spec =
@@ -43,7 +55,7 @@ parse-time-unit-spec =
     (λ c. search needs)
     (λ c. search needs)
     returns
-    (λ c κs. c .before .before .before .before .before .before .pre .accepted)
+    (λ c κs. c .before .before .before .before .before .before .before .pre .accepted)
     (λ c. search needs)
     (λ c. search needs)
     returns-2
