@@ -2,11 +2,10 @@
 ghost use mathlib.Core.Path.{_≡_};
 ghost use Rattle.rules.specs.SettingsAsWords.{settings-of, card-of};
 ghost use Rattle.rules.specs.ReadingOnePart.{part};
-ghost use Rattle.rules.specs.Evaluation.{evaluated, allowed, part-reading};
+ghost use Rattle.rules.specs.Evaluation.{allowed, part-reading};
 ghost use Rattle.steps.specs.Numerals.{CardReady};
-ghost use Rattle.answers.specs.Outcomes.{total};
 ghost use Rattle.reading.specs.Outcomes as outcomes;
-ghost use Rattle.reading.specs.Sums.{Summed, sums};
+ghost use Rattle.reading.specs.Coded.{codes};
 ghost use Rattle.reading.specs.Typed.{typed-part};
 use crate::start::StartRead;
 use crate::start::part_start;
@@ -37,7 +36,7 @@ fn typed_part(
     place: usize,
 ) -> PartRead
     requires { ⌜ CardReady (card-of (now settings) (now table) (now numerals)) stops ⌝ }
-    ensures { λ r. ⌜ outcomes.part r ≡ sums (now (text .entry)) (typed-part (card-of (now (settings .entry)) (now (table .entry)) (now (numerals .entry))) (now (text .entry)) place) ⌝ }
+    ensures { λ r. ⌜ outcomes.part r ≡ codes (now (text .entry)) (typed-part (card-of (now (settings .entry)) (now (table .entry)) (now (numerals .entry))) (now (text .entry)) place) ⌝ }
 {
     match part_start(settings, text, place) {
         StartRead::Refused(cause) => PartRead::Refused(cause),
@@ -63,7 +62,7 @@ fn connected_part(
     place: usize,
 ) -> PartRead
     requires { ⌜ CardReady (card-of (now settings) (now table) (now numerals)) stops ⌝ }
-    ensures { λ r. ⌜ outcomes.part r ≡ sums (now (text .entry)) (part (card-of (now (settings .entry)) (now (table .entry)) (now (numerals .entry))) (now (text .entry)) place) ⌝ }
+    ensures { λ r. ⌜ outcomes.part r ≡ codes (now (text .entry)) (part (card-of (now (settings .entry)) (now (table .entry)) (now (numerals .entry))) (now (text .entry)) place) ⌝ }
 {
     match typed_part(settings, stops, table, numerals, text, place) {
         PartRead::Refused(cause) => PartRead::Refused(cause),

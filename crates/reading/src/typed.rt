@@ -1,16 +1,17 @@
 // What was typed of a part, up to the connection to the next.
 ghost use mathlib.Core.Path.{_≡_};
 ghost use mathlib.Core.List.{List};
-ghost use Prim.Native.Nat.{ℕ, _+_, _≤_};
+ghost use Prim.Native.Nat.{ℕ, _+_, _≤_, _<_};
 ghost use lib.ListN.{length};
 ghost use Rattle.rules.specs.NumbersHandedBack.{got};
 ghost use Rattle.rules.specs.SettingsAsWords.{settings-of, card-of};
-ghost use Rattle.rules.specs.SettingsAndUnitTable.{settings-check};
-ghost use Rattle.steps.specs.Units.{Ready};
-ghost use Rattle.steps.specs.Numerals.{CardReady};
-ghost use Rattle.reading.specs.Outcomes.{part};
-ghost use Rattle.reading.specs.Sums.{sums};
-ghost use Rattle.reading.specs.Typed.{class-at, typed-infinite, typed-finite, typed-spoken, typed-word, typed-unsigned};
+ghost use Rattle.rules.specs.SettingsAndUnitTable.{settings-check, rows};
+ghost use Rattle.steps.specs.declared.unit.UnitRead.the-variants as UnitRead;
+ghost use Rattle.steps.specs.Units.{Readable, negated-if};
+ghost use Rattle.steps.specs.Numerals.{Sayable, CardReady};
+ghost use Rattle.reading.specs.Outcomes.{count, part};
+ghost use Rattle.reading.specs.Typed.{class-at, typed-infinite, typed-unsigned};
+ghost use Rattle.reading.specs.Coded.{Numbered, codes, typed-count, spoken-count, multiplied-part, unit-coded, coded-part};
 use rows::fields::KIND_AT;
 use rows::fields::row_at;
 use rows::fields::row_multiplier;
@@ -38,6 +39,7 @@ use steps::number::NumberRead;
 use steps::number::parse_number;
 use steps::numeral::NumeralRead;
 use steps::numeral::parse_numeral;
+use steps::unit::FoundUnit;
 use steps::unit::UnitRead;
 use steps::unit::parse_time_unit;
 use tables::DIGIT;
@@ -74,38 +76,43 @@ pub enum PartRead {
     Refused(Refusal),
 }
 
-// What `inf` or `infinity` comes to.
-fn infinite_part(settings: &[u64; 25], negative: bool, place: usize, next: usize) -> PartRead
-    ensures { λ r. ⌜ ((text : List ℕ) → part r ≡ codes text (got (infinite (settings-of (now (settings .entry))) negative place next))) ⌝ }
+// `inf` or `infinity`.
+fn infinite_part(settings: &[u64; 25], text: &[u8], negative: bool, place: usize) -> PartRead
+    requires { ⌜ settings-check (settings-of (now settings)) ≡ got tt ⌝ }
+    requires { ⌜ place + 3 ≤ length (now text) ⌝ }
+    ensures { λ r. ⌜ part r ≡ codes (now (text .entry)) (typed-infinite (settings-of (now (settings .entry))) (now (text .entry)) negative place) ⌝ }
 {
-    PartRead::Got(SummedPart {
-        repr: DurationRepr {
-            negative,
-            infinite: true,
-            whole: Whole {
-                start: place,
-                end: place,
+    match parse_infinity_remainder(settings, text, place) {
+        Next::Refused(cause) => PartRead::Refused(cause),
+        Next::At(next) => PartRead::Got(SummedPart {
+            repr: DurationRepr {
+                negative,
+                infinite: true,
+                whole: Whole {
+                    start: place,
+                    end: place,
+                },
+                fract: Fract {
+                    start: place,
+                    end: place,
+                },
+                exponent: Exponent {
+                    negative: false,
+                    power: 0,
+                },
+                multiplier: kind_multiplier(default_kind(settings)),
             },
-            fract: Fract {
-                start: place,
-                end: place,
-            },
-            exponent: Exponent {
-                negative: false,
-                power: 0,
-            },
-            multiplier: kind_multiplier(default_kind(settings)),
-        },
-        number: 0,
-        out_of_range: false,
-        next,
-    })
+            number: 0,
+            out_of_range: false,
+            next,
+        }),
+    }
 }
 
 // Steps 2 to 5, one after another: the first refusal stands.
 fn typed_count(settings: &[u64; 25], text: &[u8], place: usize) -> CountRead
     requires { ⌜ settings-check (settings-of (now settings)) ≡ got tt ⌝ }
-    ensures { λ r. ⌜ counted r ≡ typed-count (settings-of (now (settings .entry))) (now (text .entry)) place ⌝ }
+    ensures { λ r. ⌜ count r ≡ typed-count (settings-of (now (settings .entry))) (now (text .entry)) place ⌝ }
 {
     let summed = match parse_number(settings, text, place) {
         NumberRead::Got(summed) => summed,
@@ -133,10 +140,11 @@ fn typed_count(settings: &[u64; 25], text: &[u8], place: usize) -> CountRead
     })
 }
 
+// A numeral and its delimiters.
 fn spoken_count(settings: &[u64; 25], numerals: &[u8], text: &[u8], place: usize) -> CountRead
     requires { ⌜ settings-check (settings-of (now settings)) ≡ got tt ⌝ }
     requires { ⌜ Sayable (now numerals) ⌝ }
-    ensures { λ r. ⌜ ((units : List ℕ) → SpokenCount (card-of (now (settings .entry)) units (now (numerals .entry))) (now (text .entry)) place r) ⌝ }
+    ensures { λ r. ⌜ count r ≡ spoken-count (settings-of (now (settings .entry))) (now (numerals .entry)) (now (text .entry)) place ⌝ }
 {
     match parse_numeral(settings, numerals, text, place) {
         NumeralRead::Refused(cause) => CountRead::Refused(cause),
@@ -154,7 +162,7 @@ fn spoken_count(settings: &[u64; 25], numerals: &[u8], text: &[u8], place: usize
     }
 }
 
-// A part that counts so much of a multiplier.
+// What a part counts, times a multiplier.
 fn multiplied_part(
     negative: bool,
     counted: Counted,
@@ -182,8 +190,9 @@ fn multiplied_part(
     })
 }
 
+// `ago` negates what a unit multiplies by.
 fn negated(negate: bool, m: Multiplier) -> Multiplier
-    ensures { λ r. ⌜ r ≡ (if negate then negated m else m) ⌝ }
+    ensures { λ r. ⌜ r ≡ negated-if negate m ⌝ }
 {
     Multiplier {
         negative: m.negative != negate,
@@ -193,55 +202,59 @@ fn negated(negate: bool, m: Multiplier) -> Multiplier
     }
 }
 
-// Where no row has the stretch as its name, the place goes back and the part has no unit.
-fn typed_part(
-    settings: &[u64; 25],
-    table: &[u8],
-    negative: bool,
-    counted: Counted,
-    unit: UnitRead,
-) -> PartRead
+// A typed number goes on without a unit, from the place where its name would begin; a spoken one must have a unit.
+fn unitless_part(settings: &[u64; 25], negative: bool, counted: Counted) -> PartRead
+    ensures { λ r. ⌜ ((units numerals : List ℕ) → part r ≡ unit-coded (card-of (now (settings .entry)) units numerals) negative counted (counted .numeral) UnitRead.Nowhere) ⌝ }
 {
-    match unit {
-        UnitRead::Refused(cause) => PartRead::Refused(cause),
-        UnitRead::Nowhere => {
+    let numeral = counted.numeral;
+    match numeral {
+        Found::Row(_) => PartRead::Refused(Refusal::NoUnit(counted.next)),
+        Found::Nowhere => {
             let multiplier = kind_multiplier(default_kind(settings));
             multiplied_part(negative, counted, multiplier, false, counted.next)
         }
-        UnitRead::Got(found) => {
-            let multiplier = negated(found.ago.negated, row_product(table, found.row));
-            multiplied_part(negative, counted, multiplier, false, found.ago.next)
-        }
     }
 }
 
-// A spoken number must have a unit.
-fn spoken_part(
+// What the number is multiplied by: kind and row, or numeral, kind and row.
+fn with_unit(
     table: &[u8],
     numerals: &[u8],
     negative: bool,
-    numeral: usize,
     counted: Counted,
-    unit: UnitRead,
+    unit: FoundUnit,
 ) -> PartRead
+    requires { ⌜ Readable (now table) × (unit .row < rows (now table)) ⌝ }
+    requires { ⌜ Numbered (now numerals) (counted .numeral) ⌝ }
+    ensures { λ r. ⌜ ((words : List ℕ) → part r ≡ unit-coded (card-of words (now (table .entry)) (now (numerals .entry))) negative counted (counted .numeral) (UnitRead.Got unit)) ⌝ }
 {
-    match unit {
-        UnitRead::Refused(cause) => PartRead::Refused(cause),
-        UnitRead::Nowhere => PartRead::Refused(Refusal::NoUnit(counted.next)),
-        UnitRead::Got(found) => {
-            let own = row_at(table, found.row);
+    let numeral = counted.numeral;
+    match numeral {
+        Found::Nowhere => {
+            let multiplier = negated(unit.ago.negated, row_product(table, unit.row));
+            multiplied_part(negative, counted, multiplier, false, unit.ago.next)
+        }
+        Found::Row(i) => {
+            let row = row_at(table, unit.row);
             let product = spoken_product(SpokenRepr {
                 negative,
-                numeral: row_multiplier(row_at(numerals, numeral)),
-                kind: kind_multiplier(own[KIND_AT]),
-                row: negated(found.ago.negated, row_multiplier(own)),
+                numeral: row_multiplier(row_at(numerals, i)),
+                kind: kind_multiplier(row[KIND_AT]),
+                row: negated(unit.ago.negated, row_multiplier(row)),
             });
             let multiplier = product.multiplier;
-            multiplied_part(negative, counted, multiplier, product.out_of_range, found.ago.next)
+            multiplied_part(
+                negative,
+                counted,
+                multiplier,
+                product.out_of_range,
+                unit.ago.next,
+            )
         }
     }
 }
 
+// Step 6, for a typed number and a spoken one: one call of the step, so that what is read of most parts is one piece of code.
 fn unit_part(
     settings: &[u64; 25],
     stops: AsciiSet,
@@ -251,12 +264,14 @@ fn unit_part(
     negative: bool,
     counted: Counted,
 ) -> PartRead
+    requires { ⌜ CardReady (card-of (now settings) (now table) (now numerals)) stops ⌝ }
+    requires { ⌜ Numbered (now numerals) (counted .numeral) ⌝ }
+    ensures { λ r. ⌜ part r ≡ coded-part (card-of (now (settings .entry)) (now (table .entry)) (now (numerals .entry))) (now (text .entry)) negative counted ⌝ }
 {
-    let unit = parse_time_unit(settings, stops, table, text, counted.next);
-    let numeral = counted.numeral;
-    match numeral {
-        Found::Nowhere => typed_part(settings, table, negative, counted, unit),
-        Found::Row(row) => spoken_part(table, numerals, negative, row, counted, unit),
+    match parse_time_unit(settings, stops, table, text, counted.next) {
+        UnitRead::Refused(cause) => PartRead::Refused(cause),
+        UnitRead::Nowhere => unitless_part(settings, negative, counted),
+        UnitRead::Got(unit) => with_unit(table, numerals, negative, counted, unit),
     }
 }
 
@@ -271,6 +286,9 @@ pub fn unsigned_part(
     class: u8,
     place: usize,
 ) -> PartRead
+    requires { ⌜ CardReady (card-of (now settings) (now table) (now numerals)) stops ⌝ }
+    requires { ⌜ class ≡ class-at (now text) place ⌝ }
+    ensures { λ r. ⌜ part r ≡ codes (now (text .entry)) (typed-unsigned (card-of (now (settings .entry)) (now (table .entry)) (now (numerals .entry))) (now (text .entry)) negative place) ⌝ }
 {
     let counted = match class {
         DIGIT | POINT => match typed_count(settings, text, place) {
@@ -280,10 +298,7 @@ pub fn unsigned_part(
         LETTER => {
             if infinity(settings) {
                 if next_is_ignore_ascii_case(b"inf", text, place) {
-                    return match parse_infinity_remainder(settings, text, place) {
-                        Next::Refused(cause) => PartRead::Refused(cause),
-                        Next::At(next) => infinite_part(settings, negative, place, next),
-                    };
+                    return infinite_part(settings, text, negative, place);
                 }
             }
             match spoken_count(settings, numerals, text, place) {
