@@ -12,6 +12,7 @@ use Rattle.rules.specs.declared.Scaled.{Scaled}
 use Rattle.rules.specs.declared.Numeral.{Numeral}
 use Rattle.rules.specs.declared.Unit as declared-unit
 use Rattle.rules.specs.declared.SpokenUnit.{SpokenUnit}
+use Rattle.rules.specs.declared.DurationRepr.{DurationRepr}
 use Rattle.rules.specs.declared.SpokenRepr.{SpokenRepr}
 use Rattle.rules.specs.declared.Repr.{Repr}
 use Rattle.rules.specs.declared.Repr.the-variants.{Typed, Spoken}
@@ -55,6 +56,14 @@ module _ (text : List ℕ) {step : Outcome Part} where
   unfolding codes
   codes-got e = sym (bind-got _ (sym e))
 
+  -- of what was typed, with its digits summed up
+  pub codes-typed :
+      {d : DurationRepr} {next number : ℕ}
+      → got (record { repr = Typed d; next = next }) ≡ step
+      → number ≡ sum-of text (d .whole) (d .fract)
+      → got (record { repr = d; number = number; «out_of_range» = false; next = next }) ≡ codes text step
+  codes-typed e n = rw n (codes-got e)
+
   pub codes-refused : {cause : Refusal} → refused cause ≡ step → refused cause ≡ codes text step
   unfolding codes
   codes-refused e = sym (bind-refused _ (sym e))
@@ -79,9 +88,21 @@ coded-refused text (got p) {cause} e = absurd (not-got cause (sym e))
 coded-refused text (refused first) e = ap refused (ap (why first) e)
 
 -- where the part ends is said beside the rest
-pub coded-next : (text : List ℕ) (d : Repr) (next after : ℕ) → coded text d after ≡ record { repr = coded text d next .repr; number = coded text d next .number; «out_of_range» = coded text d next .«out_of_range»; next = after }
-coded-next text (Typed d) next after = refl
-coded-next text (Spoken d) next after = refl
+pub coded-end : (text : List ℕ) (d : Repr) (next : ℕ) → coded text d next .next ≡ next
+coded-end text (Typed d) next = refl
+coded-end text (Spoken d) next = refl
+
+-- and can be said anew
+pub coded-at :
+    (text : List ℕ) (d : Repr) (next after : ℕ) {found : SummedPart}
+    → coded text d next ≡ found
+    → got (coded text d after) ≡ got (record { repr = found .repr; number = found .number; «out_of_range» = found .«out_of_range»; next = after })
+coded-at text d next after is =
+    ap got (anew d ∙ ap (λ f. record { repr = f .repr; number = f .number; «out_of_range» = f .«out_of_range»; next = after }) is)
+  where
+    anew : (d : Repr) → coded text d after ≡ record { repr = coded text d next .repr; number = coded text d next .number; «out_of_range» = coded text d next .«out_of_range»; next = after }
+    anew (Typed d) = refl
+    anew (Spoken d) = refl
 
 -- ---- what a part counts
 

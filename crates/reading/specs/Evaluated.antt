@@ -7,11 +7,14 @@ use Rattle.rules.specs.declared.Multiplier.{Multiplier}
 use Rattle.rules.specs.declared.SpokenRepr.{SpokenRepr}
 use Rattle.rules.specs.declared.Repr.{Repr}
 use Rattle.rules.specs.declared.Repr.the-variants.{Typed, Spoken}
+use Rattle.rules.specs.declared.Part.{Part}
 use Rattle.rules.specs.declared.Refusal.{Refusal}
 use Rattle.rules.specs.declared.Refusal.the-variants.{OutOfRange}
 use Rattle.rules.specs.NumbersHandedBack.{Outcome, got, refused}
-use Rattle.rules.specs.Evaluation.{digits-of, spoken-multiplier, evaluate-spoken, evaluated}
-use Rattle.rules.specs.Laws.Outcomes.{bind-got, bind-refused, the-cause}
+use Rattle.rules.specs.SettingsAndUnitTable.{Card}
+use Rattle.rules.specs.ReadingOnePart.{part}
+use Rattle.rules.specs.Evaluation.{digits-of, spoken-multiplier, evaluate-spoken, evaluated, allowed, part-reading}
+use Rattle.rules.specs.Laws.Outcomes.{all-of, bind-got, bind-refused, the-cause}
 use Rattle.rules.specs.Laws.Powers.{net}
 use Rattle.value.specs.Numbers.{Spans, Counts, typed, spoken, evaluate-counted}
 use Rattle.value.specs.Sums.{digits-none}
@@ -20,8 +23,8 @@ use Rattle.value.specs.Net.{worth-net}
 use Rattle.spoken.specs.Products.{product, spoken-product}
 use Rattle.spoken.specs.Laws.{product-got, spoken-refused}
 use Rattle.reading.specs.declared.typed.SummedPart.{SummedPart}
-use Rattle.reading.specs.Coded.{coded}
-use Rattle.reading.specs.Spans.{PartSpans}
+use Rattle.reading.specs.Coded.{coded, coded-end}
+use Rattle.reading.specs.Spans.{PartSpans, part-spans}
 
 -- what evaluation asks of a part
 abbrev pub Asked : List ℕ → SummedPart → Type 0
@@ -53,3 +56,22 @@ coded-in text (Spoken d) next out = go (spoken-multiplier d) refl
         bind-got _ e
         ∙ ap got (sym (ap (λ p. evaluate-counted text (one (d .negative) (p .multiplier)) 1) (product-got d e) ∙ evaluate-one text (d .negative) (net m) ∙ worth-net (d .negative) m))
     go (refused cause) e = absurd (false≢true (sym out ∙ refused-out (spoken-multiplier d) e))
+
+-- ---- the reading of a part
+
+module _ (card : Card) (text : List ℕ) (place : ℕ) {p : Part} (read : part card text place ≡ got p) {found : SummedPart} (is : coded text (p .repr) (p .next) ≡ found) where
+  pub reading-asked : Asked text found
+  reading-asked = rw is at (coded-asked text (p .repr) (p .next) (all-of (part-spans card text place) read))
+
+  pub reading-out : found .«out_of_range» ≡ true → refused OutOfRange ≡ part-reading card text place
+  unfolding part-reading
+  reading-out out = sym (bind-got _ read ∙ bind-refused _ (sym (coded-out text (p .repr) (p .next) (ap (λ f. f .«out_of_range») is ∙ out))))
+
+  pub reading-in :
+      found .«out_of_range» ≡ false
+      → allowed (card .settings) place (found .next) (evaluate-counted text (found .repr) (found .number)) ≡ part-reading card text place
+  unfolding part-reading
+  reading-in out =
+      ap (λ f. allowed (card .settings) place (f .next) (evaluate-counted text (f .repr) (f .number))) (sym is)
+      ∙ ap (λ next. allowed (card .settings) place next (evaluate-counted text (coded text (p .repr) (p .next) .repr) (coded text (p .repr) (p .next) .number))) (coded-end text (p .repr) (p .next))
+      ∙ sym (bind-got _ read ∙ bind-got _ (coded-in text (p .repr) (p .next) (ap (λ f. f .«out_of_range») is ∙ out)))

@@ -1,33 +1,37 @@
 -- `reading::checked::read_total_checked` meets its contract: 8, and what the parts come to. Assumes nothing.
 use mathlib.Core.Path.{sym, ap, _∙_}
 use borrow.Author.Needs.{needs}
-use Rattle.rules.specs.SettingsAsWords.{settings-of}
+use Rattle.rules.specs.SettingsAsWords.{card-of}
+use Rattle.rules.specs.SettingsAndUnitTable.{Card}
 use Rattle.card.specs.Laws.Accepted.{card-settings}
 use Rattle.answers.specs.Outcomes.{total}
-use Rattle.reading.specs.Entries.{card-readable, total-long, total-refused, total-got}
+use Rattle.reading.specs.Entries.{card-readable, card-sayable, total-long, total-refused, total-got}
 use Rattle.reading.proofs.checked.read_total_checked.Statement.{statement}
 use Rattle.reading.proofs.checked.read_total_checked.Tie as tie
 
+abbrev card : tie.Start → Card
+card c = card-of (c .args .settings .now) (c .args .table .now) (c .args .numerals .now)
+
 returns : tie.Need-returns
-returns c = c .refusal .ensures ∙ total-long (settings-of (c .before .before .before .before .args .settings .now)) _ _ (c .before .before .before .before .pre) (c .before .if1 .taken)
+returns c = c .refusal .ensures ∙ total-long (card (c .before .before .before .before .before)) _ (c .before .before .before .before .before .pre) (c .before .if1 .taken)
 
 parse-multiple-requires : tie.Need-parse-multiple-requires
 parse-multiple-requires c κs =
-    let start = c .before .before .before in
-    (card-settings (settings-of (start .args .settings .now)) _ (start .pre), card-readable (settings-of (start .args .settings .now)) _ (start .pre))
+    let start = c .before .before .before .before in
+    (card-settings (card start) (start .pre), (card-readable (card start) (start .pre), card-sayable (card start) (start .pre)))
 
 returns-2 : tie.Need-returns-2
 returns-2 c =
     let short = c .before .before .before .before .before in
     c .refusal2 .ensures
-    ∙ total-refused (settings-of (short .before .before .before .args .settings .now)) _ _ (short .before .before .before .pre) (short .if1 .left)
+    ∙ total-refused (card (short .before .before .before .before)) _ (short .before .before .before .before .pre) (short .if1 .left)
     (sym (c .before .before .before .before .parse-multiple .ensures) ∙ ap total (c .before .before .cause .given .1))
 
 returns-3 : tie.Need-returns-3
 returns-3 c =
     let short = c .before .before .before .before .before in
     c .done .ensures
-    ∙ total-got (settings-of (short .before .before .before .args .settings .now)) _ _ (short .before .before .before .pre) (short .if1 .left)
+    ∙ total-got (card (short .before .before .before .before)) _ (short .before .before .before .before .pre) (short .if1 .left)
     (sym (c .before .before .before .before .parse-multiple .ensures) ∙ ap total (c .before .before .length .given .1))
 
 pub read-total-checked-spec : {M : Type 1} → statement M
