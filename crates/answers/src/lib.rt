@@ -22,6 +22,9 @@ pub fn done(position: usize, length: Length) -> Answer
     }
 }
 
+// The position of a bad numeral is its row and this, behind those of the unit table and of the settings.
+const FIRST_NUMERAL: usize = 68;
+
 // A number that is handed back, and its position.
 struct Numbered(u8, usize);
 
@@ -47,11 +50,15 @@ fn number_and_position(cause: Refusal) -> Numbered
         Refusal::ConjunctionGoesOn(place) => Numbered(2, place),
         Refusal::NegativeForbidden(_) => Numbered(5, 0),
         Refusal::NoNumber(place) => Numbered(6, place),
+        Refusal::NoUnit(place) => Numbered(15, place),
+        Refusal::OutOfRange => Numbered(16, 0),
         Refusal::Delimiters => Numbered(7, 65),
         Refusal::Conjunctions => Numbered(7, 66),
         Refusal::DefaultKind => Numbered(7, 67),
         Refusal::TableSize => Numbered(7, 64),
         Refusal::BadRow(row) => Numbered(7, row),
+        Refusal::NumeralsSize => Numbered(7, 100),
+        Refusal::BadNumeral(row) => Numbered(7, FIRST_NUMERAL + row as usize),
         Refusal::TextTooLong => Numbered(8, 4_096),
         Refusal::NoRoom(place) => Numbered(9, place),
         Refusal::Beyond(place) => Numbered(10, place),

@@ -1,16 +1,19 @@
-// The table check: the first bad row, and the card's check, settings first.
+// The check of a table of units and of numerals, by its first bad row; and the card's check, settings first.
 ghost use mathlib.Core.Path.{_≡_};
 ghost use mathlib.Core.Bool.{true};
 ghost use Prim.Native.Nat.{ℕ, _<_, _≤_};
 ghost use lib.Dec.{eqb};
 ghost use lib.ListN.{length, drop};
-ghost use Rattle.rules.specs.Common.{all, same};
+ghost use mathlib.Core.List.{List};
+ghost use Rattle.rules.specs.Common.{all, between, same};
 ghost use Rattle.rules.specs.NumbersHandedBack.{got};
-ghost use Rattle.rules.specs.SettingsAsWords.{settings-of};
-ghost use Rattle.rules.specs.SettingsAndUnitTable.{settings-check, row-size, rows, row, name, named, led-by-e, e-may-lead, row-right, row-accepted, rows-check, table-check, card-check};
+ghost use Rattle.rules.specs.SettingsAsWords.{settings-of, card-of};
+ghost use Rattle.rules.specs.SettingsAndUnitTable.{settings-check, row-size, rows, row, name, named, led-by-e, e-may-lead, row-formed, row-accepted, numeral-accepted, table-check, numerals-check, card-check};
 ghost use Rattle.settings.specs.Outcomes.{outcome};
-ghost use Rattle.settings.specs.Sets.{bytes-of};
-ghost use Rattle.card.specs.Fields.{padded, outside, unnameable};
+ghost use Rattle.rules.specs.Laws.Lists.{Bytes};
+ghost use Rattle.settings.specs.Sets.{bytes-of, passes};
+ghost use Rattle.card.specs.Fields.{padded, unnameable, ruled};
+ghost use Rattle.card.specs.Laws.Table.{first-bad};
 use rows::fields::KIND_AT;
 use rows::fields::NAME_AT;
 use rows::fields::ROW_SIZE;
@@ -34,11 +37,26 @@ use words::word_at;
 
 const MOST_ROWS: usize = 64;
 
+const MOST_NUMERALS: usize = 32;
+
 // Where the second of the two words of a name's room stands.
 const SECOND_WORD_AT: usize = 9;
 
 // `+`, `-`, `.` and the digits, as bits of a set's first word.
 const NUMBER_BYTES: u64 = 288_063_250_384_289_792;
+
+// The letters, as bits of a set's second word.
+const LETTERS: u64 = 576_460_743_847_706_622;
+
+// What is asked of the rows of a table: each byte of a name is in the set or, with held false, outside it; the kind lies between two; and whether
+// an `e` may lead a name. It depends on the settings alone, and is made once for a table.
+pub struct RowRule {
+    pub set: AsciiSet,
+    pub held: bool,
+    pub first_kind: u8,
+    pub last_kind: u8,
+    pub leads: bool,
+}
 
 // Whether zeros stand after a row's fields. They are read as one number.
 fn zeros(row: &[u8]) -> bool
@@ -84,13 +102,13 @@ fn unnameable(settings: &[u64; 25]) -> AsciiSet
     )
 }
 
-// Whether the set holds none of the name's bytes.
-fn name_accepted(set: AsciiSet, name: &[u8]) -> bool
-    ensures { λ r. ⌜ r ≡ all (outside (bytes-of set)) (now (name .entry)) ⌝ }
+// Whether each of the name's bytes is in the set or, with held false, outside it.
+fn name_accepted(set: AsciiSet, held: bool, name: &[u8]) -> bool
+    ensures { λ r. ⌜ r ≡ all (passes (bytes-of set) held) (now (name .entry)) ⌝ }
 {
     let mut i = 0;
     while i < name.len() {
-        if holds(set, name[i]) {
+        if holds(set, name[i]) != held {
             return false;
         }
         i += 1;
@@ -131,24 +149,27 @@ fn named_before(table: &[u8], i: usize) -> bool
     false
 }
 
-// Document 01's tests of a row.
-fn row_right(settings: &[u64; 25], set: AsciiSet, table: &[u8], i: usize) -> bool
+// The form of a row, without what leads its name.
+fn row_formed(rule: RowRule, table: &[u8], i: usize) -> bool
     requires { ⌜ i < rows (now table) ⌝ }
     requires { ⌜ ((j : ℕ) → j < i → padded (row (now table) j) ≡ true) ⌝ }
-    requires { ⌜ bytes-of set ≡ unnameable (settings-of (now settings)) ⌝ }
-    ensures { λ r. ⌜ r ≡ row-right (settings-of (now (settings .entry))) (now (table .entry)) i ⌝ }
+    ensures { λ r. ⌜ r ≡ row-formed (between (rule .«first_kind») (rule .«last_kind»)) (passes (bytes-of (rule .set)) (rule .held)) (now (table .entry)) i ⌝ }
 {
     let own = row_at(table, i);
     if !padded(own) {
         return false;
     }
-    if own[KIND_AT] > 7 {
+    let kind = own[KIND_AT];
+    if kind < rule.first_kind {
+        return false;
+    }
+    if kind > rule.last_kind {
         return false;
     }
     if !zeros(own) {
         return false;
     }
-    if !name_accepted(set, name_of(own)) {
+    if !name_accepted(rule.set, rule.held, name_of(own)) {
         return false;
     }
     if named_before(table, i) {
@@ -180,61 +201,112 @@ fn led_by_e(row: &[u8]) -> bool
     first == b'e' || first == b'E'
 }
 
-// Document 01's tests, and the name can be typed. What depends on the settings alone is made once for a table: `set`, the bytes that
-// no name holds, and `leads`, whether an `e` may lead one.
-fn row_accepted(settings: &[u64; 25], set: AsciiSet, leads: bool, table: &[u8], i: usize) -> bool
+fn row_accepted(rule: RowRule, table: &[u8], i: usize) -> bool
     requires { ⌜ i < rows (now table) ⌝ }
     requires { ⌜ ((j : ℕ) → j < i → padded (row (now table) j) ≡ true) ⌝ }
-    requires { ⌜ (bytes-of set ≡ unnameable (settings-of (now settings))) × (leads ≡ e-may-lead (settings-of (now settings))) ⌝ }
-    ensures { λ r. ⌜ r ≡ row-accepted (settings-of (now (settings .entry))) (now (table .entry)) i ⌝ }
+    ensures { λ r. ⌜ r ≡ ruled rule (now (table .entry)) i ⌝ }
 {
-    if !row_right(settings, set, table, i) {
+    if !row_formed(rule, table, i) {
         return false;
     }
-    if leads {
+    if rule.leads {
         return true;
     }
     !led_by_e(row_at(table, i))
 }
 
-fn rows_check(settings: &[u64; 25], table: &[u8]) -> Checked
-    requires { ⌜ settings-check (settings-of (now settings)) ≡ got tt ⌝ }
-    ensures { λ r. ⌜ outcome r ≡ rows-check (settings-of (now (settings .entry))) (now (table .entry)) 0 (rows (now (table .entry))) ⌝ }
+// The first row that is not accepted, or how many rows there are.
+pub fn first_bad(rule: RowRule, table: &[u8]) -> usize
+    ensures { λ r. ⌜ r ≡ first-bad (ruled rule (now (table .entry))) 0 (rows (now (table .entry))) ⌝ }
 {
-    let set = unnameable(settings);
-    let leads = e_may_lead(settings);
     let count = table.len() / ROW_SIZE;
     let mut i = 0;
     while i < count {
-        if !row_accepted(settings, set, leads, table, i) {
-            return Checked::Refused(Refusal::BadRow(i));
+        if !row_accepted(rule, table, i) {
+            return i;
         }
         i += 1;
     }
-    Checked::Accepted
+    i
+}
+
+// What is asked of a row of units.
+fn unit_rule(settings: &[u64; 25]) -> RowRule
+    requires { ⌜ settings-check (settings-of (now settings)) ≡ got tt ⌝ }
+    ensures { λ r. ⌜ ((table : List ℕ) → Bytes table → (i : ℕ) → ruled r table i ≡ row-accepted (settings-of (now (settings .entry))) table i) ⌝ }
+{
+    RowRule {
+        set: unnameable(settings),
+        held: false,
+        first_kind: 0,
+        last_kind: 7,
+        leads: e_may_lead(settings),
+    }
 }
 
 // Under accepted settings.
-fn table_check(settings: &[u64; 25], table: &[u8]) -> Checked
+pub fn table_check(settings: &[u64; 25], table: &[u8]) -> Checked
     requires { ⌜ settings-check (settings-of (now settings)) ≡ got tt ⌝ }
     ensures { λ r. ⌜ outcome r ≡ table-check (settings-of (now (settings .entry))) (now (table .entry)) ⌝ }
 {
     if table.len() % ROW_SIZE != 0 {
         return Checked::Refused(Refusal::TableSize);
     }
-    if table.len() / ROW_SIZE > MOST_ROWS {
+    let count = table.len() / ROW_SIZE;
+    if count > MOST_ROWS {
         return Checked::Refused(Refusal::TableSize);
     }
-    rows_check(settings, table)
+    let bad = first_bad(unit_rule(settings), table);
+    if bad < count {
+        return Checked::Refused(Refusal::BadRow(bad));
+    }
+    Checked::Accepted
 }
 
-// Settings first, then the table.
-pub fn card_check(settings: &[u64; 25], table: &[u8]) -> Checked
-    ensures { λ r. ⌜ outcome r ≡ card-check (settings-of (now (settings .entry))) (now (table .entry)) ⌝ }
+// What is asked of a numeral.
+fn numeral_rule() -> RowRule
+    ensures { λ r. ⌜ ((numerals : List ℕ) → Bytes numerals → (i : ℕ) → ruled r numerals i ≡ numeral-accepted numerals i) ⌝ }
+{
+    RowRule {
+        set: AsciiSet {
+            low: 0,
+            high: LETTERS,
+        },
+        held: true,
+        first_kind: 3,
+        last_kind: 3,
+        leads: true,
+    }
+}
+
+pub fn numerals_check(numerals: &[u8]) -> Checked
+    ensures { λ r. ⌜ outcome r ≡ numerals-check (now (numerals .entry)) ⌝ }
+{
+    if numerals.len() % ROW_SIZE != 0 {
+        return Checked::Refused(Refusal::NumeralsSize);
+    }
+    let count = numerals.len() / ROW_SIZE;
+    if count > MOST_NUMERALS {
+        return Checked::Refused(Refusal::NumeralsSize);
+    }
+    let bad = first_bad(numeral_rule(), numerals);
+    if bad < count {
+        return Checked::Refused(Refusal::BadNumeral(bad as u8));
+    }
+    Checked::Accepted
+}
+
+// Settings first, then the unit table, then the numerals.
+pub fn card_check(settings: &[u64; 25], table: &[u8], numerals: &[u8]) -> Checked
+    ensures { λ r. ⌜ outcome r ≡ card-check (card-of (now (settings .entry)) (now (table .entry)) (now (numerals .entry))) ⌝ }
 {
     let checked = settings_check(settings);
     let Checked::Accepted = checked else {
         return checked;
     };
-    table_check(settings, table)
+    let rows = table_check(settings, table);
+    let Checked::Accepted = rows else {
+        return rows;
+    };
+    numerals_check(numerals)
 }

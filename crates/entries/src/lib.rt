@@ -1,7 +1,7 @@
 // The entries: all that a user calls, and nothing else. Each promises its answer for all arguments, with what every lent byte or record
 // then holds, and asks nothing. They check the card and hand on to the crates that do the work, which are inner.
 ghost use mathlib.Core.Path.{_≡_};
-ghost use Rattle.rules.specs.SettingsAsWords.{settings-of};
+ghost use Rattle.rules.specs.SettingsAsWords.{card-of};
 ghost use Rattle.rules.specs.WhatEveryEntryOwes.{part-answer, total-answer, write-answer, written-buffer, shift-answer, shifted-record};
 ghost use Rattle.iso.specs.IsoTimings.{iso-answer, iso-write-answer, iso-written-buffer};
 use answers::refusal;
@@ -16,22 +16,28 @@ use rules::ShiftedTotal;
 use settings::Checked;
 
 // One part of a text, from a place on.
-pub fn read_part(settings: &[u64; 25], table: &[u8], text: &[u8], place: usize) -> Answer
-    ensures { λ r. ⌜ r ≡ part-answer (settings-of (now (settings .entry))) (now (table .entry)) (now (text .entry)) place ⌝ }
+pub fn read_part(
+    settings: &[u64; 25],
+    table: &[u8],
+    numerals: &[u8],
+    text: &[u8],
+    place: usize,
+) -> Answer
+    ensures { λ r. ⌜ r ≡ part-answer (card-of (now (settings .entry)) (now (table .entry)) (now (numerals .entry))) (now (text .entry)) place ⌝ }
 {
-    match card_check(settings, table) {
+    match card_check(settings, table, numerals) {
         Checked::Refused(cause) => refusal(cause),
-        Checked::Accepted => read_part_checked(settings, table, text, place),
+        Checked::Accepted => read_part_checked(settings, table, numerals, text, place),
     }
 }
 
 // A text's total.
-pub fn read_total(settings: &[u64; 25], table: &[u8], text: &[u8]) -> Answer
-    ensures { λ r. ⌜ r ≡ total-answer (settings-of (now (settings .entry))) (now (table .entry)) (now (text .entry)) ⌝ }
+pub fn read_total(settings: &[u64; 25], table: &[u8], numerals: &[u8], text: &[u8]) -> Answer
+    ensures { λ r. ⌜ r ≡ total-answer (card-of (now (settings .entry)) (now (table .entry)) (now (numerals .entry))) (now (text .entry)) ⌝ }
 {
-    match card_check(settings, table) {
+    match card_check(settings, table, numerals) {
         Checked::Refused(cause) => refusal(cause),
-        Checked::Accepted => read_total_checked(settings, table, text),
+        Checked::Accepted => read_total_checked(settings, table, numerals, text),
     }
 }
 
@@ -44,20 +50,32 @@ pub fn write_length(length: Length, buffer: &mut [u8], place: usize) -> Answer
 }
 
 // The shift total by value: what is handed back, and what a lent record has to hold afterwards.
-pub fn shifted_total(total: Length, settings: &[u64; 25], table: &[u8], text: &[u8]) -> ShiftedTotal
-    ensures { λ r. ⌜ (r .answer ≡ shift-answer total (settings-of (now (settings .entry))) (now (table .entry)) (now (text .entry))) × (r .total ≡ shifted-record total (settings-of (now (settings .entry))) (now (table .entry)) (now (text .entry))) ⌝ }
+pub fn shifted_total(
+    total: Length,
+    settings: &[u64; 25],
+    table: &[u8],
+    numerals: &[u8],
+    text: &[u8],
+) -> ShiftedTotal
+    ensures { λ r. ⌜ (r .answer ≡ shift-answer total (card-of (now (settings .entry)) (now (table .entry)) (now (numerals .entry))) (now (text .entry))) × (r .total ≡ shifted-record total (card-of (now (settings .entry)) (now (table .entry)) (now (numerals .entry))) (now (text .entry))) ⌝ }
 {
-    match card_check(settings, table) {
+    match card_check(settings, table, numerals) {
         Checked::Refused(cause) => kept(total, cause),
-        Checked::Accepted => shifted_total_checked(total, settings, table, text),
+        Checked::Accepted => shifted_total_checked(total, settings, table, numerals, text),
     }
 }
 
 // The shift total: the record is lent, and added to in place. No other function takes a loan of a struct.
-pub fn add_total(total: &mut Length, settings: &[u64; 25], table: &[u8], text: &[u8]) -> Answer
-    ensures { λ r. ⌜ (r ≡ shift-answer (now (total .entry)) (settings-of (now (settings .entry))) (now (table .entry)) (now (text .entry))) × (now (total .exit) ≡ shifted-record (now (total .entry)) (settings-of (now (settings .entry))) (now (table .entry)) (now (text .entry))) ⌝ }
+pub fn add_total(
+    total: &mut Length,
+    settings: &[u64; 25],
+    table: &[u8],
+    numerals: &[u8],
+    text: &[u8],
+) -> Answer
+    ensures { λ r. ⌜ (r ≡ shift-answer (now (total .entry)) (card-of (now (settings .entry)) (now (table .entry)) (now (numerals .entry))) (now (text .entry))) × (now (total .exit) ≡ shifted-record (now (total .entry)) (card-of (now (settings .entry)) (now (table .entry)) (now (numerals .entry))) (now (text .entry))) ⌝ }
 {
-    let shifted = shifted_total(*total, settings, table, text);
+    let shifted = shifted_total(*total, settings, table, numerals, text);
     *total = shifted.total;
     shifted.answer
 }

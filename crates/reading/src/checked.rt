@@ -1,7 +1,7 @@
 // One part, and a text's total, under a card that has been checked: whoever reads many texts under one card checks it once.
 ghost use mathlib.Core.Path.{_≡_};
 ghost use Rattle.rules.specs.NumbersHandedBack.{got};
-ghost use Rattle.rules.specs.SettingsAsWords.{settings-of};
+ghost use Rattle.rules.specs.SettingsAsWords.{card-of};
 ghost use Rattle.rules.specs.SettingsAndUnitTable.{card-check};
 ghost use Rattle.rules.specs.WhatEveryEntryOwes.{part-answer, total-answer};
 use crate::part::ReadingRead;
@@ -15,9 +15,15 @@ use rules::LONGEST_TEXT;
 use rules::Refusal;
 use steps::unit::stops;
 
-pub fn read_part_checked(settings: &[u64; 25], table: &[u8], text: &[u8], place: usize) -> Answer
-    requires { ⌜ card-check (settings-of (now settings)) (now table) ≡ got tt ⌝ }
-    ensures { λ r. ⌜ r ≡ part-answer (settings-of (now (settings .entry))) (now (table .entry)) (now (text .entry)) place ⌝ }
+pub fn read_part_checked(
+    settings: &[u64; 25],
+    table: &[u8],
+    numerals: &[u8],
+    text: &[u8],
+    place: usize,
+) -> Answer
+    requires { ⌜ card-check (card-of (now settings) (now table) (now numerals)) ≡ got tt ⌝ }
+    ensures { λ r. ⌜ r ≡ part-answer (card-of (now (settings .entry)) (now (table .entry)) (now (numerals .entry))) (now (text .entry)) place ⌝ }
 {
     if text.len() > LONGEST_TEXT {
         return refusal(Refusal::TextTooLong);
@@ -25,20 +31,25 @@ pub fn read_part_checked(settings: &[u64; 25], table: &[u8], text: &[u8], place:
     if place > text.len() {
         return refusal(Refusal::Beyond(place));
     }
-    match parse_part(settings, stops(settings), table, text, place) {
+    match parse_part(settings, stops(settings), table, numerals, text, place) {
         ReadingRead::Refused(cause) => refusal(cause),
         ReadingRead::Got(reading) => done(reading.next, reading.length),
     }
 }
 
-pub fn read_total_checked(settings: &[u64; 25], table: &[u8], text: &[u8]) -> Answer
-    requires { ⌜ card-check (settings-of (now settings)) (now table) ≡ got tt ⌝ }
-    ensures { λ r. ⌜ r ≡ total-answer (settings-of (now (settings .entry))) (now (table .entry)) (now (text .entry)) ⌝ }
+pub fn read_total_checked(
+    settings: &[u64; 25],
+    table: &[u8],
+    numerals: &[u8],
+    text: &[u8],
+) -> Answer
+    requires { ⌜ card-check (card-of (now settings) (now table) (now numerals)) ≡ got tt ⌝ }
+    ensures { λ r. ⌜ r ≡ total-answer (card-of (now (settings .entry)) (now (table .entry)) (now (numerals .entry))) (now (text .entry)) ⌝ }
 {
     if LONGEST_TEXT < text.len() {
         return refusal(Refusal::TextTooLong);
     }
-    match parse_multiple(settings, table, text) {
+    match parse_multiple(settings, table, numerals, text) {
         TotalRead::Refused(cause) => refusal(cause),
         TotalRead::Got(length) => done(text.len(), length),
     }

@@ -1,23 +1,27 @@
 // One part: read to its end, connection included, then evaluated, then tested for a forbidden negative.
 ghost use mathlib.Core.Path.{_≡_};
-ghost use Rattle.rules.specs.SettingsAsWords.{settings-of};
+ghost use Rattle.rules.specs.SettingsAsWords.{settings-of, card-of};
 ghost use Rattle.rules.specs.ReadingOnePart.{part};
-ghost use Rattle.rules.specs.Evaluation.{allowed, part-reading};
-ghost use Rattle.steps.specs.Units.{Ready};
+ghost use Rattle.rules.specs.Evaluation.{evaluated, allowed, part-reading};
+ghost use Rattle.steps.specs.Numerals.{CardReady};
+ghost use Rattle.answers.specs.Outcomes.{total};
 ghost use Rattle.reading.specs.Outcomes as outcomes;
-ghost use Rattle.reading.specs.Sums.{sums};
+ghost use Rattle.reading.specs.Sums.{Summed, sums};
 ghost use Rattle.reading.specs.Typed.{typed-part};
 use crate::start::StartRead;
 use crate::start::part_start;
 use crate::typed::PartRead;
 use crate::typed::SummedPart;
 use crate::typed::unsigned_part;
+use answers::TotalRead;
 use rules::Length;
 use rules::Part;
 use rules::Reading;
 use rules::Refusal;
+use rules::Repr;
 use settings::fields::negatives;
 use settings::sets::AsciiSet;
+use spoken::evaluate_spoken;
 use steps::Next;
 use steps::connection::try_consume_connection;
 use value::evaluation::evaluate;
@@ -32,11 +36,12 @@ fn typed_part(
     settings: &[u64; 25],
     stops: AsciiSet,
     table: &[u8],
+    numerals: &[u8],
     text: &[u8],
     place: usize,
 ) -> PartRead
-    requires { ⌜ Ready (settings-of (now settings)) stops (now table) ⌝ }
-    ensures { λ r. ⌜ outcomes.part r ≡ sums (now (text .entry)) (typed-part (settings-of (now (settings .entry))) (now (table .entry)) (now (text .entry)) place) ⌝ }
+    requires { ⌜ CardReady (card-of (now settings) (now table) (now numerals)) stops ⌝ }
+    ensures { λ r. ⌜ outcomes.part r ≡ sums (now (text .entry)) (typed-part (card-of (now (settings .entry)) (now (table .entry)) (now (numerals .entry))) (now (text .entry)) place) ⌝ }
 {
     match part_start(settings, text, place) {
         StartRead::Refused(cause) => PartRead::Refused(cause),
@@ -44,6 +49,7 @@ fn typed_part(
             settings,
             stops,
             table,
+            numerals,
             text,
             start.negative,
             start.class,
@@ -56,13 +62,14 @@ fn connected_part(
     settings: &[u64; 25],
     stops: AsciiSet,
     table: &[u8],
+    numerals: &[u8],
     text: &[u8],
     place: usize,
 ) -> PartRead
-    requires { ⌜ Ready (settings-of (now settings)) stops (now table) ⌝ }
-    ensures { λ r. ⌜ outcomes.part r ≡ sums (now (text .entry)) (part (settings-of (now (settings .entry))) (now (table .entry)) (now (text .entry)) place) ⌝ }
+    requires { ⌜ CardReady (card-of (now settings) (now table) (now numerals)) stops ⌝ }
+    ensures { λ r. ⌜ outcomes.part r ≡ sums (now (text .entry)) (part (card-of (now (settings .entry)) (now (table .entry)) (now (numerals .entry))) (now (text .entry)) place) ⌝ }
 {
-    match typed_part(settings, stops, table, text, place) {
+    match typed_part(settings, stops, table, numerals, text, place) {
         PartRead::Refused(cause) => PartRead::Refused(cause),
         PartRead::Got(typed) => match try_consume_connection(settings, text, typed.part.next) {
             Next::Refused(cause) => PartRead::Refused(cause),
@@ -74,6 +81,17 @@ fn connected_part(
                 })
             }
         },
+    }
+}
+
+// What was typed comes to a length; a spoken number may be out of range.
+fn evaluated(text: &[u8], repr: Repr, number: u64) -> TotalRead
+    requires { ⌜ Summed (now text) repr number ⌝ }
+    ensures { λ r. ⌜ total r ≡ evaluated (now (text .entry)) repr ⌝ }
+{
+    match repr {
+        Repr::Typed(typed) => TotalRead::Got(evaluate(text, typed, number)),
+        Repr::Spoken(spoken) => evaluate_spoken(spoken),
     }
 }
 
@@ -93,18 +111,21 @@ pub fn parse_part(
     settings: &[u64; 25],
     stops: AsciiSet,
     table: &[u8],
+    numerals: &[u8],
     text: &[u8],
     place: usize,
 ) -> ReadingRead
-    requires { ⌜ Ready (settings-of (now settings)) stops (now table) ⌝ }
-    ensures { λ r. ⌜ outcomes.reading r ≡ part-reading (settings-of (now (settings .entry))) (now (table .entry)) (now (text .entry)) place ⌝ }
+    requires { ⌜ CardReady (card-of (now settings) (now table) (now numerals)) stops ⌝ }
+    ensures { λ r. ⌜ outcomes.reading r ≡ part-reading (card-of (now (settings .entry)) (now (table .entry)) (now (numerals .entry))) (now (text .entry)) place ⌝ }
 {
-    match connected_part(settings, stops, table, text, place) {
+    match connected_part(settings, stops, table, numerals, text, place) {
         PartRead::Refused(cause) => ReadingRead::Refused(cause),
         PartRead::Got(summed) => {
             let part = summed.part;
-            let length = evaluate(text, part.repr, summed.number);
-            allowed(settings, place, part.next, length)
+            match evaluated(text, part.repr, summed.number) {
+                TotalRead::Refused(cause) => ReadingRead::Refused(cause),
+                TotalRead::Got(length) => allowed(settings, place, part.next, length),
+            }
         }
     }
 }

@@ -1,7 +1,7 @@
 // A length added to by a text's total, under a card that has been checked.
 ghost use mathlib.Core.Path.{_≡_};
 ghost use Rattle.rules.specs.NumbersHandedBack.{got, refusal};
-ghost use Rattle.rules.specs.SettingsAsWords.{settings-of};
+ghost use Rattle.rules.specs.SettingsAsWords.{card-of};
 ghost use Rattle.rules.specs.SettingsAndUnitTable.{card-check};
 ghost use Rattle.rules.specs.WhatEveryEntryOwes.{shift-answer, shifted-record};
 use crate::total::parse_multiple;
@@ -30,10 +30,11 @@ pub fn shifted_total_checked(
     total: Length,
     settings: &[u64; 25],
     table: &[u8],
+    numerals: &[u8],
     text: &[u8],
 ) -> ShiftedTotal
-    requires { ⌜ card-check (settings-of (now settings)) (now table) ≡ got tt ⌝ }
-    ensures { λ r. ⌜ (r .answer ≡ shift-answer total (settings-of (now (settings .entry))) (now (table .entry)) (now (text .entry))) × (r .total ≡ shifted-record total (settings-of (now (settings .entry))) (now (table .entry)) (now (text .entry))) ⌝ }
+    requires { ⌜ card-check (card-of (now settings) (now table) (now numerals)) ≡ got tt ⌝ }
+    ensures { λ r. ⌜ (r .answer ≡ shift-answer total (card-of (now (settings .entry)) (now (table .entry)) (now (numerals .entry))) (now (text .entry))) × (r .total ≡ shifted-record total (card-of (now (settings .entry)) (now (table .entry)) (now (numerals .entry))) (now (text .entry))) ⌝ }
 {
     if !well_formed(total) {
         return kept(total, Refusal::Malformed);
@@ -41,7 +42,7 @@ pub fn shifted_total_checked(
     if LONGEST_TEXT < text.len() {
         return kept(total, Refusal::TextTooLong);
     }
-    match parse_multiple(settings, table, text) {
+    match parse_multiple(settings, table, numerals, text) {
         TotalRead::Refused(cause) => kept(total, cause),
         TotalRead::Got(length) => {
             let sum = saturating_add(total, length);

@@ -1,10 +1,11 @@
 // A text's total: its parts one after another, each sum clamped in order.
 ghost use mathlib.Core.Path.{_≡_};
 ghost use Rattle.rules.specs.NumbersHandedBack.{got};
-ghost use Rattle.rules.specs.SettingsAsWords.{settings-of};
+ghost use Rattle.rules.specs.SettingsAsWords.{settings-of, card-of};
 ghost use Rattle.rules.specs.SettingsAndUnitTable.{settings-check};
 ghost use Rattle.rules.specs.Evaluation.{total};
 ghost use Rattle.steps.specs.Units.{Readable};
+ghost use Rattle.steps.specs.Numerals.{Sayable};
 ghost use Rattle.answers.specs.Outcomes as outcomes;
 use crate::part::ReadingRead;
 use crate::part::parse_part;
@@ -13,16 +14,16 @@ use lengths::duration::saturating_add;
 use lengths::duration::zero;
 use steps::unit::stops;
 
-pub fn parse_multiple(settings: &[u64; 25], table: &[u8], text: &[u8]) -> TotalRead
+pub fn parse_multiple(settings: &[u64; 25], table: &[u8], numerals: &[u8], text: &[u8]) -> TotalRead
     requires { ⌜ settings-check (settings-of (now settings)) ≡ got tt ⌝ }
-    requires { ⌜ Readable (now table) ⌝ }
-    ensures { λ r. ⌜ outcomes.total r ≡ total (settings-of (now (settings .entry))) (now (table .entry)) (now (text .entry)) ⌝ }
+    requires { ⌜ Readable (now table) × Sayable (now numerals) ⌝ }
+    ensures { λ r. ⌜ outcomes.total r ≡ total (card-of (now (settings .entry)) (now (table .entry)) (now (numerals .entry))) (now (text .entry)) ⌝ }
 {
     let stops = stops(settings);
     let mut sum = zero();
     let mut place = 0;
     loop {
-        match parse_part(settings, stops, table, text, place) {
+        match parse_part(settings, stops, table, numerals, text, place) {
             ReadingRead::Refused(cause) => return TotalRead::Refused(cause),
             ReadingRead::Got(reading) => {
                 sum = saturating_add(sum, reading.length);

@@ -1,17 +1,23 @@
 // What was typed of a part, up to the connection to the next.
 ghost use mathlib.Core.Path.{_≡_};
+ghost use mathlib.Core.List.{List};
+ghost use Prim.Native.Nat.{ℕ, _+_, _≤_};
+ghost use lib.ListN.{length};
 ghost use Rattle.rules.specs.NumbersHandedBack.{got};
-ghost use Rattle.rules.specs.SettingsAsWords.{settings-of};
+ghost use Rattle.rules.specs.SettingsAsWords.{settings-of, card-of};
 ghost use Rattle.rules.specs.SettingsAndUnitTable.{settings-check};
 ghost use Rattle.steps.specs.Units.{Ready};
+ghost use Rattle.steps.specs.Numerals.{CardReady};
 ghost use Rattle.reading.specs.Outcomes.{part};
 ghost use Rattle.reading.specs.Sums.{sums};
-ghost use Rattle.reading.specs.Typed.{class-at, typed-finite, typed-word, typed-unsigned};
+ghost use Rattle.reading.specs.Typed.{class-at, typed-infinite, typed-finite, typed-spoken, typed-word, typed-unsigned};
 use rules::DurationRepr;
 use rules::Exponent;
 use rules::Fract;
 use rules::Part;
 use rules::Refusal;
+use rules::Repr;
+use rules::SpokenRepr;
 use rules::Whole;
 use settings::fields::before_unit;
 use settings::fields::default_kind;
@@ -25,7 +31,11 @@ use steps::infinity::parse_infinity_remainder;
 use steps::letters::next_is_ignore_ascii_case;
 use steps::number::NumberRead;
 use steps::number::parse_number;
+use steps::numeral::NumeralRead;
+use steps::numeral::parse_numeral;
+use steps::unit::SpokenUnitRead;
 use steps::unit::UnitRead;
+use steps::unit::parse_spoken_unit;
 use steps::unit::parse_time_unit;
 use tables::DIGIT;
 use tables::LETTER;
@@ -43,22 +53,17 @@ pub enum PartRead {
     Refused(Refusal),
 }
 
-// `inf` or `infinity`, if allowed; any other word is no number.
+// `inf` or `infinity`.
 fn infinite_part(settings: &[u64; 25], text: &[u8], negative: bool, place: usize) -> PartRead
     requires { ⌜ settings-check (settings-of (now settings)) ≡ got tt ⌝ }
-    ensures { λ r. ⌜ part r ≡ sums (now (text .entry)) (typed-word (settings-of (now (settings .entry))) (now (text .entry)) negative place) ⌝ }
+    requires { ⌜ place + 3 ≤ length (now text) ⌝ }
+    ensures { λ r. ⌜ part r ≡ sums (now (text .entry)) (typed-infinite (settings-of (now (settings .entry))) (now (text .entry)) negative place) ⌝ }
 {
-    if !infinity(settings) {
-        return PartRead::Refused(Refusal::NoNumber(place));
-    }
-    if !next_is_ignore_ascii_case(b"inf", text, place) {
-        return PartRead::Refused(Refusal::NoNumber(place));
-    }
     match parse_infinity_remainder(settings, text, place) {
         Next::Refused(cause) => PartRead::Refused(cause),
         Next::At(next) => PartRead::Got(SummedPart {
             part: Part {
-                repr: DurationRepr {
+                repr: Repr::Typed(DurationRepr {
                     negative,
                     infinite: true,
                     whole: Whole {
@@ -74,7 +79,7 @@ fn infinite_part(settings: &[u64; 25], text: &[u8], negative: bool, place: usize
                         power: 0,
                     },
                     multiplier: kind_multiplier(default_kind(settings)),
-                },
+                }),
                 next,
             },
             number: 0,
@@ -92,7 +97,7 @@ fn finite_part(
     place: usize,
 ) -> PartRead
     requires { ⌜ Ready (settings-of (now settings)) stops (now table) ⌝ }
-    ensures { λ r. ⌜ part r ≡ sums (now (text .entry)) (typed-finite (settings-of (now (settings .entry))) (now (table .entry)) (now (text .entry)) negative place) ⌝ }
+    ensures { λ r. ⌜ ((numerals : List ℕ) → part r ≡ sums (now (text .entry)) (typed-finite (card-of (now (settings .entry)) (now (table .entry)) numerals) (now (text .entry)) negative place)) ⌝ }
 {
     let summed = match parse_number(settings, text, place) {
         NumberRead::Got(summed) => summed,
@@ -117,37 +122,97 @@ fn finite_part(
     let multiplier = unit.multiplier;
     PartRead::Got(SummedPart {
         part: Part {
-            repr: DurationRepr {
+            repr: Repr::Typed(DurationRepr {
                 negative,
                 infinite: false,
                 whole,
                 fract,
                 exponent,
                 multiplier,
-            },
+            }),
             next: unit.next,
         },
         number: summed.number,
     })
 }
 
-// The class of the byte at the place decides: digits, a point, infinity, or no number.
+// A numeral and its unit, one after the other.
+fn spoken_part(
+    settings: &[u64; 25],
+    stops: AsciiSet,
+    table: &[u8],
+    numerals: &[u8],
+    text: &[u8],
+    negative: bool,
+    place: usize,
+) -> PartRead
+    requires { ⌜ CardReady (card-of (now settings) (now table) (now numerals)) stops ⌝ }
+    ensures { λ r. ⌜ part r ≡ sums (now (text .entry)) (typed-spoken (card-of (now (settings .entry)) (now (table .entry)) (now (numerals .entry))) (now (text .entry)) negative place) ⌝ }
+{
+    let numeral = match parse_numeral(settings, numerals, text, place) {
+        NumeralRead::Got(numeral) => numeral,
+        NumeralRead::Refused(cause) => return PartRead::Refused(cause),
+    };
+    let unit = match parse_spoken_unit(settings, stops, table, text, numeral.next) {
+        SpokenUnitRead::Got(unit) => unit,
+        SpokenUnitRead::Refused(cause) => return PartRead::Refused(cause),
+    };
+    let multiplier = numeral.multiplier;
+    let kind = unit.kind;
+    let row = unit.row;
+    PartRead::Got(SummedPart {
+        part: Part {
+            repr: Repr::Spoken(SpokenRepr {
+                negative,
+                numeral: multiplier,
+                kind,
+                row,
+            }),
+            next: unit.next,
+        },
+        number: 0,
+    })
+}
+
+// Infinity, if it is allowed; any other word may be a numeral.
+fn word_part(
+    settings: &[u64; 25],
+    stops: AsciiSet,
+    table: &[u8],
+    numerals: &[u8],
+    text: &[u8],
+    negative: bool,
+    place: usize,
+) -> PartRead
+    requires { ⌜ CardReady (card-of (now settings) (now table) (now numerals)) stops ⌝ }
+    ensures { λ r. ⌜ part r ≡ sums (now (text .entry)) (typed-word (card-of (now (settings .entry)) (now (table .entry)) (now (numerals .entry))) (now (text .entry)) negative place) ⌝ }
+{
+    if infinity(settings) {
+        if next_is_ignore_ascii_case(b"inf", text, place) {
+            return infinite_part(settings, text, negative, place);
+        }
+    }
+    spoken_part(settings, stops, table, numerals, text, negative, place)
+}
+
+// The class of the byte at the place decides: digits, a point, a word, or no number.
 pub fn unsigned_part(
     settings: &[u64; 25],
     stops: AsciiSet,
     table: &[u8],
+    numerals: &[u8],
     text: &[u8],
     negative: bool,
     class: u8,
     place: usize,
 ) -> PartRead
-    requires { ⌜ Ready (settings-of (now settings)) stops (now table) ⌝ }
+    requires { ⌜ CardReady (card-of (now settings) (now table) (now numerals)) stops ⌝ }
     requires { ⌜ class ≡ class-at (now text) place ⌝ }
-    ensures { λ r. ⌜ part r ≡ sums (now (text .entry)) (typed-unsigned (settings-of (now (settings .entry))) (now (table .entry)) (now (text .entry)) negative place) ⌝ }
+    ensures { λ r. ⌜ part r ≡ sums (now (text .entry)) (typed-unsigned (card-of (now (settings .entry)) (now (table .entry)) (now (numerals .entry))) (now (text .entry)) negative place) ⌝ }
 {
     match class {
         DIGIT | POINT => finite_part(settings, stops, table, text, negative, place),
-        LETTER => infinite_part(settings, text, negative, place),
+        LETTER => word_part(settings, stops, table, numerals, text, negative, place),
         _ => PartRead::Refused(Refusal::NoNumber(place)),
     }
 }

@@ -81,7 +81,7 @@ fn fallen(power: u16) -> u16
 }
 
 // What the row itself multiplies by.
-fn row_multiplier(row: &[u8]) -> Multiplier
+pub fn row_multiplier(row: &[u8]) -> Multiplier
     requires { ⌜ length (now row) ≡ row-size ⌝ }
     ensures { λ r. ⌜ r ≡ row-multiplier (now (row .entry)) ⌝ }
 {
@@ -97,7 +97,7 @@ fn row_multiplier(row: &[u8]) -> Multiplier
 
 // Whether a product is at most 9223372036854775807. It is not made, since it may not fit: the magnitude is held against the limit
 // divided by the factor.
-fn within(factor: u64, magnitude: u64) -> bool
+pub fn within(factor: u64, magnitude: u64) -> bool
     ensures { λ r. ⌜ r ≡ ltb (factor * magnitude) (2 ^ 63) ⌝ }
 {
     if factor == 0 {

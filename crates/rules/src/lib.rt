@@ -195,14 +195,14 @@ pub enum Refusal {
     // a spoken number has no unit here; a product of its numeral, kind and row is out of range
     NoUnit(usize),
     OutOfRange,
-    // the card: a wrong delimiter, conjunction, default kind, table size or row, and the same of the numerals
+    // the card: a wrong delimiter, conjunction, default kind, table size or row, and size or row of the numerals, of which a byte counts the rows
     Delimiters,
     Conjunctions,
     DefaultKind,
     TableSize,
     BadRow(usize),
     NumeralsSize,
-    BadNumeral(usize),
+    BadNumeral(u8),
     // the text is longer than a text may be
     TextTooLong,
     // the buffer has no room for the length at this place

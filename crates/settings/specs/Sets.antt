@@ -1,6 +1,9 @@
 -- Sets of two words, and two sets as one. Assumes nothing.
+use mathlib.Core.Bool.{Bool, Bool·beq}
+use Prim.Native.Nat.{ℕ}
 use lib.Bits.{bitOr}
 use Rattle.rules.specs.declared.ByteSet.{ByteSet}
+use Rattle.rules.specs.SettingsAndUnitTable.{holds}
 use Rattle.settings.specs.declared.sets.AsciiSet.{AsciiSet}
 
 -- the set of bytes that a set of two words is
@@ -15,3 +18,7 @@ either a b = record {
   word2 = bitOr (a .word2) (b .word2);
   word3 = bitOr (a .word3) (b .word3);
 }
+
+-- in the set or, with held false, outside it
+unfoldable pub passes : ByteSet → Bool → ℕ → Bool
+passes set held b = Bool·beq (holds set b) held

@@ -17,7 +17,7 @@ use Rattle.rules.specs.Laws.Outcomes.{all-got, all-refused, all-if, all-of}
 use Rattle.rules.specs.Laws.Tests.{and-false}
 use Rattle.rules.specs.Laws.Texts.{sees-in, run-more, run-past, run-stop, run-within}
 use Rattle.value.specs.Digits.{run-same}
-use Rattle.steps.specs.Sets.{passes}
+use Rattle.settings.specs.Sets.{passes}
 
 -- a byte passes at the place exactly if the run from there goes on
 pub sees-run : (test : ℕ → Bool) (text : List ℕ) (place : ℕ) → place < run test text place → sees test text place ≡ true

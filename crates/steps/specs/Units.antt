@@ -29,7 +29,7 @@ use Rattle.value.specs.Digits.{run-end}
 use Rattle.settings.specs.declared.sets.AsciiSet.{AsciiSet}
 use Rattle.settings.specs.Sets.{bytes-of, either}
 use Rattle.settings.specs.Laws.Sets.{runs, either-holds, first-word}
-use Rattle.steps.specs.Sets.{passes}
+use Rattle.settings.specs.Sets.{passes}
 
 -- what an accepted table has: room for each row's name, kind times row in range, of each row, and none has an empty name
 pub record Readable (table : List ℕ) : Type 0 where

@@ -7,7 +7,7 @@ ghost use Rattle.rules.specs.Common.{sees, run};
 ghost use Rattle.rules.specs.SettingsAndUnitTable.{holds, settings-check};
 ghost use Rattle.rules.specs.ReadingOnePart.{delimiters, gap};
 ghost use Rattle.settings.specs.Sets.{bytes-of};
-ghost use Rattle.steps.specs.Sets.{passes};
+ghost use Rattle.settings.specs.Sets.{passes};
 ghost use Rattle.steps.specs.Outcomes.{next};
 use crate::Next;
 use rules::Refusal;

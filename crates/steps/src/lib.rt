@@ -6,6 +6,7 @@ pub mod exponent;
 pub mod infinity;
 pub mod letters;
 pub mod number;
+pub mod numeral;
 pub mod sign;
 pub mod unit;
 

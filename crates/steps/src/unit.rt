@@ -1,14 +1,15 @@
 // Step 6: the unit, and `ago`.
 ghost use mathlib.Core.Path.{_≡_};
-ghost use Prim.Native.Nat.{_≤_, _<_};
+ghost use mathlib.Core.List.{List};
+ghost use Prim.Native.Nat.{ℕ, _≤_, _<_};
 ghost use lib.ListN.{length};
 ghost use lib.Seq.{slice};
 ghost use Rattle.rules.specs.NumbersHandedBack.{got};
-ghost use Rattle.rules.specs.SettingsAsWords.{settings-of};
+ghost use Rattle.rules.specs.SettingsAsWords.{settings-of, card-of};
 ghost use Rattle.rules.specs.SettingsAndUnitTable.{settings-check, lookup};
-ghost use Rattle.rules.specs.ReadingOnePart.{closes-unit, negated, ago-step, unit-step};
+ghost use Rattle.rules.specs.ReadingOnePart.{closes-unit, negated, ago-step, unit-step, spoken-unit-step};
 ghost use Rattle.settings.specs.Sets.{bytes-of};
-ghost use Rattle.steps.specs.Outcomes.{unit};
+ghost use Rattle.steps.specs.Outcomes.{unit, spoken-unit};
 ghost use Rattle.steps.specs.Units.{Readable, Ready, stops-of};
 use crate::Next;
 use crate::bytes::is_next_duration;
@@ -16,11 +17,15 @@ use crate::delimiters::is_delimiter;
 use crate::delimiters::past;
 use crate::delimiters::try_consume_delimiter;
 use crate::letters::next_is_ignore_ascii_case;
+use rows::fields::KIND_AT;
+use rows::fields::row_at;
+use rows::fields::row_multiplier;
 use rows::fields::row_product;
 use rows::lookup::find;
 use rules::Found;
 use rules::Multiplier;
 use rules::Refusal;
+use rules::SpokenUnit;
 use rules::Unit;
 use settings::fields::ago;
 use settings::fields::default_kind;
@@ -33,6 +38,11 @@ use tables::kind_multiplier;
 
 pub enum UnitRead {
     Got(Unit),
+    Refused(Refusal),
+}
+
+pub enum SpokenUnitRead {
+    Got(SpokenUnit),
     Refused(Refusal),
 }
 
@@ -137,7 +147,7 @@ pub fn parse_time_unit(
     place: usize,
 ) -> UnitRead
     requires { ⌜ Ready (settings-of (now settings)) stops (now table) ⌝ }
-    ensures { λ r. ⌜ unit r ≡ unit-step (settings-of (now (settings .entry))) (now (table .entry)) (now (text .entry)) place ⌝ }
+    ensures { λ r. ⌜ ((numerals : List ℕ) → unit r ≡ unit-step (card-of (now (settings .entry)) (now (table .entry)) numerals) (now (text .entry)) place) ⌝ }
 {
     let end = past(stops, false, text, place);
     let Found::Row(i) = find_unit(table, text, place, end) else {
@@ -147,4 +157,33 @@ pub fn parse_time_unit(
         });
     };
     parse_ago(settings, text, row_product(table, i), end)
+}
+
+// The same after a spoken number, which must have a unit. Kind and row stay apart, and `ago` negates the row.
+pub fn parse_spoken_unit(
+    settings: &[u64; 25],
+    stops: AsciiSet,
+    table: &[u8],
+    text: &[u8],
+    place: usize,
+) -> SpokenUnitRead
+    requires { ⌜ Ready (settings-of (now settings)) stops (now table) ⌝ }
+    ensures { λ r. ⌜ ((numerals : List ℕ) → spoken-unit r ≡ spoken-unit-step (card-of (now (settings .entry)) (now (table .entry)) numerals) (now (text .entry)) place) ⌝ }
+{
+    let end = past(stops, false, text, place);
+    let Found::Row(i) = find_unit(table, text, place, end) else {
+        return SpokenUnitRead::Refused(Refusal::NoUnit(place));
+    };
+    let found = row_at(table, i);
+    match parse_ago(settings, text, row_multiplier(found), end) {
+        UnitRead::Refused(cause) => SpokenUnitRead::Refused(cause),
+        UnitRead::Got(unit) => {
+            let row = unit.multiplier;
+            SpokenUnitRead::Got(SpokenUnit {
+                kind: kind_multiplier(found[KIND_AT]),
+                row,
+                next: unit.next,
+            })
+        }
+    }
 }

@@ -229,7 +229,7 @@ fn lower(number: u64, decimals: usize) -> Shifted
 }
 
 // A number that fits moves by word arithmetic, either way.
-fn shift_word(number: u64, before: usize, after: usize) -> Shifted
+pub fn shift_word(number: u64, before: usize, after: usize) -> Shifted
     requires { ⌜ number < 10 ^ 19 ⌝ }
     ensures { λ r. ⌜ r ≡ shifted-of (number * 10 ^ (18 + before) / 10 ^ after) ⌝ }
 {

@@ -1,8 +1,9 @@
--- What an accepted card has besides accepted settings: rows whose products are in range, and names that are found where they stand.
+-- What an accepted card has besides accepted settings: rows whose products are in range, names that are found where they stand, and numerals
+-- of letters.
 -- Assumes nothing.
 use mathlib.Core.Path.{_≡_, refl, sym, ap, _∙_}
 use mathlib.Core.Bool.{Bool, true, false, false≢true}
-use mathlib.Core.List.{List, []}
+use mathlib.Core.List.{List, [], _∷_}
 use Prim.Native.Nat.{ℕ, zero, suc, _+_, _%_, _≤_, _<_}
 use native.Mathlib.Nat.{add-zero, zero-add, suc-add, add-suc, le-of-suc-le-suc}
 use native.Mathlib.Numerals.{add-one}
@@ -11,52 +12,63 @@ use lib.Dec.{eqb, leb}
 use lib.ListN.{length}
 use borrow.Author.Tests.{leb-true, eqb-true, eqb-false}
 use Rattle.rules.specs.declared.Settings.{Settings}
-use Rattle.rules.specs.declared.Refusal.the-variants.{TableSize, BadRow}
+use Rattle.rules.specs.declared.Refusal.{Refusal}
+use Rattle.rules.specs.declared.Refusal.the-variants.{TableSize, NumeralsSize}
 use Rattle.rules.specs.declared.Found.{Found}
 use Rattle.rules.specs.declared.Found.the-variants.{Row, Nowhere}
-use Rattle.rules.specs.Common.{if_then_else_, same}
-use Rattle.rules.specs.NumbersHandedBack.{Outcome, got, refused}
-use Rattle.rules.specs.SettingsAndUnitTable.{settings-check, most-rows, row-size, name-room, rows, row, name-size, name, product, in-range, named, row-right, row-accepted, rows-check, table-check, card-check, lookup-from, lookup}
-use Rattle.rules.specs.Laws.Choices.{if-either, and-right, or-neither}
+use Rattle.rules.specs.Common.{if_then_else_, all, same, starts}
+use Rattle.rules.specs.NumbersHandedBack.{Outcome, got, refused, _>>_}
+use Rattle.rules.specs.SettingsAndUnitTable.{LETTER, is, settings-check, most-rows, row-size, name-room, rows, row, name-size, name, product, in-range, named, row-right, row-accepted, numeral-accepted, whole-rows, rows-check, table-check, numerals-check, Card, card-check, lookup-from, lookup}
+use Rattle.rules.specs.Laws.Choices.{if-either, and-right, or-neither, all-first}
 use Rattle.rules.specs.Laws.Outcomes.{not-got}
 use Rattle.settings.specs.Laws.Accepted.{passed, passed-both}
 use Rattle.rows.specs.Laws.Lookup.{same-refl, same-equal, rest-of-lookup, lookup-start, lookup-here, lookup-next}
 use Rattle.rows.specs.Laws.Rows.{length-row}
+use Rattle.card.specs.Fields.{padded}
 use Rattle.card.specs.Laws.Names.{size-most, name-some}
-use Rattle.card.specs.Laws.Table.{row-both, right-padded, right-unnamed, right-in-range}
+use Rattle.card.specs.Laws.Table.{formed-padded, formed-name, row-both, right-padded, right-unnamed, right-in-range}
 
-pub card-settings : (s : Settings) (table : List ℕ) → card-check s table ≡ got tt → settings-check s ≡ got tt
-unfolding card-check
-card-settings s table e = passed-both (settings-check s) (table-check s table) e .0
+module _ (card : Card) (good : card-check card ≡ got tt) where
+  tables : (table-check (card .settings) (card .units) >> numerals-check (card .numerals)) ≡ got tt
+  unfolding card-check
+  tables = passed-both (settings-check (card .settings)) _ good .1
 
-pub card-table : (s : Settings) (table : List ℕ) → card-check s table ≡ got tt → table-check s table ≡ got tt
-unfolding card-check
-card-table s table e = passed-both (settings-check s) (table-check s table) e .1
+  pub card-settings : settings-check (card .settings) ≡ got tt
+  unfolding card-check
+  card-settings = passed-both (settings-check (card .settings)) _ good .0
 
--- ---- the table
+  pub card-table : table-check (card .settings) (card .units) ≡ got tt
+  card-table = passed-both (table-check (card .settings) (card .units)) _ tables .0
 
-chosen : (i : ℕ) (test : Bool) (more : Outcome (Unit {0})) → (if test then more else refused (BadRow i)) ≡ got tt → (test ≡ true) × (more ≡ got tt)
+  pub card-numerals : numerals-check (card .numerals) ≡ got tt
+  card-numerals = passed-both (table-check (card .settings) (card .units)) _ tables .1
+
+-- ---- rows that pass a check
+
+chosen : (bad : Refusal) (test : Bool) (more : Outcome (Unit {0})) → (if test then more else refused bad) ≡ got tt → (test ≡ true) × (more ≡ got tt)
 unfolding if_then_else_
-chosen i true more e = (refl, e)
-chosen i false more e = absurd (not-got (BadRow i) e)
+chosen bad true more e = (refl, e)
+chosen bad false more e = absurd (not-got bad e)
 
-rows-good : (s : Settings) (table : List ℕ) (n i k : ℕ) → rows-check s table i n ≡ got tt → k < n → row-accepted s table (i + k) ≡ true
+rows-good : (test : ℕ → Bool) (bad : ℕ → Refusal) (n i k : ℕ) → rows-check test bad i n ≡ got tt → k < n → test (i + k) ≡ true
 unfolding rows-check
-rows-good s table zero i k e below = absurd (omega arith)
-rows-good s table (suc n) i zero e below = rw add-zero (chosen i (row-accepted s table i) (rows-check s table (suc i) n) e .0)
-rows-good s table (suc n) i (suc k) e below =
+rows-good test bad zero i k e below = absurd (omega arith)
+rows-good test bad (suc n) i zero e below = rw add-zero (chosen (bad i) (test i) (rows-check test bad (suc i) n) e .0)
+rows-good test bad (suc n) i (suc k) e below =
     rw (add-suc i k, ← (suc-add i k))
-    (rows-good s table n (suc i) k (chosen i (row-accepted s table i) (rows-check s table (suc i) n) e .1) (le-of-suc-le-suc below))
+    (rows-good test bad n (suc i) k (chosen (bad i) (test i) (rows-check test bad (suc i) n) e .1) (le-of-suc-le-suc below))
+
+-- ---- the unit table
 
 module _ (s : Settings) (table : List ℕ) (good : table-check s table ≡ got tt) where
   pub rows-most : rows table ≤ most-rows
-  unfolding table-check
+  unfolding table-check whole-rows
   rows-most =
       leb-true (rows table) most-rows (and-right (eqb (length table % row-size) 0) (leb (rows table) most-rows) (passed TableSize _ _ good .0))
 
   pub row-good : (i : ℕ) → i < rows table → row-accepted s table i ≡ true
   unfolding table-check
-  row-good i below = rw (zero-add i) at (rows-good s table (rows table) 0 i (passed TableSize _ _ good .1) below)
+  row-good i below = rw (zero-add i) at (rows-good _ _ (rows table) 0 i (passed TableSize _ _ good .1) below)
 
   -- so each passes document 01's tests
   pub rows-right : (i : ℕ) → i < rows table → row-right s table i ≡ true
@@ -128,12 +140,43 @@ pub own-name : (s : Settings) (table : List ℕ) (i : ℕ) → i < rows table �
 own-name s table i below right =
     past table (name (row table i)) i (omega arith) (right-unnamed s table i right) ∙ lookup-here table (name (row table i)) i below (same-refl (name (row table i)))
 
+-- a name that no row has is nowhere
+unnamed : (table wanted : List ℕ) → ((i : ℕ) → i < rows table → name (row table i) ≡ wanted → ⊥) → lookup table wanted ≡ Nowhere
+unnamed table wanted none = go (lookup table wanted) refl
+  where
+    go : (f : Found) → lookup table wanted ≡ f → f ≡ Nowhere
+    go (Row k) e = let at-row = lookup-found table wanted k e in absurd (none k (at-row .0) (at-row .1))
+    go Nowhere e = refl
+
 -- and nothing has no name
 pub lookup-empty : (s : Settings) (table : List ℕ) → table-check s table ≡ got tt → lookup table [] ≡ Nowhere
-lookup-empty s table good = go (lookup table []) refl
-  where
-    go : (f : Found) → lookup table [] ≡ f → f ≡ Nowhere
-    go (Row k) e =
-        let at-row = lookup-found table [] k e in
-        absurd (name-some (row table k) (length-row table k (at-row .0)) (right-padded s table k (rows-right s table good k (at-row .0))) (at-row .1))
-    go Nowhere e = refl
+lookup-empty s table good =
+    unnamed table []
+    (λ i below. name-some (row table i) (length-row table i below) (right-padded s table i (rows-right s table good i below)))
+
+-- ---- the numerals
+
+module _ (numerals : List ℕ) (good : numerals-check numerals ≡ got tt) where
+  numeral-good : (i : ℕ) → i < rows numerals → numeral-accepted numerals i ≡ true
+  unfolding numerals-check
+  numeral-good i below = rw (zero-add i) at (rows-good _ _ (rows numerals) 0 i (passed NumeralsSize _ _ good .1) below)
+
+  numeral-padded : (i : ℕ) → i < rows numerals → padded (row numerals i) ≡ true
+  unfolding numeral-accepted
+  numeral-padded i below = formed-padded _ _ numerals i (numeral-good i below)
+
+  pub numeral-sized : (i : ℕ) → i < rows numerals → name-size (row numerals i) ≤ name-room
+  numeral-sized i below = size-most (row numerals i) (length-row numerals i below) (numeral-padded i below)
+
+  numeral-lettered : (i : ℕ) → i < rows numerals → all (is LETTER) (name (row numerals i)) ≡ true
+  unfolding numeral-accepted
+  numeral-lettered i below = formed-name _ _ numerals i (numeral-good i below)
+
+  -- what begins with no letter is no numeral
+  pub lookup-lettered : (wanted : List ℕ) → starts (is LETTER) wanted ≡ false → lookup numerals wanted ≡ Nowhere
+  unfolding starts
+  lookup-lettered [] other =
+      unnamed numerals [] (λ i below. name-some (row numerals i) (length-row numerals i below) (numeral-padded i below))
+  lookup-lettered (b ∷ wanted) other =
+      unnamed numerals (b ∷ wanted)
+      (λ i below e. false≢true (sym other ∙ all-first (is LETTER) b wanted (rw e at (numeral-lettered i below))))

@@ -16,10 +16,9 @@ use Rattle.rules.specs.Common.{all, between, same, starts, if_then_else_}
 use Rattle.rules.specs.SettingsAndUnitTable.{row-size, name-room, name-at, name-size, name, after-name, may-name, led-by-e, lower, low-first}
 use Rattle.rules.specs.Laws.Choices.{and-left, and-right, and-both}
 use Rattle.rules.specs.Laws.Texts.{slice-shift}
-use Rattle.card.specs.Fields.{padded, outside, unnameable}
+use Rattle.card.specs.Fields.{padded}
 use Rattle.rules.specs.Laws.Tests.{same-test, between-from}
 use Rattle.rules.specs.Laws.Lists.{Bytes, all-both, all-alike}
-use Rattle.card.specs.Laws.Unnameable.{outside-names}
 use Rattle.settings.specs.Laws.Sets.{runs, agree}
 use Rattle.rows.specs.Laws.Lookup.{same-refl, same-equal}
 use Rattle.rows.specs.Laws.Rows.{name-length}
@@ -214,11 +213,10 @@ module _ (r : List ℕ) (long : length r ≡ row-size) (p : Bytes r) where
       ap (λ k. drop k (take 8 (drop 1 r) ++ take 8 (drop 9 r))) past ∙ drop-append-add (take 8 (drop 1 r)) (take 8 (drop 9 r)) (name-size r - 8) in
       rw (after-room high, room-words r long, dropped, zeros-number (drop (name-size r - 8) (take 8 (drop 9 r))), low-first-shift (name-size r - 8) (take 8 (drop 9 r)) (bytes-part r 8 9 p))
 
--- a name holds what it may if it holds nothing that no name does
-pub names-outside : (s : Settings) (r : List ℕ) → Bytes r → all (outside (unnameable s)) (name r) ≡ all (may-name s) (name r)
+-- tests that agree at each byte agree at a name
+pub names-alike : (test other : ℕ → Bool) → ((b : ℕ) → b < 256 → test b ≡ other b) → (r : List ℕ) → Bytes r → all test (name r) ≡ all other (name r)
 unfolding name
-names-outside s r p =
-    all-alike (outside (unnameable s)) (may-name s) (name r) (λ i. outside-names s (getD (name r) i 0) (bytes-part r (name-size r) 1 p i))
+names-alike test other alike r p = all-alike test other (name r) (λ i. alike (getD (name r) i 0) (bytes-part r (name-size r) 1 p i))
 
 -- ---- names led by `e`
 

@@ -1,22 +1,28 @@
 -- Laws of the table check: row by row, and the tests that a right row and an accepted one passed. Assumes nothing.
-use mathlib.Core.Path.{_≡_, sym, _∙_}
-use mathlib.Core.Bool.{true, false, not, _&&_, _||_}
+use mathlib.Core.Path.{_≡_, refl, sym, ap, _∙_}
+use mathlib.Core.Bool.{Bool, true, false, not, _&&_, _||_}
 use mathlib.Core.List.{List}
-use Prim.Native.Nat.{ℕ, zero, suc, _+_, _-_, _≤_, _<_}
-use native.Mathlib.Nat.{sub-zero, sub-eq-zero-of-le}
+use Prim.Native.Nat.{ℕ, zero, suc, _+_, _*_, _-_, _/_, _%_, _≤_, _<_}
+use native.Mathlib.Nat.{add-zero, add-suc, suc-add, sub-zero, sub-eq-zero-of-le}
 use native.Mathlib.Numerals.{sub-one, add-one}
 use native.Mathlib.Omega.{arith}
-use lib.Dec.{eqb, leb}
-use lib.ListN.{drop}
-use borrow.Author.Tests.{not-true}
+use lib.Dec.{eqb, leb, ltb}
+use lib.ListN.{length, drop}
+use borrow.Author.Tests.{lt-ltb, le-ltb, le-leb, lt-leb, eq-eqb, ne-eqb, not-true}
 use Rattle.rules.specs.declared.Settings.{Settings}
-use Rattle.rules.specs.declared.Refusal.the-variants.{BadRow}
-use Rattle.rules.specs.Common.{if_then_else_, all, same}
-use Rattle.rules.specs.NumbersHandedBack.{Outcome, got, refused}
-use Rattle.rules.specs.SettingsAndUnitTable.{last-kind, zeros-at, rows, row, name, kind, may-name, named, product, in-range, can-be-typed, row-right, row-accepted, rows-check}
+use Rattle.rules.specs.declared.Refusal.{Refusal}
+use Rattle.rules.specs.Common.{if_then_else_, all, between, same}
+use Rattle.rules.specs.NumbersHandedBack.{Outcome, got, refused, _>>_, unless}
+use Rattle.rules.specs.SettingsAndUnitTable.{LETTER, is, last-kind, second-kind, zeros-at, row-size, rows, row, name, kind, may-name, named, product, in-range, led-by-e, e-may-lead, can-be-typed, row-formed, row-right, row-accepted, numeral-accepted, whole-rows, rows-check}
 use Rattle.rules.specs.Laws.Choices.{and-left, and-right}
-use Rattle.card.specs.Fields.{padded}
-use Rattle.rules.specs.Laws.Tests.{and-assoc}
+use Rattle.rules.specs.Laws.Lists.{Bytes}
+use Rattle.rules.specs.Laws.Tests.{and-assoc, and-true, and-false}
+use Rattle.words.specs.LowFirst.{bytes-part}
+use Rattle.settings.specs.Sets.{bytes-of, passes}
+use Rattle.card.specs.declared.table.RowRule.{RowRule}
+use Rattle.card.specs.Fields.{padded, unnameable, letter-set, ruled}
+use Rattle.card.specs.Laws.Names.{names-alike}
+use Rattle.card.specs.Laws.Unnameable.{outside-names, held-letters}
 
 -- ---- names before a row: one of the first n rows
 
@@ -25,68 +31,203 @@ unfolding named
 named-more table wanted zero h = absurd (omega arith)
 named-more table wanted (suc n) h = rw (sub-one (suc n))
 
--- ---- row by row: what the rows from i on give
+-- ---- row by row
 
-unfoldable pub rest-of-check : Settings → List ℕ → ℕ → Outcome (Unit {0})
-rest-of-check s table i = rows-check s table i (rows table - i)
+-- the first of the n rows from i on that fails the test; the row behind them, if none does
+unfoldable pub first-bad : (ℕ → Bool) → ℕ → ℕ → ℕ
+first-bad test i zero = i
+first-bad test i (suc n) = let more = first-bad test (suc i) n in if test i then more else i
 
-module _ (s : Settings) (table : List ℕ) where
-  pub check-start : rest-of-check s table 0 ≡ rows-check s table 0 (rows table)
-  unfolding rest-of-check
-  check-start = rw sub-zero
+module _ (test : ℕ → Bool) where
+  -- what the rows from i on give, of n in all
+  unfoldable pub bad-from : ℕ → ℕ → ℕ
+  bad-from n i = first-bad test i (n - i)
 
-  pub check-end : (i : ℕ) → rows table ≤ i → rest-of-check s table i ≡ got tt
-  unfolding rest-of-check rows-check
-  check-end i h = rw (sub-eq-zero-of-le h)
+  pub bad-start : (n : ℕ) → bad-from n 0 ≡ first-bad test 0 n
+  unfolding bad-from
+  bad-start n = rw sub-zero
 
-  pub check-bad : (i : ℕ) → i < rows table → row-accepted s table i ≡ false → rest-of-check s table i ≡ refused (BadRow i)
-  unfolding rest-of-check rows-check if_then_else_
-  check-bad i h e =
-      let counted : rows table - i ≡ suc (rows table - (i + 1)) = omega arith in
-      rw (counted, e)
+  pub bad-end : (n i : ℕ) → n ≤ i → bad-from n i ≡ i
+  unfolding bad-from first-bad
+  bad-end n i h = rw (sub-eq-zero-of-le h)
 
-  pub check-next : (i : ℕ) → i < rows table → row-accepted s table i ≡ true → rest-of-check s table i ≡ rest-of-check s table (i + 1)
-  unfolding rest-of-check rows-check if_then_else_
-  check-next i h e =
-      let counted : rows table - i ≡ suc (rows table - (i + 1)) = omega arith in
-      rw (counted, e, add-one i)
+  module _ (n i : ℕ) (h : i < n) where
+    counted : n - i ≡ suc (n - (i + 1))
+    counted = omega arith
 
--- ---- a row
+    pub bad-here : test i ≡ false → bad-from n i ≡ i
+    unfolding bad-from first-bad if_then_else_
+    bad-here e = rw (counted, e)
+
+    pub bad-next : test i ≡ true → bad-from n i ≡ bad-from n (i + 1)
+    unfolding bad-from first-bad if_then_else_
+    bad-next e = rw (counted, e, add-one i)
+
+  -- the check refuses the first bad row
+  module _ (bad : ℕ → Refusal) where
+    checked : (n i : ℕ) → rows-check test bad i n ≡ (if ltb (first-bad test i n) (i + n) then refused (bad (first-bad test i n)) else got tt)
+    unfolding rows-check first-bad if_then_else_
+    checked zero i = rw (add-zero i, le-ltb i i (omega arith))
+    checked (suc n) i = go (test i) (checked n (suc i))
+      where
+        go :
+            (b : Bool)
+            → rows-check test bad (suc i) n ≡ (if ltb (first-bad test (suc i) n) (suc i + n) then refused (bad (first-bad test (suc i) n)) else got tt)
+            → (if b then rows-check test bad (suc i) n else refused (bad i))
+            ≡ (if ltb (if b then first-bad test (suc i) n else i) (i + suc n) then refused (bad (if b then first-bad test (suc i) n else i)) else got tt)
+        go true e = rw (add-suc i n, ← (suc-add i n)) e
+        go false e = rw (lt-ltb i (i + suc n) (omega arith))
+
+    pub check-bad : (n : ℕ) → first-bad test 0 n < n → rows-check test bad 0 n ≡ refused (bad (first-bad test 0 n))
+    unfolding if_then_else_
+    check-bad n h = checked n 0 ∙ rw (lt-ltb (first-bad test 0 n) (0 + n) (omega arith))
+
+    pub check-good : (n : ℕ) → n ≤ first-bad test 0 n → rows-check test bad 0 n ≡ got tt
+    unfolding if_then_else_
+    check-good n h = checked n 0 ∙ rw (le-ltb (first-bad test 0 n) (0 + n) (omega arith))
+
+-- tests that agree find the same row bad
+pub bad-alike : (test other : ℕ → Bool) → ((i : ℕ) → test i ≡ other i) → (n i : ℕ) → first-bad test i n ≡ first-bad other i n
+unfolding first-bad
+bad-alike test other alike zero i = refl
+bad-alike test other alike (suc n) i = rw (alike i, bad-alike test other alike n (suc i))
+
+-- ---- a table's check, by its size and its first bad row
+
+module _ (size : Refusal) (most : ℕ) (test : ℕ → Bool) (bad : ℕ → Refusal) (table : List ℕ) where
+  abbrev check : Outcome (Unit {0})
+  check = unless size (whole-rows most table) >> rows-check test bad 0 (rows table)
+
+  pub half-a-row : (length table % row-size ≡ 0 → ⊥) → refused size ≡ check
+  unfolding whole-rows unless _>>_
+  half-a-row h = rw (ne-eqb _ _ h)
+
+  pub too-many : most < length table / row-size → refused size ≡ check
+  unfolding whole-rows unless _>>_ rows
+  too-many h = rw (lt-leb _ _ h, and-false)
+
+  module _
+      (whole : length table % row-size ≡ 0) (few : length table / row-size ≤ most)
+      {asked : ℕ → Bool} (alike : (i : ℕ) → asked i ≡ test i)
+      {first : ℕ} (found : first ≡ first-bad asked 0 (rows table)) where
+    sized : check ≡ rows-check test bad 0 (rows table)
+    unfolding whole-rows unless _>>_ rows
+    sized = rw (eq-eqb _ _ whole, le-leb _ _ few)
+
+    first-is : first ≡ first-bad test 0 (rows table)
+    first-is = found ∙ bad-alike asked test alike (rows table) 0
+
+    pub row-refused : first < length table / row-size → refused (bad first) ≡ check
+    unfolding rows
+    row-refused h = ap (λ i. refused (bad i)) first-is ∙ sym (sized ∙ check-bad test bad (rows table) (rw (← first-is) h))
+
+    pub all-accepted : length table / row-size ≤ first → got tt ≡ check
+    unfolding rows
+    all-accepted h = sym (sized ∙ check-good test bad (rows table) (rw (← first-is) h))
+
+-- ---- the form of a row
+
+module _ (of-kind of-name : ℕ → Bool) (table : List ℕ) (i : ℕ) where
+  pub formed-parts :
+      row-formed of-kind of-name table i
+      ≡ (padded (row table i)
+      && (of-kind (kind (row table i))
+      && (all (eqb 0) (drop zeros-at (row table i))
+      && (all of-name (name (row table i)) && (not (named table (name (row table i)) i) && in-range (product (row table i)))))))
+  unfolding row-formed padded
+  formed-parts = simp and-assoc
+
+  module _ (good : row-formed of-kind of-name table i ≡ true) where
+    pub formed-padded : padded (row table i) ≡ true
+    formed-padded = and-left _ _ (sym formed-parts ∙ good)
+
+    pub formed-kind : of-kind (kind (row table i)) ≡ true
+    formed-kind = and-left _ _ (and-right (padded (row table i)) _ (sym formed-parts ∙ good))
+
+    formed-rest : (all of-name (name (row table i)) && (not (named table (name (row table i)) i) && in-range (product (row table i)))) ≡ true
+    formed-rest =
+        and-right (all (eqb 0) (drop zeros-at (row table i))) _
+        (and-right (of-kind (kind (row table i))) _ (and-right (padded (row table i)) _ (sym formed-parts ∙ good)))
+
+    pub formed-name : all of-name (name (row table i)) ≡ true
+    formed-name = and-left _ _ formed-rest
+
+    pub formed-unnamed : named table (name (row table i)) i ≡ false
+    formed-unnamed =
+        not-true (named table (name (row table i)) i)
+        (and-left _ (in-range (product (row table i))) (and-right (all of-name (name (row table i))) _ formed-rest))
+
+    pub formed-in-range : in-range (product (row table i)) ≡ true
+    formed-in-range =
+        and-right (not (named table (name (row table i)) i)) _ (and-right (all of-name (name (row table i))) _ formed-rest)
+
+-- tests of a name that agree at each byte say the same of a row
+formed-alike :
+    (of-kind test other : ℕ → Bool)
+    → ((b : ℕ) → b < 256 → test b ≡ other b)
+    → (table : List ℕ) → Bytes table
+    → (i : ℕ) → row-formed of-kind test table i ≡ row-formed of-kind other table i
+unfolding row
+formed-alike of-kind test other alike table bytes i =
+    formed-parts of-kind test table i
+    ∙ rw (names-alike test other alike (row table i) (bytes-part table row-size (row-size * i) bytes)) (sym (formed-parts of-kind other table i))
+
+-- ---- a row of units
 
 pub row-both : (s : Settings) (table : List ℕ) (i : ℕ) → row-accepted s table i ≡ true → (row-right s table i ≡ true) × (can-be-typed s (name (row table i)) ≡ true)
 unfolding row-accepted
 row-both s table i good = (and-left _ _ good, and-right (row-right s table i) _ good)
 
-module _ (s : Settings) (table : List ℕ) (i : ℕ) where
-  pub row-right-parts :
-      row-right s table i
-      ≡ (padded (row table i)
-      && (leb (kind (row table i)) last-kind
-      && (all (eqb 0) (drop zeros-at (row table i))
-      && (all (may-name s) (name (row table i)) && (not (named table (name (row table i)) i) && in-range (product (row table i)))))))
-  unfolding row-right padded
-  row-right-parts = simp and-assoc
+module _ (s : Settings) (table : List ℕ) (i : ℕ) (good : row-right s table i ≡ true) where
+  pub right-padded : padded (row table i) ≡ true
+  unfolding row-right
+  right-padded = formed-padded _ _ table i good
 
-  module _ (good : row-right s table i ≡ true) where
-    pub right-padded : padded (row table i) ≡ true
-    right-padded = and-left _ _ (sym row-right-parts ∙ good)
+  pub right-name : all (may-name s) (name (row table i)) ≡ true
+  unfolding row-right
+  right-name = formed-name _ _ table i good
 
-    pub right-kind : leb (kind (row table i)) last-kind ≡ true
-    right-kind = and-left _ _ (and-right (padded (row table i)) _ (sym row-right-parts ∙ good))
+  pub right-unnamed : named table (name (row table i)) i ≡ false
+  unfolding row-right
+  right-unnamed = formed-unnamed _ _ table i good
 
-    right-rest : (all (may-name s) (name (row table i)) && (not (named table (name (row table i)) i) && in-range (product (row table i)))) ≡ true
-    right-rest =
-        and-right (all (eqb 0) (drop zeros-at (row table i))) _
-        (and-right (leb (kind (row table i)) last-kind) _ (and-right (padded (row table i)) _ (sym row-right-parts ∙ good)))
+  pub right-in-range : in-range (product (row table i)) ≡ true
+  unfolding row-right
+  right-in-range = formed-in-range _ _ table i good
 
-    pub right-name : all (may-name s) (name (row table i)) ≡ true
-    right-name = and-left _ _ right-rest
+-- ---- rules
 
-    pub right-unnamed : named table (name (row table i)) i ≡ false
-    right-unnamed =
-        not-true (named table (name (row table i)) i)
-        (and-left _ (in-range (product (row table i))) (and-right (all (may-name s) (name (row table i))) _ right-rest))
+or-swap : (a b : Bool) → (a || b) ≡ (b || a)
+or-swap true true = refl
+or-swap true false = refl
+or-swap false true = refl
+or-swap false false = refl
 
-    pub right-in-range : in-range (product (row table i)) ≡ true
-    right-in-range =
-        and-right (not (named table (name (row table i)) i)) _ (and-right (all (may-name s) (name (row table i))) _ right-rest)
+pub ruled-padded : (rule : RowRule) (table : List ℕ) (i : ℕ) → ruled rule table i ≡ true → padded (row table i) ≡ true
+unfolding ruled
+ruled-padded rule table i good = formed-padded _ _ table i (and-left _ _ good)
+
+module _ (rule : RowRule) (table : List ℕ) (bytes : Bytes table) (i : ℕ) where
+  -- names outside the set of bytes that no name holds, and each of the eight kinds: a row of units
+  pub unit-ruled :
+      (s : Settings)
+      → bytes-of (rule .set) ≡ unnameable s
+      → rule .held ≡ false
+      → (rule .«first_kind» ≡ 0) × (rule .«last_kind» ≡ last-kind)
+      → rule .leads ≡ e-may-lead s
+      → ruled rule table i ≡ row-accepted s table i
+  unfolding ruled row-accepted row-right can-be-typed
+  unit-ruled s set held kinds leads =
+      rw (set, held, kinds .0, kinds .1, leads, formed-alike (between 0 last-kind) _ _ (outside-names s) table bytes i)
+      (ap (λ t. row-formed (between 0 last-kind) (may-name s) table i && t) (or-swap (e-may-lead s) (not (led-by-e (name (row table i))))))
+
+  -- letters, and seconds alone: a numeral
+  pub numeral-ruled :
+      bytes-of (rule .set) ≡ letter-set
+      → rule .held ≡ true
+      → (rule .«first_kind» ≡ second-kind) × (rule .«last_kind» ≡ second-kind)
+      → rule .leads ≡ true
+      → ruled rule table i ≡ numeral-accepted table i
+  unfolding ruled numeral-accepted
+  numeral-ruled set held kinds leads =
+      rw (set, held, kinds .0, kinds .1, leads, formed-alike (between second-kind second-kind) _ _ held-letters table bytes i) (and-true _)

@@ -1,6 +1,6 @@
 -- Laws of byte sets: bytes that may not delimit stand in runs, and a run of bytes is a run of bits of one word. Assumes nothing.
 use mathlib.Core.Path.{_≡_, refl, sym, ap, _∙_}
-use mathlib.Core.Bool.{Bool, true, false, not, _&&_, _||_, Bool·beq, false≢true}
+use mathlib.Core.Bool.{Bool, true, false, not, xor, _&&_, _||_, Bool·beq, false≢true}
 use Prim.Native.Nat.{ℕ, zero, suc, _+_, _*_, _-_, _/_, _%_, _^_, _≤_, _<_}
 use native.Mathlib.Nat.{mod-one, mod-lt, zero-div}
 use native.Mathlib.Numerals.{add-one}
@@ -17,7 +17,7 @@ use Rattle.rules.specs.Laws.Choices.{and-left, and-right}
 use Rattle.rules.specs.Laws.Lists.{runs-add, runs-at}
 use Rattle.rules.specs.Laws.Tests.{and-true, or-true, or-false, eqb-iff}
 use Rattle.settings.specs.declared.sets.AsciiSet.{AsciiSet}
-use Rattle.settings.specs.Sets.{bytes-of, either}
+use Rattle.settings.specs.Sets.{bytes-of, either, passes}
 
 -- one more bit is zero
 bit-more : (x n : ℕ) → eqb (x % 2 ^ suc n) 0 ≡ (not (eqb (x % 2) 1) && eqb (x / 2 % 2 ^ n) 0)
@@ -240,3 +240,29 @@ first-word w test low high b h = go (b / 64) refl
     go (suc zero) e = none-set (b % 64) ∙ above (omega arith)
     go (suc (suc zero)) e = none-set (b % 64) ∙ above (omega arith)
     go (suc (suc (suc i))) e = none-set (b % 64) ∙ above (omega arith)
+
+-- ---- bytes in a set or outside it
+
+alike-test : (a b : Bool) → xor a b ≡ false → Bool·beq a b ≡ true
+unfolding xor
+alike-test true true e = refl
+alike-test true false e = absurd (false≢true (sym e))
+alike-test false true e = absurd (false≢true (sym e))
+alike-test false false e = refl
+
+unlike-test : (a b : Bool) → xor a b ≡ true → Bool·beq a b ≡ false
+unfolding xor
+unlike-test true true e = absurd (false≢true e)
+unlike-test true false e = refl
+unlike-test false true e = refl
+unlike-test false false e = absurd (false≢true e)
+
+module _ (set : ByteSet) (held : Bool) (b : ℕ) {found : Bool} (asked : found ≡ holds set b) where
+  -- a byte that was asked for passes, or does not
+  pub held-alike : xor found held ≡ false → passes set held b ≡ true
+  unfolding passes
+  held-alike e = alike-test _ held (rw asked at e)
+
+  pub held-unlike : xor found held ≡ true → passes set held b ≡ false
+  unfolding passes
+  held-unlike e = unlike-test _ held (rw asked at e)

@@ -1,26 +1,34 @@
--- `card::table::table_check` meets its contract: the size, then the rows. Assumes nothing.
-use borrow.Author.Tests.{eq-eqb, ne-eqb, le-leb, lt-leb}
-use Rattle.rules.specs.SettingsAndUnitTable.{rows, table-check}
-use Rattle.rules.specs.NumbersHandedBack.{_>>_, unless}
-use Rattle.rules.specs.Laws.Tests.{and-false}
+-- `card::table::table_check` meets its contract: the size, then the first bad row. Assumes nothing.
+use Rattle.rules.specs.declared.Refusal.the-variants.{TableSize, BadRow}
+use Rattle.rules.specs.SettingsAndUnitTable.{table-check}
 use Rattle.settings.specs.Outcomes.{outcome}
+use Rattle.card.specs.Laws.Table.{half-a-row, too-many, row-refused, all-accepted}
 use Rattle.card.proofs.table.table_check.Statement.{statement}
 use Rattle.card.proofs.table.table_check.Tie as tie
 
 returns : tie.Need-returns
-unfolding outcome table-check unless _>>_ rows
-returns c = rw (ne-eqb _ _ (c .if1 .taken))
+unfolding outcome table-check
+returns c = half-a-row TableSize _ _ BadRow _ (c .if1 .taken)
 
 returns-2 : tie.Need-returns-2
-unfolding outcome table-check unless _>>_ rows
-returns-2 c = rw (lt-leb _ _ (c .if2 .taken), and-false)
-
-rows-check-requires : tie.Need-rows-check-requires
-rows-check-requires c κs = c .before .before .before .pre
+unfolding outcome table-check
+returns-2 c = too-many TableSize _ _ BadRow _ (c .if2 .taken)
 
 returns-3 : tie.Need-returns-3
-unfolding outcome table-check unless _>>_ rows
-returns-3 c = rw (eq-eqb _ _ (c .before .before .if1 .left), le-leb _ _ (c .before .if2 .left)) (c .rows-check .ensures)
+unfolding outcome table-check
+returns-3 c =
+    let sized = c .before .before .before in
+    row-refused TableSize _ _ BadRow _ (sized .before .if1 .left) (sized .if2 .left)
+    (c .before .before .unit-rule .ensures _ (λ k. sized .before .before .shared-slice-known .given k .fits)) (c .before .first-bad .ensures) (c .if3 .taken)
+
+returns-4 : tie.Need-returns-4
+unfolding outcome table-check
+returns-4 c =
+    let sized = c .before .before .before in
+    all-accepted TableSize _ _ BadRow _ (sized .before .if1 .left) (sized .if2 .left)
+    (c .before .before .unit-rule .ensures _ (λ k. sized .before .before .shared-slice-known .given k .fits)) (c .before .first-bad .ensures) (c .if3 .left)
 
 pub table-check-spec : {M : Type 1} → statement M
-table-check-spec = tie.close (tie.spec returns returns-2 rows-check-requires returns-3)
+table-check-spec =
+    tie.close
+    (tie.spec returns returns-2 (λ c κs. c .before .before .before .pre) (λ c κs. tt) returns-3 returns-4)

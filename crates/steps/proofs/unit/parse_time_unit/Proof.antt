@@ -9,7 +9,7 @@ use Rattle.rules.specs.SettingsAsWords.{settings-of}
 use Rattle.rules.specs.SettingsAndUnitTable.{rows}
 use Rattle.rules.specs.ReadingOnePart.{in-stretch}
 use Rattle.card.specs.Laws.Accepted.{lookup-found}
-use Rattle.steps.specs.Sets.{passes}
+use Rattle.settings.specs.Sets.{passes}
 use Rattle.steps.specs.Units.{stretch-within, stretch-ends, unit-none, unit-row}
 use Rattle.steps.proofs.unit.parse_time_unit.Statement.{statement}
 use Rattle.steps.proofs.unit.parse_time_unit.Tie as tie
