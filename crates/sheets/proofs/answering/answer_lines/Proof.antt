@@ -3,7 +3,7 @@ use mathlib.Core.Path.{_≡_, sym, ap, _∙_}
 use Prim.Native.Nat.{_-_, _≤_}
 use native.Mathlib.Omega.{arith}
 use borrow.Author.Needs.{needs}
-use lib.ListN.{length, take, drop}
+use lib.ListN.{length}
 use Rattle.rules.specs.SettingsAsWords.{card-of}
 use Rattle.rules.specs.WhatEveryEntryOwes.{total-answer}
 use Rattle.printing.specs.Lines.{line-end, line-at, end-from}
@@ -28,12 +28,7 @@ line-answer :
     → let turn = c .before .before .before .before in
     let args = turn .before .before .before .before .before .args in
     c .read-total-checked .result ≡ total-answer (card-of (args .settings .now) (args .table .now) (args .numerals .now)) (line-at (args .sheet .now) (turn .loop .read))
-line-answer c =
-    let ended = c .before .before .before in
-    let turn = ended .before in
-    let args = turn .before .before .before .before .before .args in
-    c .read-total-checked .ensures
-    ∙ ap (λ e. total-answer (card-of (args .settings .now) (args .table .now) (args .numerals .now)) (take (e - turn .loop .read) (drop (turn .loop .read) (args .sheet .now)))) (ended .line-end .ensures)
+line-answer c = rw (c .before .before .before .line-end .ensures) at (c .read-total-checked .ensures)
 
 -- a line that has no room is the last, and leaves the buffer as it was
 no-more :
