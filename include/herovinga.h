@@ -13,7 +13,7 @@
  * - A pointer to settings, a length, a total or an answer points to one, and is not null.
  * - A pointer to bytes points to as many as the size beside it says. With size 0 it may be null.
  * - What a function writes (answer, total, buffer) overlaps nothing else that the call is passed. So the length to be written is not the
- *   one within the answer. What it only reads (settings, table, text, length) may overlap, and no other thread changes it meanwhile.
+ *   one within the answer. What it only reads (settings, tables, text, length) may overlap, and no other thread changes it meanwhile.
  * Nothing else: every value of every word, byte, size and place has an answer.
  */
 #ifndef HEROVINGA_H
@@ -27,8 +27,9 @@ extern "C" {
 #endif
 
 /* What is handed back, and the position that then stands in the answer; places are counted from the start of the text, also where a part is
- * read from further on. The first test that fails decides, in the order 7, 11, 8, 10 and then left to right through the text; the writer's
- * order is 11, 10, 9. For an ISO text it is 8, then 12 and 13 left to right, and 14 last; for the ISO writer 11, 5, 10, 9. */
+ * read from further on. The first test that fails decides, in the order 7, 11, 8, 10 and then left to right through the text, with 16 and 5
+ * last in their part; the writer's order is 11, 10, 9. For an ISO text it is 8, then 12 and 13 left to right, and 14 last; for the ISO
+ * writer 11, 5, 10, 9. */
 enum herovinga_number {
     HEROVINGA_DONE = 0,           /* read or written: the next place, or the text's size for a total and for an ISO text */
     HEROVINGA_NOTHING = 1,        /* nothing at the place: the place */
@@ -36,23 +37,28 @@ enum herovinga_number {
     HEROVINGA_EXPONENT_ABOVE = 3, /* an exponent above 32767: the digit with which it passes that */
     HEROVINGA_EXPONENT_BELOW = 4, /* an exponent below -32768: the digit with which it passes that */
     HEROVINGA_NEGATIVE = 5,       /* a part is negative while negatives are off, or a length is that is to be written as ISO: 0 */
-    HEROVINGA_NO_NUMBER = 6,      /* a part begins with no number: that byte */
-    HEROVINGA_CARD = 7,           /* settings or table are wrong: one of enum herovinga_wrong, or the number of the first bad row */
+    HEROVINGA_NO_NUMBER = 6,      /* a part begins with no number, and with no numeral that delimiters follow: that byte */
+    HEROVINGA_CARD = 7,           /* settings or a table are wrong: one of enum herovinga_wrong, or the number of the first bad unit row */
     HEROVINGA_TEXT_TOO_LONG = 8,  /* a text of more than 4,096 bytes: 4096 */
     HEROVINGA_NO_ROOM = 9,        /* the buffer has fewer bytes left than the length needs: the place */
     HEROVINGA_BEYOND = 10,        /* a place beyond the text or the buffer: the place */
     HEROVINGA_MALFORMED = 11,     /* no length: 1,000,000,000 nanoseconds or more, or zero with a minus: 0 */
     HEROVINGA_NOT_ISO = 12,       /* no right ISO text has this byte here, or it ends too soon: that place */
     HEROVINGA_YEAR_OR_MONTH = 13, /* the letter of years or months, which have no length: that byte */
-    HEROVINGA_TOO_LARGE = 14      /* an ISO text beyond the largest length: 0 */
+    HEROVINGA_TOO_LARGE = 14,     /* an ISO text beyond the largest length: 0 */
+    HEROVINGA_NO_UNIT = 15,       /* no unit behind a numeral and its delimiters: the byte behind them, which is 5 for "five x" */
+    HEROVINGA_OUT_OF_RANGE = 16   /* numeral times unit is out of range, as "most min" is if most is 9223372036854775807: 0 */
 };
 
-/* Positions of number 7 beside those of rows, which are 0 to 63. */
+/* Positions of number 7 beside those of unit rows, which are 0 to 63. What is wrong is looked for in the order 65, 66, 67, 64, unit rows
+ * upward, 100, numerals upward. */
 enum herovinga_wrong {
     HEROVINGA_WRONG_TABLE_SIZE = 64,
     HEROVINGA_WRONG_DELIMITERS = 65,
     HEROVINGA_WRONG_CONJUNCTIONS = 66,
-    HEROVINGA_WRONG_DEFAULT_KIND = 67
+    HEROVINGA_WRONG_DEFAULT_KIND = 67,
+    HEROVINGA_FIRST_NUMERAL = 68, /* plus the number of the first bad numeral: 68 to 99 */
+    HEROVINGA_WRONG_NUMERALS_SIZE = 100
 };
 
 /* Unit kinds: of a row, and of a number without a unit. */
@@ -67,7 +73,7 @@ enum herovinga_kind {
     HEROVINGA_WEEK = 7
 };
 
-/* The rows of a unit table: where each field of a row stands, and how many bytes it has. */
+/* The rows of units and of numerals: where each field of a row stands, and how many bytes it has. */
 enum herovinga_row {
     HEROVINGA_NAME_SIZE_AT = 0, /* one byte: how many bytes the name has, 1 to 16 */
     HEROVINGA_NAME_AT = 1,
@@ -79,7 +85,8 @@ enum herovinga_row {
     HEROVINGA_POWER_SIZE = 2, /* the same */
     HEROVINGA_ZEROS_AT = 28,  /* zeros up to the row's end */
     HEROVINGA_ROW_SIZE = 32,
-    HEROVINGA_MOST_ROWS = 64
+    HEROVINGA_MOST_ROWS = 64, /* of a unit table */
+    HEROVINGA_MOST_NUMERALS = 32
 };
 
 enum herovinga_limit {
@@ -122,7 +129,7 @@ typedef struct herovinga_settings {
     uint64_t default_kind; /* of a number without a unit */
 } herovinga_settings;
 
-/* How to make a card, that is settings and a table.
+/* How to make a card, that is settings, a table of units and one of numerals.
  *
  * Begin with all zeros (herovinga_settings s = {0}): every switch is off, no byte delimits, there is no conjunction, and a number without
  * a unit is nanoseconds. Then set what is wanted:
@@ -155,27 +162,34 @@ typedef struct herovinga_settings {
  * straight after a number such a letter begins an exponent, and nobody could type the unit. Kind times row, coefficients multiplied and
  * powers added, lies within plus or minus 9223372036854775807 and -32768 to 32767.
  *
+ * Numerals are words for numbers: up to 32 rows of the same form, or none. A numeral's name is ASCII letters alone, its kind is
+ * HEROVINGA_SECOND, and it stands for its coefficient times ten to its power, in the same ranges: with the name "half", 5 and -1 are 0.5. No
+ * two have the same name, but a unit may have it too. A text has a numeral in the place of a number, behind it inner delimiters, whatever
+ * before_unit is, and then a unit: "five min", "-five min ago". Numeral times kind, and that times the unit's row, are in those ranges, or the
+ * reading is refused by 16.
+ *
  * Every call checks the card, and a wrong one is 7 whatever the text is. examples/c/read_line.c makes a whole card.
  */
 
-/* Reads one part of a text from a place on, what connects it with the next one included. Position: the place where the next part begins,
- * which is the text's size after the last one. Length: the part's. */
-uint8_t herovinga_read_part(const herovinga_settings *settings, const uint8_t *table, size_t table_size, const uint8_t *text,
-                            size_t text_size, size_t place, herovinga_answer *answer);
+/* Reads one part of a text from a place on, what connects it with the next one included, under a card of settings, table and numerals.
+ * Position: the place where the next part begins, which is the text's size after the last one. Length: the part's. */
+uint8_t herovinga_read_part(const herovinga_settings *settings, const uint8_t *table, size_t table_size, const uint8_t *numerals,
+                            size_t numerals_size, const uint8_t *text, size_t text_size, size_t place, herovinga_answer *answer);
 
-/* Reads all parts of a text. Position: the text's size. Length: their sum, each sum on the way held between the least and the largest
- * length. */
-uint8_t herovinga_read_total(const herovinga_settings *settings, const uint8_t *table, size_t table_size, const uint8_t *text,
-                             size_t text_size, herovinga_answer *answer);
+/* Reads all parts of a text under a card. Position: the text's size. Length: their sum, each sum on the way held between the least and the
+ * largest length. */
+uint8_t herovinga_read_total(const herovinga_settings *settings, const uint8_t *table, size_t table_size, const uint8_t *numerals,
+                             size_t numerals_size, const uint8_t *text, size_t text_size, herovinga_answer *answer);
 
 /* Writes a length at a place of the buffer, as "+0.0617": its sign, its seconds and, if there are nanoseconds, a point and nine digits less
  * trailing zeros. Position: the place behind it. Length: the one written. No other byte of the buffer changes, and none on a refusal. */
 uint8_t herovinga_write(const herovinga_length *length, uint8_t *buffer, size_t buffer_size, size_t place, herovinga_answer *answer);
 
-/* Adds a text's total to the shift total that is lent, held between the least and the largest length. Position: the text's size. Length: the
- * new total, which then also stands in *total. A refusal leaves *total as it was. */
+/* Adds a text's total under a card to the shift total that is lent, held between the least and the largest length. Position: the text's
+ * size. Length: the new total, which then also stands in *total. A refusal leaves *total as it was. */
 uint8_t herovinga_add_total(herovinga_length *total, const herovinga_settings *settings, const uint8_t *table, size_t table_size,
-                            const uint8_t *text, size_t text_size, herovinga_answer *answer);
+                            const uint8_t *numerals, size_t numerals_size, const uint8_t *text, size_t text_size,
+                            herovinga_answer *answer);
 
 /* Reads an ISO 8601 duration, as "P2W", "P1DT12H" or "PT1H30M0,5S": weeks alone; or days, hours, minutes and seconds in that order, at least
  * one of them, with a 'T' before the first that is below days. The last number may have decimals, behind '.' or ','. A day has 24 hours.

@@ -10,11 +10,26 @@
 #include "herovinga.h"
 
 #define LARGEST UINT64_MAX
-#define NUMBERS 15
+#define NUMBERS 17
 
 static unsigned long checks, wrong, answers[NUMBERS];
 
 static const herovinga_length zero = {0, 0, 0};
+
+/* The numerals that are passed wherever no others are: numbers, products that leave their range, and the name of a unit. */
+static uint8_t words[8 * HEROVINGA_ROW_SIZE];
+
+static void make_words(void)
+{
+    put_row(words, "five", HEROVINGA_SECOND, 5, 0);
+    put_row(words + HEROVINGA_ROW_SIZE, "half", HEROVINGA_SECOND, 5, -1);
+    put_row(words + 2 * HEROVINGA_ROW_SIZE, "less", HEROVINGA_SECOND, -2, 0);
+    put_row(words + 3 * HEROVINGA_ROW_SIZE, "most", HEROVINGA_SECOND, INT64_MAX, 0);
+    put_row(words + 4 * HEROVINGA_ROW_SIZE, "huge", HEROVINGA_SECOND, INT64_MAX / 2 + 1, 0);
+    put_row(words + 5 * HEROVINGA_ROW_SIZE, "vast", HEROVINGA_SECOND, 1, INT16_MAX);
+    put_row(words + 6 * HEROVINGA_ROW_SIZE, "tiny", HEROVINGA_SECOND, 1, INT16_MIN);
+    put_row(words + 7 * HEROVINGA_ROW_SIZE, "min", HEROVINGA_SECOND, 7, 0);
+}
 
 static void check(const char *what, int holds)
 {
@@ -47,27 +62,34 @@ static void check_answer(const char *what, uint8_t number, herovinga_answer answ
 
 /* ---- a text under a card: its total, and that total added to a shift total */
 
-static void check_total(const card *c, size_t rows, const char *text, size_t size, uint8_t number, uint64_t position, herovinga_length length)
+static void check_total_with(const uint8_t *numerals, size_t numerals_size, const card *c, size_t rows, const char *text, size_t size,
+                             uint8_t number, uint64_t position, herovinga_length length)
 {
     const herovinga_length odd = {5, 7, 0};
     const size_t table_size = rows * HEROVINGA_ROW_SIZE;
+    const uint8_t *bytes = (const uint8_t *)text;
     herovinga_answer answer = unwritten();
     herovinga_length total = zero;
-    uint8_t got = herovinga_read_total(&c->settings, c->table, table_size, (const uint8_t *)text, size, &answer);
+    uint8_t got = herovinga_read_total(&c->settings, c->table, table_size, numerals, numerals_size, bytes, size, &answer);
     check_answer(text, got, answer, number, position, length);
 
     answer = unwritten();
-    got = herovinga_add_total(&total, &c->settings, c->table, table_size, (const uint8_t *)text, size, &answer);
+    got = herovinga_add_total(&total, &c->settings, c->table, table_size, numerals, numerals_size, bytes, size, &answer);
     check_answer(text, got, answer, number, position, length);
     check(text, same_length(total, length));
 
     if (number != HEROVINGA_DONE) {
         total = odd;
         answer = unwritten();
-        got = herovinga_add_total(&total, &c->settings, c->table, table_size, (const uint8_t *)text, size, &answer);
+        got = herovinga_add_total(&total, &c->settings, c->table, table_size, numerals, numerals_size, bytes, size, &answer);
         check_answer(text, got, answer, number, position, zero);
         check("a refusal leaves the total", same_length(total, odd));
     }
+}
+
+static void check_total(const card *c, size_t rows, const char *text, size_t size, uint8_t number, uint64_t position, herovinga_length length)
+{
+    check_total_with(words, sizeof words, c, rows, text, size, number, position, length);
 }
 
 static void reads(const card *c, const char *text, uint64_t negative, uint64_t seconds, uint64_t nanoseconds)
@@ -122,13 +144,20 @@ static void readings(const card *a)
     check_total(a, 6, text, HEROVINGA_LONGEST_TEXT + 1, HEROVINGA_TEXT_TOO_LONG, 4096, zero);
 }
 
-static void part(const card *a, const char *text, size_t place, uint8_t number, uint64_t position, uint64_t seconds)
+static void part_with(const uint8_t *numerals, size_t numerals_size, const card *c, const char *text, size_t place, uint8_t number,
+                      uint64_t position, uint64_t seconds)
 {
     herovinga_answer answer = unwritten();
     herovinga_length length = zero;
-    uint8_t got = herovinga_read_part(&a->settings, a->table, sizeof a->table, (const uint8_t *)text, strlen(text), place, &answer);
+    uint8_t got = herovinga_read_part(&c->settings, c->table, sizeof c->table, numerals, numerals_size, (const uint8_t *)text, strlen(text),
+                                      place, &answer);
     length.seconds = seconds;
     check_answer(text, got, answer, number, position, length);
+}
+
+static void part(const card *c, const char *text, size_t place, uint8_t number, uint64_t position, uint64_t seconds)
+{
+    part_with(words, sizeof words, c, text, place, number, position, seconds);
 }
 
 static void parts(const card *a)
@@ -172,27 +201,31 @@ static void exponents(const card *a)
     part(a, text, 0, HEROVINGA_EXPONENT_BELOW, last, 0);
 }
 
-/* Null with size 0 is an empty table, text or buffer. */
+/* Null with size 0 is an empty table, text or buffer, or no numerals. */
 static void nothing_there(const card *a)
 {
     const herovinga_length second = {0, 1, 0};
     herovinga_length total = {0, 1, 0};
     herovinga_answer answer = unwritten();
-    uint8_t got = herovinga_read_total(&a->settings, NULL, 0, (const uint8_t *)"1", 1, &answer);
+    uint8_t got = herovinga_read_total(&a->settings, NULL, 0, words, sizeof words, (const uint8_t *)"1", 1, &answer);
     check_answer("null table", got, answer, HEROVINGA_DONE, 1, second);
     answer = unwritten();
-    got = herovinga_read_total(&a->settings, a->table, sizeof a->table, NULL, 0, &answer);
+    got = herovinga_read_total(&a->settings, a->table, sizeof a->table, words, sizeof words, NULL, 0, &answer);
     check_answer("null text", got, answer, HEROVINGA_NOTHING, 0, zero);
     answer = unwritten();
-    got = herovinga_read_part(&a->settings, NULL, 0, NULL, 0, 0, &answer);
+    got = herovinga_read_part(&a->settings, NULL, 0, NULL, 0, NULL, 0, 0, &answer);
     check_answer("part of null", got, answer, HEROVINGA_NOTHING, 0, zero);
     answer = unwritten();
-    got = herovinga_read_part(&a->settings, NULL, 0, NULL, 0, 1, &answer);
+    got = herovinga_read_part(&a->settings, NULL, 0, NULL, 0, NULL, 0, 1, &answer);
     check_answer("part beyond null", got, answer, HEROVINGA_BEYOND, 1, zero);
     answer = unwritten();
-    got = herovinga_add_total(&total, &a->settings, NULL, 0, NULL, 0, &answer);
+    got = herovinga_add_total(&total, &a->settings, NULL, 0, NULL, 0, NULL, 0, &answer);
     check_answer("null added", got, answer, HEROVINGA_NOTHING, 0, zero);
     check("null leaves the total", same_length(total, second));
+    check_total_with(NULL, 0, a, 6, "1s", 2, HEROVINGA_DONE, 2, second);
+    check_total_with(NULL, 0, a, 6, "five min", 8, HEROVINGA_NO_NUMBER, 0, zero);
+    part_with(NULL, 0, a, "1s and 2s", 7, HEROVINGA_DONE, 9, 2);
+    part_with(NULL, 0, a, "1s five min", 3, HEROVINGA_NO_NUMBER, 3, 0);
     answer = unwritten();
     got = herovinga_write(&second, NULL, 0, 0, &answer);
     check_answer("null buffer", got, answer, HEROVINGA_NO_ROOM, 0, zero);
@@ -358,14 +391,207 @@ static void tables(const card *a)
         put_row(table + i * HEROVINGA_ROW_SIZE, name, HEROVINGA_SECOND, 1, 0);
     }
     answer = unwritten();
-    got = herovinga_read_total(&a->settings, table, sizeof table - HEROVINGA_ROW_SIZE, (const uint8_t *)"1lC", 3, &answer);
+    got = herovinga_read_total(&a->settings, table, sizeof table - HEROVINGA_ROW_SIZE, NULL, 0, (const uint8_t *)"1lC", 3, &answer);
     check_answer("64 rows, the last one", got, answer, HEROVINGA_DONE, 3, second);
     answer = unwritten();
-    got = herovinga_read_total(&a->settings, table, sizeof table, (const uint8_t *)"1lC", 3, &answer);
+    got = herovinga_read_total(&a->settings, table, sizeof table, NULL, 0, (const uint8_t *)"1lC", 3, &answer);
     check_answer("65 rows", got, answer, HEROVINGA_CARD, HEROVINGA_WRONG_TABLE_SIZE, zero);
     answer = unwritten();
-    got = herovinga_read_total(&a->settings, table, HEROVINGA_ROW_SIZE - 1, (const uint8_t *)"1", 1, &answer);
+    got = herovinga_read_total(&a->settings, table, HEROVINGA_ROW_SIZE - 1, NULL, 0, (const uint8_t *)"1", 1, &answer);
     check_answer("no whole row", got, answer, HEROVINGA_CARD, HEROVINGA_WRONG_TABLE_SIZE, zero);
+    answer = unwritten();
+    got = herovinga_read_total(&a->settings, table, HEROVINGA_ROW_SIZE - 1, table, HEROVINGA_ROW_SIZE - 1, (const uint8_t *)"1", 1, &answer);
+    check_answer("no whole row, and no whole numeral", got, answer, HEROVINGA_CARD, HEROVINGA_WRONG_TABLE_SIZE, zero);
+}
+
+/* ---- spoken numbers */
+
+static void spoken(const card *a)
+{
+    const uint64_t comma = (uint64_t)1 << ',';
+    card c = *a;
+
+    reads(a, "five min", 0, 300, 0);
+    reads(a, "-five min", 1, 300, 0);
+    reads(a, "five min ago", 1, 300, 0);
+    reads(a, "-five min ago", 0, 300, 0);
+    reads(a, "less min", 1, 120, 0);
+    reads(a, "-less min ago", 1, 120, 0);
+    reads(a, "half min", 0, 30, 0);
+    reads(a, "five  turn", 0, 0, 61500000);
+    reads(a, "min min", 0, 420, 0);
+    reads(a, "1 five min and half s-2", 0, 299, 500000000);
+    part(a, "five min and half min", 0, HEROVINGA_DONE, 13, 300);
+    part(a, "five min and half min", 13, HEROVINGA_DONE, 21, 30);
+
+    /* Switches of numbers do not count for numerals, those of signs and units do. */
+    c.settings.fractions = c.settings.exponents = c.settings.before_unit = 0;
+    reads(&c, "half min", 0, 30, 0);
+    fails(&c, "- half min", HEROVINGA_NO_NUMBER, 1);
+    c.settings.after_sign = 1;
+    reads(&c, "- half min", 1, 30, 0);
+    c.settings.ago = 0;
+    fails(&c, "half min ago", HEROVINGA_NO_NUMBER, 9);
+
+    /* An outer delimiter does not end a numeral. A part that begins where a number's unit was looked for in vain is read like any other. */
+    c.settings.inner[0] = comma;
+    reads(&c, "five,min", 0, 300, 0);
+    reads(&c, "1 five,min", 0, 301, 0);
+    reads(&c, "1five,min", 0, 301, 0);
+    fails(&c, "five min", HEROVINGA_NO_NUMBER, 0);
+    fails(&c, "five s,min", HEROVINGA_NO_NUMBER, 0);
+    c.settings.inner[0] = 0;
+    fails(&c, "five,min", HEROVINGA_NO_NUMBER, 0);
+}
+
+/* A numeral that nothing follows, or no unit. */
+static void numerals_alone(const card *a)
+{
+    fails(a, "five", HEROVINGA_NO_NUMBER, 0);
+    fails(a, "1s five", HEROVINGA_NO_NUMBER, 3);
+    fails(a, "fivemin", HEROVINGA_NO_NUMBER, 0);
+    fails(a, "Five min", HEROVINGA_NO_NUMBER, 0);
+    fails(a, "six min", HEROVINGA_NO_NUMBER, 0);
+    fails(a, "five ", HEROVINGA_SYNTAX, 4);
+    fails(a, "1s five  ", HEROVINGA_SYNTAX, 7);
+    fails(a, "five x", HEROVINGA_NO_UNIT, 5);
+    fails(a, "five  minutes", HEROVINGA_NO_UNIT, 6);
+    fails(a, "five five min", HEROVINGA_NO_UNIT, 5);
+    fails(a, "five 5min", HEROVINGA_NO_UNIT, 5);
+    fails(a, "1s and -five x", HEROVINGA_NO_UNIT, 13);
+    part(a, "1s and -five x", 7, HEROVINGA_NO_UNIT, 13, 0);
+    part(a, "five min and half min", 5, HEROVINGA_NO_UNIT, 9, 0);
+    check_total(a, 0, "five min", 8, HEROVINGA_NO_UNIT, 5, zero);
+}
+
+/* Numeral times kind, and that times row, at the ends of their range. */
+static void products(const card *a)
+{
+    card c = *a, forbidden = *a;
+    put_row(c.table, "nano", HEROVINGA_NANOSECOND, 1, 9);
+    put_row(c.table + HEROVINGA_ROW_SIZE, "none", HEROVINGA_MINUTE, 0, 0);
+    put_row(c.table + 2 * HEROVINGA_ROW_SIZE, "back", HEROVINGA_SECOND, -1, 0);
+    put_row(c.table + 3 * HEROVINGA_ROW_SIZE, "twice", HEROVINGA_SECOND, -2, 0);
+    put_row(c.table + 4 * HEROVINGA_ROW_SIZE, "ten", HEROVINGA_SECOND, 1, 1);
+    put_row(c.table + 5 * HEROVINGA_ROW_SIZE, "tenth", HEROVINGA_SECOND, 1, -1);
+
+    reads(a, "most s", 0, INT64_MAX, 0);
+    fails(a, "most min", HEROVINGA_OUT_OF_RANGE, 0);
+    fails(a, "most block", HEROVINGA_OUT_OF_RANGE, 0);
+    part(a, "1s most min", 3, HEROVINGA_OUT_OF_RANGE, 0, 0);
+    reads(&c, "most back", 1, INT64_MAX, 0);
+    fails(&c, "huge twice", HEROVINGA_OUT_OF_RANGE, 0);
+    fails(&c, "huge twice ago", HEROVINGA_OUT_OF_RANGE, 0);
+    reads(a, "vast s", 0, LARGEST, 999999999);
+    reads(a, "-vast s", 1, LARGEST, 999999999);
+    fails(&c, "vast ten", HEROVINGA_OUT_OF_RANGE, 0);
+    reads(&c, "tiny ten", 0, 0, 0);
+    fails(&c, "tiny tenth", HEROVINGA_OUT_OF_RANGE, 0);
+
+    /* The first product counts, also where the second would be in range. */
+    reads(&c, "five nano", 0, 5, 0);
+    fails(&c, "tiny nano", HEROVINGA_OUT_OF_RANGE, 0);
+    reads(&c, "five none", 0, 0, 0);
+    fails(&c, "most none", HEROVINGA_OUT_OF_RANGE, 0);
+
+    /* It is found after all else of its part, before what follows, and before 5. */
+    fails(a, "most x", HEROVINGA_NO_UNIT, 5);
+    fails(a, "most min ", HEROVINGA_SYNTAX, 8);
+    fails(a, "most min and", HEROVINGA_SYNTAX, 9);
+    fails(a, "most min x", HEROVINGA_OUT_OF_RANGE, 0);
+    forbidden.settings.negatives = 0;
+    fails(&forbidden, "-most min", HEROVINGA_OUT_OF_RANGE, 0);
+    fails(&forbidden, "-five min", HEROVINGA_NEGATIVE, 0);
+    fails(&forbidden, "-five min most min", HEROVINGA_NEGATIVE, 0);
+}
+
+/* Numerals that every entry refuses, whatever the text is. */
+static void fails_numerals(const card *c, const uint8_t *numerals, size_t size, uint64_t position)
+{
+    const herovinga_length minus_zero = {1, 0, 0};
+    static const uint8_t text[HEROVINGA_LONGEST_TEXT + 1];
+    herovinga_length total = minus_zero;
+    herovinga_answer answer = unwritten();
+    uint8_t got = herovinga_add_total(&total, &c->settings, c->table, sizeof c->table, numerals, size, text, sizeof text, &answer);
+    check_answer("numerals before total and text", got, answer, HEROVINGA_CARD, position, zero);
+    check("wrong numerals leave the total", same_length(total, minus_zero));
+    check_total_with(numerals, size, c, 6, "1s", 2, HEROVINGA_CARD, position, zero);
+    part_with(numerals, size, c, "1s", SIZE_MAX, HEROVINGA_CARD, position, 0);
+}
+
+/* As many numerals as may be, each with another name; one byte of a row changed, by which it is a bad one. */
+static uint8_t many[(HEROVINGA_MOST_NUMERALS + 1) * HEROVINGA_ROW_SIZE];
+
+static void fails_changed(const card *a, size_t row, size_t at, uint8_t byte)
+{
+    uint8_t *changed = many + row * HEROVINGA_ROW_SIZE + at;
+    const uint8_t before = *changed;
+    *changed = byte;
+    fails_numerals(a, many, HEROVINGA_MOST_NUMERALS * HEROVINGA_ROW_SIZE, HEROVINGA_FIRST_NUMERAL + row);
+    *changed = before;
+}
+
+static void numeral_rows(const card *a)
+{
+    static const uint8_t kinds[] = {0, 1, 2, 4, 5, 6, 7, 8, 255}, no_letters[] = {0, ' ', '0', '.', '@', '[', '_', '`', '{', 128, 0xc3, 255};
+    const size_t last = HEROVINGA_MOST_NUMERALS - 1;
+    size_t row, i;
+    for (row = 0; row <= last; row += last) {
+        for (i = 0; i < sizeof kinds; i++)
+            fails_changed(a, row, HEROVINGA_KIND_AT, kinds[i]);
+        for (i = 0; i < sizeof no_letters; i++)
+            fails_changed(a, row, HEROVINGA_NAME_AT + 1, no_letters[i]);
+        fails_changed(a, row, HEROVINGA_NAME_SIZE_AT, 0);
+        fails_changed(a, row, HEROVINGA_NAME_SIZE_AT, 1);
+        fails_changed(a, row, HEROVINGA_NAME_SIZE_AT, 3);
+        fails_changed(a, row, HEROVINGA_NAME_SIZE_AT, HEROVINGA_NAME_ROOM + 1);
+        fails_changed(a, row, HEROVINGA_NAME_AT + 2, 'x');
+        fails_changed(a, row, HEROVINGA_KIND_AT - 1, 'x');
+        fails_changed(a, row, HEROVINGA_ZEROS_AT, 1);
+        fails_changed(a, row, HEROVINGA_ROW_SIZE - 1, 1);
+    }
+    /* The later of two equal names is the bad one: "fB" is the last row's, "eB" the one before. */
+    fails_changed(a, last, HEROVINGA_NAME_AT, 'e');
+    fails_changed(a, last, HEROVINGA_NAME_AT + 1, 'A');
+}
+
+static void numeral_tables(const card *a)
+{
+    const herovinga_length minute = {0, 60, 0}, most = {0, 60 * HEROVINGA_MOST_NUMERALS, 0}, minus = {1, INT64_MAX, 0};
+    const size_t full = HEROVINGA_MOST_NUMERALS * HEROVINGA_ROW_SIZE;
+    uint8_t longest[HEROVINGA_ROW_SIZE];
+    card worse = *a;
+    char name[3] = "aA";
+    size_t i;
+    for (i = 0; i <= HEROVINGA_MOST_NUMERALS; i++) {
+        name[0] = (char)('a' + i % 26);
+        name[1] = (char)('A' + i / 26);
+        put_row(many + i * HEROVINGA_ROW_SIZE, name, HEROVINGA_SECOND, (int64_t)i + 1, 0);
+    }
+    check_total_with(many, full, a, 6, "fB min", 6, HEROVINGA_DONE, 6, most);
+    part_with(many, full, a, "1s fB min", 3, HEROVINGA_DONE, 9, most.seconds);
+    check_total_with(many, HEROVINGA_ROW_SIZE, a, 6, "aA min", 6, HEROVINGA_DONE, 6, minute);
+    check_total_with(many, HEROVINGA_ROW_SIZE, a, 6, "bA min", 6, HEROVINGA_NO_NUMBER, 0, zero);
+    fails_numerals(a, many, 1, HEROVINGA_WRONG_NUMERALS_SIZE);
+    fails_numerals(a, many, HEROVINGA_ROW_SIZE - 1, HEROVINGA_WRONG_NUMERALS_SIZE);
+    fails_numerals(a, many, HEROVINGA_ROW_SIZE + 1, HEROVINGA_WRONG_NUMERALS_SIZE);
+    fails_numerals(a, many, full + 1, HEROVINGA_WRONG_NUMERALS_SIZE);
+    fails_numerals(a, many, sizeof many, HEROVINGA_WRONG_NUMERALS_SIZE);
+    numeral_rows(a);
+
+    put_row(longest, "ABCXYZabcdefgxyz", HEROVINGA_SECOND, -INT64_MAX, 0);
+    check_total_with(longest, sizeof longest, a, 6, "ABCXYZabcdefgxyz s", 18, HEROVINGA_DONE, 18, minus);
+    put_row(longest, "ABCXYZabcdefgxyz", HEROVINGA_SECOND, INT64_MIN, 0);
+    fails_numerals(a, longest, sizeof longest, HEROVINGA_FIRST_NUMERAL);
+
+    /* The size comes before the rows, all else of the card before both. */
+    many[HEROVINGA_KIND_AT] = 2;
+    fails_numerals(a, many, sizeof many, HEROVINGA_WRONG_NUMERALS_SIZE);
+    worse.table[5 * HEROVINGA_ROW_SIZE + HEROVINGA_ZEROS_AT] = 1;
+    fails_numerals(&worse, many, sizeof many, 5);
+    fails_numerals(&worse, many, full, 5);
+    worse.settings.default_kind = 8;
+    fails_numerals(&worse, many, full, HEROVINGA_WRONG_DEFAULT_KIND);
 }
 
 /* One of the two writers. */
@@ -423,7 +649,8 @@ static void writings(void)
 static void adds(const card *a, herovinga_length total, const char *text, uint8_t number, uint64_t position, herovinga_length then)
 {
     herovinga_answer answer = unwritten();
-    uint8_t got = herovinga_add_total(&total, &a->settings, a->table, sizeof a->table, (const uint8_t *)text, strlen(text), &answer);
+    uint8_t got = herovinga_add_total(&total, &a->settings, a->table, sizeof a->table, words, sizeof words, (const uint8_t *)text,
+                                      strlen(text), &answer);
     check_answer(text, got, answer, number, position, number == HEROVINGA_DONE ? then : zero);
     check("the total then", same_length(total, then));
 }
@@ -432,10 +659,14 @@ static void shift_totals(const card *a)
 {
     static const uint64_t too_many[] = {1000000000, 0xffffffff, (uint64_t)1 << 32, ((uint64_t)1 << 32) + 5, LARGEST};
     const herovinga_length second = {0, 1, 0}, less = {1, 0, 938300000}, odd = {5, 1, 0}, largest = {0, LARGEST, 999999999};
-    const herovinga_length odd_zero = {5, 0, 0}, minus_zero = {1, 0, 0};
+    const herovinga_length odd_zero = {5, 0, 0}, minus_zero = {1, 0, 0}, later = {0, 299, 0};
     card worse = *a;
     size_t i;
     adds(a, zero, "1s", HEROVINGA_DONE, 2, second);
+    adds(a, odd, "five min", HEROVINGA_DONE, 8, later);
+    adds(a, odd, "five min five x", HEROVINGA_NO_UNIT, 14, odd);
+    adds(a, odd, "five min most min", HEROVINGA_OUT_OF_RANGE, 0, odd);
+    adds(a, minus_zero, "five x", HEROVINGA_MALFORMED, 0, minus_zero);
     adds(a, odd, "61.7ms", HEROVINGA_DONE, 6, less);
     adds(a, odd, "1s", HEROVINGA_DONE, 2, zero);
     adds(a, odd, ".", HEROVINGA_SYNTAX, 0, odd);
@@ -568,10 +799,13 @@ static void iso_writings(void)
 int main(void)
 {
     card a, before;
+    uint8_t words_before[sizeof words];
     unsigned long sum = 0;
     int i;
     make_card_a(&a);
+    make_words();
     before = a;
+    memcpy(words_before, words, sizeof words);
     layout();
     readings(&a);
     parts(&a);
@@ -583,11 +817,16 @@ int main(void)
     cards(&a);
     names_led_by_e(&a);
     tables(&a);
+    spoken(&a);
+    numerals_alone(&a);
+    products(&a);
+    numeral_tables(&a);
     writings();
     shift_totals(&a);
     iso_readings();
     iso_writings();
     check("the card is as it was", memcmp(&a, &before, sizeof a) == 0);
+    check("the numerals are as they were", memcmp(words, words_before, sizeof words) == 0);
     for (i = 0; i < NUMBERS; i++) {
         sum += answers[i];
         check("every number was handed back", answers[i] > 0);

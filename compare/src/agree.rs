@@ -2,6 +2,7 @@
 
 use crate::card_a::same_answer;
 use crate::crate_side::{CrateAnswer, ask};
+use crate::left_out::LeftOut;
 use crate::make::Maker;
 use crate::plain;
 use crate::request::Request;
@@ -9,9 +10,10 @@ use crate::request::Request;
 /// So many differing requests are shown in full.
 const MOST_SHOWN: u64 = 10;
 
-/// True if plain and crate agree wherever document 01 lets them be compared.
+/// True if plain and crate agree wherever they are compared.
 pub fn agree(seed: u64, count: u64) -> bool {
-    let (mut compared, mut left_out, mut differing) = (0_u64, 0_u64, 0_u64);
+    let (mut compared, mut with_numerals, mut differing) = (0_u64, 0_u64, 0_u64);
+    let mut left_out = LeftOut::default();
     for made in Maker::new(seed).take(count as usize) {
         let Some(request) = through_a_line(&made) else {
             compared += 1;
@@ -26,14 +28,15 @@ pub fn agree(seed: u64, count: u64) -> bool {
         };
         let crate_answer = ask(&request);
         let same = match &crate_answer {
-            CrateAnswer::LeftOut => {
-                left_out += 1;
+            CrateAnswer::LeftOut(reason) => {
+                left_out.count(*reason);
                 continue;
             }
             CrateAnswer::Says(answer) => same_answer(answer, &plain_answer),
             CrateAnswer::Unasked(_) | CrateAnswer::Loud(_) => false,
         };
         compared += 1;
+        with_numerals += u64::from(request.card().is_some_and(|card| !card.numerals.is_empty()));
         if same {
             continue;
         }
@@ -44,7 +47,9 @@ pub fn agree(seed: u64, count: u64) -> bool {
             println!("    crate {crate_answer}");
         }
     }
-    println!("seed {seed}: {compared} compared, {left_out} left out, {differing} differing");
+    println!(
+        "seed {seed}: {compared} compared, {with_numerals} of them under cards with numerals, {left_out}, {differing} differing"
+    );
     differing == 0
 }
 

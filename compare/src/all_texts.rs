@@ -1,5 +1,5 @@
-//! All texts of up to five bytes over an alphabet of sixteen, under four cards
-//! on which they come to every step.
+//! All texts of up to five bytes over an alphabet of sixteen, under six cards on
+//! which they come to every step.
 
 use crate::card_a::{card_a, row};
 use crate::found::Found;
@@ -52,8 +52,11 @@ fn count_up(digits: &mut [usize]) {
 
 /// Card A; all switches on, two sets that share nothing, and words and names
 /// that are prefixes of each other and of `inf`; all switches off; negatives
-/// and infinity forbidden, one set within the other, and a unit `inf`.
-fn cards() -> [Card; 4] {
+/// and infinity forbidden, one set within the other, and a unit `inf`; and two
+/// with numerals, which are also names of units, of a word and of infinity, and
+/// whose products come to the limits: all switches on, and ago, infinity and
+/// negatives forbidden.
+fn cards() -> [Card; 6] {
     let all_on = Switches {
         sign_delimiter: true,
         ..card_a().switches
@@ -72,10 +75,31 @@ fn cards() -> [Card; 4] {
         infinity: false,
         ..all_on.clone()
     };
+    let no_ago = Switches {
+        ago: false,
+        ..no_negatives.clone()
+    };
+    let numerals = table_bytes(&[
+        row("a", 3, 5, 0),
+        row("s", 3, -1, -1),
+        row("i", 3, i64::MAX, 0),
+        row("inf", 3, 7, -18),
+        row("e", 3, 1, 20),
+        row("A", 3, -(1 << 62), 0),
+        row("n", 3, 3, i16::MIN),
+        row("m", 3, 0, i16::MAX),
+    ]);
+    let units = [
+        row("s", 3, 1, 0),
+        row("m", 4, 1, 0),
+        row("a", 3, 2, 1),
+        row("n", 2, 1, 3),
+        row("f", 0, -1, 0),
+    ];
     [
         card_a(),
         card(
-            (all_on, b",", b" ", 2),
+            (all_on.clone(), b",", b" ", 2),
             &["a", "am", "i"],
             &[
                 row("s", 3, 1, 0),
@@ -102,6 +126,14 @@ fn cards() -> [Card; 4] {
                 row("nf", 3, 1, i16::MIN),
             ],
         ),
+        Card {
+            numerals: numerals.clone(),
+            ..card((all_on, b" ,", b" ", 3), &["a", "i"], &units)
+        },
+        Card {
+            numerals,
+            ..card((no_ago, b",", b" ", 3), &["m"], &units)
+        },
     ]
 }
 
@@ -118,5 +150,6 @@ fn card(
         conjunctions: Conjunctions::of(&words),
         kind,
         table: table_bytes(rows),
+        numerals: Vec::new(),
     }
 }

@@ -18,7 +18,7 @@ use lib.Dec.{T, eqb}
 use lib.ListN.{replicate}
 use Rattle.rules.specs.declared.Length.{Length}
 use Rattle.rules.specs.declared.Answer.{Answer}
-use Rattle.rules.specs.declared.Settings.{Settings}
+use Rattle.rules.specs.SettingsAndUnitTable.{Card}
 use Rattle.rules.specs.Common.{same}
 use Rattle.rules.specs.Computing.{computing}
 use Rattle.rules.specs.CardAAndItsReadings.{same-length}
@@ -39,11 +39,11 @@ agrees a n ps l = eqb (a .number) n && at-place ps (a .position) && same-length 
 ";
 
 /// Writes the modules and their list into the folder `specs`, and says how many
-/// requests they hold; those whose answer is `-` are left out.
+/// requests they hold; those whose answer begins with `-` are left out.
 pub fn write_modules(requests: &str, answers: &str, specs: &Path) -> Result<usize, String> {
     let mut held = Vec::new();
     for (index, (line, answer)) in requests.lines().zip(answers.lines()).enumerate() {
-        if answer != "-" {
+        if !answer.starts_with('-') {
             held.push((index + 1, Request::parse(line)?, answer));
         }
     }
@@ -103,13 +103,10 @@ fn module(chunk: &[(usize, Request, &str)]) -> Result<String, String> {
 fn declare_card(out: &mut String, number: usize, card: &Card) {
     let _ = writeln!(
         out,
-        "c{number} : Settings\nc{number} = {}\n",
-        settings(card)
-    );
-    let _ = writeln!(
-        out,
-        "t{number} : List ℕ\nt{number} = {}\n",
-        bytes(&card.table)
+        "c{number} : Card\nc{number} = record {{ settings = {}; units = {}; numerals = {} }}\n",
+        settings(card),
+        bytes(&card.table),
+        bytes(&card.numerals)
     );
 }
 
@@ -130,12 +127,9 @@ fn declare_request(
     };
     let expected = format!("{number} {position} ({})", record(sign, seconds, nanos));
     let (entry, also) = match request {
-        Request::Total { text, .. } => (
-            format!("total-answer c{card} t{card} ({})", bytes(text)),
-            None,
-        ),
+        Request::Total { text, .. } => (format!("total-answer c{card} ({})", bytes(text)), None),
         Request::Part { place, text, .. } => (
-            format!("part-answer c{card} t{card} ({}) {place}", bytes(text)),
+            format!("part-answer c{card} ({}) {place}", bytes(text)),
             None,
         ),
         Request::Shift {
@@ -143,7 +137,7 @@ fn declare_request(
             text,
             ..
         } => {
-            let arguments = format!("({}) c{card} t{card} ({})", length(so_far), bytes(text));
+            let arguments = format!("({}) c{card} ({})", length(so_far), bytes(text));
             let [sign, seconds, nanos] = after else {
                 return Err(format!("line {line}: no record after a shift"));
             };
@@ -169,7 +163,7 @@ fn declare_request(
     };
     let both = also.map_or(String::new(), |kept| format!(" && {kept}"));
     let cards = if request.card().is_some() {
-        format!(" c{card} t{card}")
+        format!(" c{card}")
     } else {
         String::new()
     };

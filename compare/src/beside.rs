@@ -16,6 +16,8 @@ mod card_a;
 #[allow(dead_code)]
 mod crate_side;
 #[allow(dead_code)]
+mod left_out;
+#[allow(dead_code)]
 mod make;
 #[allow(dead_code)]
 mod make_card;
@@ -42,7 +44,7 @@ use spoil::Spoiler;
 const USAGE: &str = "\
 usage: beside [SEED [COUNT]]           so many readings of made texts under made cards
        beside --spoil [SEED [COUNT]]   the same, with one of a million of the crate's answers spoiled
-       beside --all                    all texts of up to five bytes under four cards
+       beside --all                    all texts of up to five bytes under six cards
 ";
 
 const MADE: u64 = 10_000_000;

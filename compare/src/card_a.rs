@@ -29,6 +29,7 @@ pub fn card_a() -> Card {
         conjunctions: Conjunctions::of(&[b"and".to_vec()]),
         kind: 3,
         table: table_bytes(&rows),
+        numerals: Vec::new(),
     }
 }
 

@@ -11,7 +11,7 @@ use crate::limits;
 use crate::plain;
 use crate::request::{ByteSet, Card};
 use crate::stored::{self, ONCE, card_lines};
-use crate::table::{KINDS, Row, table_bytes};
+use crate::table::{KINDS, NUMERAL_KIND, Row, table_bytes};
 
 /// Writes the cards into one file and what is found of them into another.
 pub fn write_files(cards_path: &str, found_path: &str) -> Result<bool, String> {
@@ -28,8 +28,8 @@ pub fn write_files(cards_path: &str, found_path: &str) -> Result<bool, String> {
 }
 
 /// The hand-written limits, every byte as a delimiter of either set, in a name
-/// and at its front, and every kind at both ends of its coefficients and
-/// powers.
+/// and at its front, in a numeral's name and as its kind, and every kind at both
+/// ends of its coefficients and powers.
 fn cards() -> Vec<Card> {
     let mut cards = limits::cards();
     for byte in 0..=255 {
@@ -47,6 +47,8 @@ fn cards() -> Vec<Card> {
             ..card_a()
         });
         cards.push(led_by(byte));
+        cards.push(with_numeral(&[b'm', byte], NUMERAL_KIND));
+        cards.push(with_numeral(b"m", byte));
     }
     for kind in 0..KINDS.len() {
         cards.extend(ends_of_kind(kind));
@@ -68,6 +70,20 @@ fn led_by(byte: u8) -> Card {
     let mut card = without_exponents(&[byte, b'm']);
     card.switches.unit_delimiter = false;
     card
+}
+
+/// A card without units and with one numeral.
+fn with_numeral(name: &[u8], kind: u8) -> Card {
+    let numeral = Row {
+        name: name.to_vec(),
+        kind,
+        ..row("", 3, 1, 0)
+    };
+    Card {
+        table: Vec::new(),
+        numerals: table_bytes(&[numeral]),
+        ..card_a()
+    }
 }
 
 fn one_second(name: &[u8]) -> Vec<u8> {

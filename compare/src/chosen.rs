@@ -6,6 +6,7 @@
 
 use crate::card_a::same_answer;
 use crate::crate_side::{CrateAnswer, ask};
+use crate::left_out::LeftOut;
 use crate::plain;
 use crate::request::{Answer, Card, Request};
 
@@ -14,12 +15,14 @@ use crate::request::{Answer, Card, Request};
 pub struct Chosen {
     by_the_crate: u64,
     by_document: u64,
-    left_out: u64,
+    /// Written by hand where the crate is not compared.
+    by_hand: u64,
+    left_out: LeftOut,
 }
 
 impl Chosen {
-    /// The answer of a request, or nothing if document 01 leaves it out of the
-    /// comparison. An answer written by hand must be the same.
+    /// The answer of a request, or nothing if it is left out of the comparison
+    /// and was not written by hand. An answer that was must be the same.
     pub fn answer(
         &mut self,
         request: &Request,
@@ -29,14 +32,15 @@ impl Chosen {
             (None, card, text) => plain::total(card, text),
             (Some(place), card, text) => plain::part(card, text, place),
         };
-        if let Some(written) = written.filter(|written| *written != answer) {
+        if let Some(written) = written.as_ref().filter(|written| **written != answer) {
             return Err(differ(request, &answer, "by hand", &written.to_string()));
         }
         match ask(request) {
             CrateAnswer::Says(said) if same_answer(&said, &answer) => self.by_the_crate += 1,
             CrateAnswer::Unasked(_) => self.by_document += 1,
-            CrateAnswer::LeftOut => {
-                self.left_out += 1;
+            CrateAnswer::LeftOut(_) if written.is_some() => self.by_hand += 1,
+            CrateAnswer::LeftOut(reason) => {
+                self.left_out.count(reason);
                 return Ok(None);
             }
             said => return Err(differ(request, &answer, "crate", &said.to_string())),
@@ -46,8 +50,8 @@ impl Chosen {
 
     pub fn told(&self) -> String {
         format!(
-            "{} answers by the crate and the plain reading alike, {} by the plain reading alone, {} requests left out",
-            self.by_the_crate, self.by_document, self.left_out
+            "{} answers by the crate and the plain reading alike, {} by the plain reading alone, {} written by hand where the crate is not compared, {}",
+            self.by_the_crate, self.by_document, self.by_hand, self.left_out
         )
     }
 }

@@ -5,15 +5,18 @@
 //! asked about. Everything else, and whatever the crate should never do, is
 //! said aloud by a line that begins with `crate`.
 
+use std::any::Any;
 use std::cell::RefCell;
 use std::fmt;
-use std::panic::{AssertUnwindSafe, catch_unwind};
+use std::panic::{self, AssertUnwindSafe, catch_unwind};
+use std::sync::Once;
 
-use fundu_core::config::Config;
+use fundu_core::config::{Config, NumbersLike};
 use fundu_core::error::ParseError;
-use fundu_core::parse::{Parser, ReprParserMultiple, ReprParserTemplate};
+use fundu_core::parse::{DurationRepr, Parser, ReprParserMultiple, ReprParserTemplate};
 use fundu_core::time::{Duration, Multiplier, TimeUnit, TimeUnitsLike};
 
+use crate::left_out::Reason;
 use crate::plain;
 use crate::request::{Answer, ByteSet, Card, Length, Request};
 use crate::table::{ROW_BYTES, Row};
@@ -31,8 +34,8 @@ const KINDS: [TimeUnit; 8] = [
 
 pub enum CrateAnswer {
     Says(Answer),
-    /// Document 01 leaves the request out of the comparison.
-    LeftOut,
+    /// The request is left out of the comparison, and why.
+    LeftOut(Reason),
     /// The crate cannot be asked, and why.
     Unasked(String),
     /// The crate did what it should never do.
@@ -43,7 +46,7 @@ impl fmt::Display for CrateAnswer {
     fn fmt(&self, out: &mut fmt::Formatter<'_>) -> fmt::Result {
         match self {
             CrateAnswer::Says(answer) => answer.fmt(out),
-            CrateAnswer::LeftOut => out.write_str("-"),
+            CrateAnswer::LeftOut(reason) => write!(out, "- {reason}"),
             CrateAnswer::Unasked(why) => write!(out, "crate cannot be asked: {why}"),
             CrateAnswer::Loud(what) => write!(out, "crate {what}"),
         }
@@ -68,46 +71,131 @@ pub fn ask(request: &Request) -> CrateAnswer {
 pub struct SetUp<'a> {
     parser: Parser<'a>,
     units: Units,
+    numerals: Option<Numerals>,
+}
+
+/// The stretch of bytes that the crate scanned last: its place, its bytes, and
+/// the byte behind it. Where it comes to that place again it may take the stretch
+/// as it is.
+type Buffered<'a> = (usize, &'a [u8], Option<&'a u8>);
+
+/// What a part that the crate has read means for the comparison.
+enum Judged {
+    /// The crate goes on to the next part.
+    GoesOn,
+    /// The crate refuses the part or panics.
+    Ends,
+    LeftOut(Reason),
 }
 
 impl SetUp<'_> {
     pub fn total(&self, text: &str) -> CrateAnswer {
-        asked(text, || self.ask_total(text))
+        let said = self.said_of_total(text);
+        match self.why_left_out(text, &said) {
+            Some(reason) => CrateAnswer::LeftOut(reason),
+            None => said,
+        }
     }
 
     pub fn part(&self, text: &str, place: u64) -> CrateAnswer {
-        asked(text, || self.ask_part(text, place))
+        self.asked(text, || self.ask_part(text, place))
+    }
+
+    /// The crate's total, also where it is left out of the comparison.
+    pub fn said_of_total(&self, text: &str) -> CrateAnswer {
+        self.asked(text, || self.ask_total(text))
     }
 
     fn ask_total(&self, text: &str) -> CrateAnswer {
-        match self.parser.parse_multiple(text, &self.units, None, None) {
+        let total = self
+            .parser
+            .parse_multiple(text, &self.units, None, self.numerals());
+        match total {
             Ok(total) => said(Answer::success(text.len() as u64, length_of(total))),
-            Err(ParseError::NegativeNumber) if self.negative_part_is_zero(text) => {
-                CrateAnswer::LeftOut
-            }
             Err(error) => refusal(error, 0),
         }
     }
 
+    fn numerals(&self) -> Option<&dyn NumbersLike> {
+        self.numerals.as_ref().map(|numerals| numerals as _)
+    }
+
     /// Steps through the parts as `parse_multiple` does, up to the part that
-    /// made it refuse, and tells whether that part came to zero. The crate keeps
-    /// a minus on such a part and refuses it; the port accepts it as zero.
-    fn negative_part_is_zero(&self, text: &str) -> bool {
+    /// made it refuse, and tells why the crate's total is left out of the
+    /// comparison, if it is. Only a spoken number or a refused minus can be the
+    /// reason.
+    fn why_left_out(&self, text: &str, said: &CrateAnswer) -> Option<Reason> {
+        let CrateAnswer::Says(answer) = said else {
+            return None;
+        };
+        if self.numerals.is_none() && answer.number != 5 {
+            return None;
+        }
+        let mut sign_is_forgotten = None;
         let mut parser = &mut ReprParserMultiple::new(text);
         loop {
-            let parsed = parser.parse(&self.parser.config, &self.units, None, None);
-            let Ok((mut read, rest)) = parsed else {
-                return false;
+            let (place, buffered) = (parser.bytes.current_pos, parser.bytes.buffer);
+            let config = &self.parser.config;
+            let (mut read, rest) = match parser.parse(config, &self.units, None, self.numerals()) {
+                Ok(parsed) => parsed,
+                Err(ParseError::InvalidInput(_)) if self.takes_old_stretch(place, buffered) => {
+                    return Some(Reason::OldStretch);
+                }
+                Err(_) => return None,
             };
-            match read.parse() {
-                Ok(part) if part.is_negative() => return part.is_zero(),
-                Ok(_) => {}
-                Err(_) => return false,
+            match self.judged(&mut read) {
+                Judged::GoesOn => {}
+                Judged::Ends => return None,
+                // With negatives allowed the sign is of no matter to what is
+                // refused later.
+                Judged::LeftOut(Reason::ForgottenSign) if config.allow_negative => {
+                    sign_is_forgotten = Some(Reason::ForgottenSign);
+                }
+                Judged::LeftOut(reason) => return Some(reason),
             }
             match rest {
                 Some(next) => parser = next,
-                None => return false,
+                None => return sign_is_forgotten,
             }
+        }
+    }
+
+    /// Whether the part at a place, where no number begins, has a numeral that
+    /// the crate does not look up: it takes the stretch that it buffered when it
+    /// looked for a unit there, and that one goes on behind an inner delimiter.
+    fn takes_old_stretch(&self, place: usize, buffered: Option<Buffered>) -> bool {
+        let (Some(numerals), Some((start, stretch, next))) = (&self.numerals, buffered) else {
+            return false;
+        };
+        let is_taken = start == place && next.is_none_or(|byte| is_inner(*byte));
+        let length = stretch.iter().position(|byte| is_inner(*byte));
+        is_taken && length.is_some_and(|length| numerals.has(&stretch[..length]))
+    }
+
+    fn judged(&self, read: &mut DurationRepr) -> Judged {
+        if let (Some(numeral), Some(unit)) = (read.numeral, read.unit) {
+            let product = numeral
+                .checked_mul(unit.multiplier())
+                .and_then(|product| product.checked_mul(read.multiplier));
+            let Some(Multiplier(coefficient, power)) = product else {
+                return Judged::Ends;
+            };
+            if coefficient == i64::MIN {
+                return Judged::LeftOut(Reason::LeastCoefficient);
+            }
+            if coefficient != 0 && power > 19 && read.is_negative == Some(true) {
+                return Judged::LeftOut(Reason::ForgottenSign);
+            }
+        }
+        let negatives = self.parser.config.allow_negative;
+        match read.parse() {
+            // The crate keeps a minus on such a part and refuses it; the port
+            // accepts it as zero.
+            Ok(part) if !negatives && part.is_negative() && part.is_zero() => {
+                Judged::LeftOut(Reason::MinusZero)
+            }
+            Ok(part) if negatives || !part.is_negative() => Judged::GoesOn,
+            Ok(_) | Err(_) => Judged::Ends,
         }
     }
 
@@ -121,32 +209,60 @@ impl SetUp<'_> {
         };
         let config = &self.parser.config;
         let mut parser = ReprParserMultiple::new(rest);
-        let (mut read, next) = match parser.parse(config, &self.units, None, None) {
+        let (mut read, next) = match parser.parse(config, &self.units, None, self.numerals()) {
             Ok((read, Some(parser))) => (read, parser.bytes.current_pos),
             Ok((read, None)) => (read, rest.len()),
             Err(error) => return refusal(error, place),
         };
+        if let Judged::LeftOut(reason) = self.judged(&mut read) {
+            return CrateAnswer::LeftOut(reason);
+        }
         match read.parse() {
             Ok(part) if part.is_negative() && !config.allow_negative => {
-                if part.is_zero() {
-                    CrateAnswer::LeftOut
-                } else {
-                    refusal(ParseError::NegativeNumber, place)
-                }
+                refusal(ParseError::NegativeNumber, place)
             }
             Ok(part) => said(Answer::success(place + next as u64, length_of(part))),
             Err(error) => refusal(error, place),
         }
     }
+
+    /// The answer to a question about a text that the crate may be asked about.
+    /// Where the product of a spoken number overflows the crate panics; that is
+    /// 16.
+    fn asked(&self, text: &str, question: impl FnOnce() -> CrateAnswer) -> CrateAnswer {
+        if text.len() > plain::MOST_TEXT_BYTES {
+            return CrateAnswer::Unasked("the text is too long".to_string());
+        }
+        match catch_unwind(AssertUnwindSafe(question)) {
+            Ok(answer) => answer,
+            Err(panic) if self.numerals.is_some() && is_overflow(&*panic) => {
+                said(Answer::refusal(16, 0))
+            }
+            Err(_) => CrateAnswer::Loud("panicked".to_string()),
+        }
+    }
 }
 
-/// The answer to a question about a text that the crate may be asked about.
-fn asked(text: &str, question: impl FnOnce() -> CrateAnswer) -> CrateAnswer {
-    if text.len() > plain::MOST_TEXT_BYTES {
-        return CrateAnswer::Unasked("the text is too long".to_string());
-    }
-    catch_unwind(AssertUnwindSafe(question))
-        .unwrap_or_else(|_| CrateAnswer::Loud("panicked".to_string()))
+/// Whether the crate panicked because a product of multipliers overflowed.
+fn is_overflow(panic: &(dyn Any + Send)) -> bool {
+    let said = match panic.downcast_ref::<String>() {
+        Some(said) => Some(said.as_str()),
+        None => panic.downcast_ref::<&str>().copied(),
+    };
+    said == Some("Multiplier: Overflow when multiplying")
+}
+
+/// Has nothing printed of such a panic, of which a run may have many.
+fn be_quiet_about_overflows() {
+    static ONCE: Once = Once::new();
+    ONCE.call_once(|| {
+        let tell = panic::take_hook();
+        panic::set_hook(Box::new(move |info| {
+            if !is_overflow(info.payload()) {
+                tell(info);
+            }
+        }));
+    });
 }
 
 fn said(answer: Answer) -> CrateAnswer {
@@ -163,6 +279,7 @@ fn refusal(error: ParseError, base: u64) -> CrateAnswer {
         ParseError::NegativeExponentOverflow => (4, None),
         ParseError::NegativeNumber => (5, Some(0)),
         ParseError::InvalidInput(_) => (6, None),
+        ParseError::TimeUnit(place, _) => (15, Some(base + place as u64)),
         unexpected => return CrateAnswer::Loud(format!("said {unexpected:?}")),
     };
     said(Answer {
@@ -233,6 +350,11 @@ fn set_up<Answered>(
     INNER.set(card.inner.clone());
     OUTER.set(card.outer.clone());
     let units = Units::from_table(&card.table)?;
+    let numerals = match card.numerals.as_slice() {
+        [] => None,
+        table => Some(Numerals::from_table(table)?),
+    };
+    be_quiet_about_overflows();
     let mut words = Vec::new();
     for word in card.conjunctions.words() {
         words.push(as_utf8(word, "conjunction")?);
@@ -257,7 +379,11 @@ fn set_up<Answered>(
     config.allow_sign_delimiter = card.switches.sign_delimiter;
     config.allow_time_unit_delimiter = card.switches.unit_delimiter;
     let parser = Parser::with_config(config);
-    Ok(questions(&SetUp { parser, units }))
+    Ok(questions(&SetUp {
+        parser,
+        units,
+        numerals,
+    }))
 }
 
 /// The table's rows as the crate looks units up.
@@ -290,6 +416,35 @@ impl TimeUnitsLike for Units {
             .iter()
             .find(|(name, _, _)| name == identifier)
             .map(|(_, kind, multiplier)| (*kind, *multiplier))
+    }
+}
+
+/// The numeral table's rows as the crate looks numerals up.
+struct Numerals {
+    rows: Vec<(Vec<u8>, Multiplier)>,
+}
+
+impl Numerals {
+    fn from_table(table: &[u8]) -> Result<Self, String> {
+        let mut rows = Vec::new();
+        for bytes in table.chunks(ROW_BYTES) {
+            let row = Row::from_bytes(bytes).ok_or("a numeral's row is malformed")?;
+            rows.push((row.name, Multiplier(row.coefficient, row.power)));
+        }
+        Ok(Self { rows })
+    }
+
+    fn has(&self, name: &[u8]) -> bool {
+        self.rows.iter().any(|(other, _)| other == name)
+    }
+}
+
+impl NumbersLike for Numerals {
+    fn get(&self, input: &str) -> Option<Multiplier> {
+        self.rows
+            .iter()
+            .find(|(name, _)| name == input.as_bytes())
+            .map(|(_, multiplier)| *multiplier)
     }
 }
 

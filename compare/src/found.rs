@@ -1,9 +1,12 @@
 //! What a run of the port beside the crate has asked and found.
 
+use std::fmt;
+
 use crate::card_a::same_answer;
 use crate::crate_side::CrateAnswer;
+use crate::left_out::LeftOut;
 use crate::progress::Progress;
-use crate::request::{Answer, Request};
+use crate::request::{Answer, Card, Request};
 use crate::spoil::Spoiler;
 
 /// So many differing requests are shown in full.
@@ -16,13 +19,19 @@ pub struct Found {
     wanted: u64,
     progress: Progress,
     spoiler: Option<Spoiler>,
-    pub cards: u64,
+    /// Whether the card that is asked about has numerals.
+    has_numerals: bool,
+    cards: u64,
     pub readings: u64,
     /// Of the readings those of a part from a place.
     parts: u64,
-    left_out: u64,
+    left_out: LeftOut,
     /// The port's answers by number.
-    numbers: [u64; 12],
+    numbers: Numbers,
+    /// Of cards, answers and differing readings those with numerals.
+    cards_with_numerals: u64,
+    numbers_with_numerals: Numbers,
+    differing_with_numerals: u64,
     /// The readings, counted from 0, in which port and crate differ.
     differing: Vec<u64>,
     /// The port's places of 3 and 4, which the crate does not give, and those of
@@ -38,6 +47,33 @@ pub struct Found {
     differing_itself: u64,
 }
 
+/// How many answers there are of each number.
+#[derive(Default)]
+struct Numbers([u64; 17]);
+
+impl Numbers {
+    fn count(&mut self, number: u8) {
+        if let Some(count) = self.0.get_mut(usize::from(number)) {
+            *count += 1;
+        }
+    }
+
+    fn all(&self) -> u64 {
+        self.0.iter().sum()
+    }
+}
+
+impl fmt::Display for Numbers {
+    fn fmt(&self, out: &mut fmt::Formatter<'_>) -> fmt::Result {
+        let numbers = self.0.iter().enumerate();
+        let counted: Vec<String> = numbers
+            .filter(|(_, count)| **count > 0)
+            .map(|(number, count)| format!("{number}: {count}"))
+            .collect();
+        out.write_str(&counted.join("; "))
+    }
+}
+
 impl Found {
     pub fn new(name: String, wanted: u64, spoiler: Option<Spoiler>) -> Self {
         Self {
@@ -45,11 +81,15 @@ impl Found {
             wanted,
             progress: Progress::begin(),
             spoiler,
+            has_numerals: false,
             cards: 0,
             readings: 0,
             parts: 0,
-            left_out: 0,
-            numbers: [0; 12],
+            left_out: LeftOut::default(),
+            numbers: Numbers::default(),
+            cards_with_numerals: 0,
+            numbers_with_numerals: Numbers::default(),
+            differing_with_numerals: 0,
             differing: Vec::new(),
             places: 0,
             differing_places: 0,
@@ -60,14 +100,22 @@ impl Found {
         }
     }
 
+    /// Counts a card, under which readings follow.
+    pub fn begin_card(&mut self, card: &Card) {
+        self.has_numerals = !card.numerals.is_empty();
+        self.cards += 1;
+        self.cards_with_numerals += u64::from(self.has_numerals);
+    }
+
     /// Counts a reading and compares its answers; true if the port's is the
     /// crate's, which may be spoiled on the way, or is not to be compared.
     pub fn compare(&mut self, is_part: bool, said: &mut CrateAnswer, port: &Answer) -> bool {
         let reading = self.readings;
         self.readings += 1;
         self.parts += u64::from(is_part);
-        if let Some(count) = self.numbers.get_mut(usize::from(port.number)) {
-            *count += 1;
+        self.numbers.count(port.number);
+        if self.has_numerals {
+            self.numbers_with_numerals.count(port.number);
         }
         let same = match said {
             CrateAnswer::Says(answer) => {
@@ -76,14 +124,15 @@ impl Found {
                 }
                 same_answer(answer, port)
             }
-            CrateAnswer::LeftOut => {
-                self.left_out += 1;
+            CrateAnswer::LeftOut(reason) => {
+                self.left_out.count(*reason);
                 true
             }
             CrateAnswer::Unasked(_) | CrateAnswer::Loud(_) => false,
         };
         if !same {
             self.differing.push(reading);
+            self.differing_with_numerals += u64::from(self.has_numerals);
         }
         same
     }
@@ -135,7 +184,7 @@ impl Found {
     pub fn end(&self) -> bool {
         self.progress.end();
         println!(
-            "{}: {} readings under {} cards, {} of them of a part from a place; {} left out, {} differ",
+            "{}: {} readings under {} cards, {} of them of a part from a place; {}, {} differ",
             self.name,
             self.readings,
             self.cards,
@@ -143,12 +192,14 @@ impl Found {
             self.left_out,
             self.differing.len()
         );
-        let numbers = self.numbers.iter().enumerate();
-        let counted: Vec<String> = numbers
-            .filter(|(_, count)| **count > 0)
-            .map(|(number, count)| format!("{number}: {count}"))
-            .collect();
-        println!("by number: {}", counted.join("; "));
+        println!("by number: {}", self.numbers);
+        println!(
+            "under cards with numerals: {} readings under {} cards, {} differ; by number: {}",
+            self.numbers_with_numerals.all(),
+            self.cards_with_numerals,
+            self.differing_with_numerals,
+            self.numbers_with_numerals
+        );
         println!(
             "places of 3 and 4: {} held against the plain reading, {} differ",
             self.places, self.differing_places

@@ -1,7 +1,8 @@
 //! Cases at the limits, with answers written by hand from document 01 and
-//! requests two and three: for the numbers the crate does not have, 7 to 11,
-//! for the places of 3 and 4, which it does not have either, and for what a
-//! lent record or buffer holds afterwards. Each limit is tried from both sides.
+//! requests two, three and four: for the numbers the crate does not have, 7 to
+//! 11, for the places of 3 and 4, which it does not have either, for spoken
+//! numbers, and for what a lent record or buffer holds afterwards. Each limit is
+//! tried from both sides.
 
 use std::fmt::Write as _;
 use std::fs;
@@ -63,6 +64,28 @@ fn cases() -> Vec<Case> {
         ("before and behind", before_and_behind_exponents()),
         ("place of an exponent", places_of_exponents()),
         ("long exponent", long_exponents()),
+        ("numeral table size", numeral_table_size()),
+        ("numeral layout", numeral_layout()),
+        ("numeral name", numeral_names()),
+        ("numeral with another's name", names_that_others_have()),
+        ("equal numerals", equal_numerals()),
+        (
+            "numeral's coefficient and power",
+            numerals_at_their_limits(),
+        ),
+        ("first bad numeral", first_bad_numeral()),
+        ("order with numerals", order_with_numerals()),
+        ("spoken", spoken_numbers()),
+        ("no numeral", no_numerals()),
+        ("sign before a numeral", signs_before_numerals()),
+        ("delimiters behind a numeral", delimiters_behind_numerals()),
+        ("no unit", numerals_without_units()),
+        ("product coefficient", product_coefficients()),
+        ("product power", product_powers()),
+        ("order with products", order_with_products()),
+        ("spoken worth", spoken_worth()),
+        ("spoken negative", spoken_negatives()),
+        ("where a unit's lookup failed", where_a_lookup_failed()),
     ];
     let mut list = Vec::new();
     for (group, cases) in groups {
@@ -283,8 +306,40 @@ impl Card {
         self
     }
 
+    fn with_more_rows(mut self, rows: &[[u8; ROW_BYTES]]) -> Self {
+        self.table.extend(rows.concat());
+        self
+    }
+
+    fn with_numerals(mut self, numerals: &[[u8; ROW_BYTES]]) -> Self {
+        self.numerals = numerals.concat();
+        self
+    }
+
+    /// A numeral table of so many bytes, cut from good rows.
+    fn with_numeral_size(mut self, size: usize) -> Self {
+        self.numerals = rows(size.div_ceil(ROW_BYTES)).concat();
+        self.numerals.truncate(size);
+        self
+    }
+
     fn without_negatives(mut self) -> Self {
         self.switches.negatives = false;
+        self
+    }
+
+    fn without_fractions(mut self) -> Self {
+        self.switches.fractions = false;
+        self
+    }
+
+    fn without_infinity(mut self) -> Self {
+        self.switches.infinity = false;
+        self
+    }
+
+    fn without_ago(mut self) -> Self {
+        self.switches.ago = false;
         self
     }
 
@@ -322,6 +377,22 @@ fn named(name: &str) -> [u8; ROW_BYTES] {
 /// Five seconds by a name, so that a text shows whether it was found.
 fn five(name: &str) -> [u8; ROW_BYTES] {
     row(name, 3, 5, 0).to_bytes()
+}
+
+/// A row of kind 3, of a numeral or of a unit.
+fn times(name: &str, coefficient: i64, power: i16) -> [u8; ROW_BYTES] {
+    row(name, 3, coefficient, power).to_bytes()
+}
+
+/// Card A with a few numerals.
+fn spoken() -> Card {
+    card().with_numerals(&[
+        times("five", 5, 0),
+        times("half", 5, -1),
+        times("off", -1, 0),
+        times("nil", 0, 0),
+        times("eight", 8, 0),
+    ])
 }
 
 /// The row with some bytes changed, each given by its place.
@@ -1061,4 +1132,688 @@ fn long_exponents() -> Vec<Case> {
         case("nines", total(card(), filled("1e", "9", 4096, "")), "3 6 + 0 0"),
         case("text too long", total(card(), filled("1e", "0", 4097, "32768")), "8 4096 + 0 0"),
     ]
+}
+
+// 7 at 100: the size of the numeral table; `aa` is the numeral 0, `bf` the numeral 31.
+#[rustfmt::skip]
+fn numeral_table_size() -> Vec<Case> {
+    let size = |size| card().with_numeral_size(size);
+    vec![
+        case("none", total(size(0), "1s"), "0 2 + 1 0"),
+        case("none, a name", total(size(0), "aa s"), "6 0 + 0 0"),
+        case("none, a name and a delimiter", total(size(0), "aa "), "6 0 + 0 0"),
+        case("1 byte", total(size(1), "1s"), "7 100 + 0 0"),
+        case("31 bytes", total(size(31), "1s"), "7 100 + 0 0"),
+        case("1 numeral", total(size(32), "aa s"), "0 4 + 1 0"),
+        case("1 numeral, another", total(size(32), "ab s"), "6 0 + 0 0"),
+        case("33 bytes", total(size(33), "1s"), "7 100 + 0 0"),
+        case("2 numerals", total(size(64), "ab s"), "0 4 + 1 0"),
+        case("1023 bytes", total(size(1023), "1s"), "7 100 + 0 0"),
+        case("32 numerals", total(size(1024), "bf s"), "0 4 + 1 0"),
+        case("32 numerals, another", total(size(1024), "bg s"), "6 0 + 0 0"),
+        case("32 numerals, part", part(0, size(1024), "bf s"), "0 4 + 1 0"),
+        case("32 numerals, shift", shift(plus(1, 0), size(1024), "bf s"), "0 4 + 2 0 + 2 0"),
+        case("1025 bytes", total(size(1025), "1s"), "7 100 + 0 0"),
+        case("33 numerals", total(size(1056), "1s"), "7 100 + 0 0"),
+        case("33 numerals, part", part(0, size(1056), "1s"), "7 100 + 0 0"),
+        case("33 numerals, shift", shift(plus(1, 0), size(1056), "1s"), "7 100 + 0 0 + 1 0"),
+        case("64 numerals", total(size(2048), "1s"), "7 100 + 0 0"),
+        case("256 numerals", total(size(8192), "1s"), "7 100 + 0 0"),
+    ]
+}
+
+// 7 at 68 and the numeral's row: lengths, bytes that must be zero, kinds; first five rows byte by byte.
+#[rustfmt::skip]
+fn numeral_layout() -> Vec<Case> {
+    let five = b"\x04five\0\0\0\0\0\0\0\0\0\0\0\0\x03\x05\0\0\0\0\0\0\0\0\0\0\0\0\0";
+    let half = b"\x04half\0\0\0\0\0\0\0\0\0\0\0\0\x03\x05\0\0\0\0\0\0\0\xff\xff\0\0\0\0";
+    let low_first = b"\x01x\0\0\0\0\0\0\0\0\0\0\0\0\0\0\0\x03\x08\x07\x06\x05\x04\x03\x02\x01\0\0\0\0\0\0";
+    let minus_two = b"\x01x\0\0\0\0\0\0\0\0\0\0\0\0\0\0\0\x03\xfe\xff\xff\xff\xff\xff\xff\xff\0\0\0\0\0\0";
+    let power_258 = b"\x01x\0\0\0\0\0\0\0\0\0\0\0\0\0\0\0\x03\x01\0\0\0\0\0\0\0\x02\x01\0\0\0\0";
+    let one = |row| card().with_numerals(&[row]);
+    let back = |row| one(row).with_rows(&[times("b", 1, -258)]);
+    let x = named("x");
+    let longest = named("abcdefghijklmnop");
+    let fifteen = named("abcdefghijklmno");
+    let kind = |kind| one(changed(x, &[(KIND, kind)]));
+    vec![
+        case("five", total(one(*five), "five min"), "0 8 + 300 0"),
+        case("half", total(one(*half), "half s"), "0 6 + 0 500000000"),
+        case("coefficient low byte first", total(one(*low_first), "x s"), "0 3 + 72623859790382856 0"),
+        case("coefficient -2", total(one(*minus_two), "x s"), "0 3 - 2 0"),
+        case("power 258", total(back(*power_258), "x b"), "0 3 + 1 0"),
+
+        case("name length 0", total(one(changed(x, &[(0, 0), (1, 0)])), "1"), "7 68 + 0 0"),
+        case("name length 0, a letter", total(one(changed(x, &[(0, 0)])), "1"), "7 68 + 0 0"),
+        case("all zeros", total(one([0; 32]), "1"), "7 68 + 0 0"),
+        case("name length 1", total(one(x), "x s"), "0 3 + 1 0"),
+        case("name length 16", total(one(longest), "abcdefghijklmnop s"), "0 18 + 1 0"),
+        case("name length 17", total(one(changed(longest, &[(0, 17)])), "1"), "7 68 + 0 0"),
+        case("name length 255", total(one(changed(longest, &[(0, 255)])), "1"), "7 68 + 0 0"),
+
+        case("letter after the name", total(one(changed(x, &[(2, b'y')])), "1"), "7 68 + 0 0"),
+        case("letter in the name", total(one(changed(x, &[(0, 2), (2, b'y')])), "xy s"), "0 4 + 1 0"),
+        case("last name byte, x", total(one(changed(x, &[(16, b'y')])), "1"), "7 68 + 0 0"),
+        case("name length 15", total(one(fifteen), "abcdefghijklmno s"), "0 17 + 1 0"),
+        case("last name byte, 15", total(one(changed(fifteen, &[(16, b'p')])), "1"), "7 68 + 0 0"),
+
+        case("kind 0", total(kind(0), "1"), "7 68 + 0 0"),
+        case("kind 2", total(kind(2), "1"), "7 68 + 0 0"),
+        case("kind 3", total(kind(3), "x s"), "0 3 + 1 0"),
+        case("kind 4", total(kind(4), "1"), "7 68 + 0 0"),
+        case("kind 7", total(kind(7), "1"), "7 68 + 0 0"),
+        case("kind 8", total(kind(8), "1"), "7 68 + 0 0"),
+        case("kind 131", total(kind(131), "1"), "7 68 + 0 0"),
+        case("kind 255", total(kind(255), "1"), "7 68 + 0 0"),
+
+        case("first zero", total(one(changed(x, &[(ZEROS, 1)])), "1"), "7 68 + 0 0"),
+        case("second zero", total(one(changed(x, &[(ZEROS + 1, 1)])), "1"), "7 68 + 0 0"),
+        case("third zero", total(one(changed(x, &[(ZEROS + 2, 1)])), "1"), "7 68 + 0 0"),
+        case("fourth zero", total(one(changed(x, &[(ZEROS + 3, 255)])), "1"), "7 68 + 0 0"),
+        case("part", part(0, kind(2), "1"), "7 68 + 0 0"),
+        case("shift", shift(minus(7, 5), kind(2), "1"), "7 68 + 0 0 - 7 5"),
+    ]
+}
+
+// 7 at 68 and the numeral's row: letters and the bytes beside them, first and last, whatever a unit's name may have.
+#[rustfmt::skip]
+fn numeral_names() -> Vec<Case> {
+    let one = |row| card().with_numerals(&[row]);
+    let mut cases = vec![
+        case("digit of 16", total(one(named("abcdefgh1jklmnop")), "1"), "7 68 + 0 0"),
+        case("comma, a unit's too", total(one(named("a,b")).with_rows(&[named("a,b")]), "1a,b"), "7 68 + 0 0"),
+        case("comma, of a unit alone", total(one(named("ab")).with_rows(&[named("a,b")]), "ab a,b"), "0 6 + 1 0"),
+        case("two bytes", total(one(named("µ")), "1"), "7 68 + 0 0"),
+        case("two bytes, of a unit alone", total(one(named("u")).with_rows(&[named("µ")]), "u µ"), "0 4 + 1 0"),
+    ];
+    for letter in [b'A', b'Z', b'a', b'z'] {
+        let (first, last) = (changed(named("nn"), &[(1, letter)]), changed(named("nn"), &[(2, letter)]));
+        let behind = |row: [u8; ROW_BYTES]| [&row[1..3], b" s"].concat();
+        cases.push(case(format!("first {letter}"), total(one(first), behind(first)), "0 4 + 1 0"));
+        cases.push(case(format!("last {letter}"), total(one(last), behind(last)), "0 4 + 1 0"));
+    }
+    for byte in [0, b' ', b'+', b'-', b'.', b'/', b'0', b'9', b':', b'@', b'[', b'`', b'{', 127, 128, 200, 229, 255] {
+        let (first, last) = (changed(named("nn"), &[(1, byte)]), changed(named("nn"), &[(2, byte)]));
+        cases.push(case(format!("first {byte}"), total(one(first), "1"), "7 68 + 0 0"));
+        cases.push(case(format!("last {byte}"), total(one(last), "1"), "7 68 + 0 0"));
+    }
+    cases
+}
+
+// A numeral may have the name of a unit, of a conjunction, of infinity, of `ago`, or one led by `e` that no unit may have.
+#[rustfmt::skip]
+fn names_that_others_have() -> Vec<Case> {
+    let one = |name| card().with_numerals(&[five(name)]);
+    let no_inner = one("eon").without_both().with_inner(b"");
+    vec![
+        case("a unit's", total(one("min"), "min s"), "0 5 + 5 0"),
+        case("a unit's, and the unit", total(one("min"), "min min"), "0 7 + 300 0"),
+        case("a unit's, behind a number", total(one("min"), "1min min"), "6 5 + 0 0"),
+        case("a conjunction's", total(one("and"), "and s"), "0 5 + 5 0"),
+        case("a conjunction's, behind a part", total(one("and"), "1s and s"), "6 7 + 0 0"),
+        case("a conjunction's, behind the conjunction", total(one("and"), "1s and and s"), "0 12 + 6 0"),
+        case("infinity's, allowed", total(one("inf"), "inf s"), "6 4 + 0 0"),
+        case("infinity's, forbidden", total(one("inf").without_infinity(), "inf s"), "0 5 + 5 0"),
+        case("infinity's, forbidden, another case", total(one("inf").without_infinity(), "Inf s"), "6 0 + 0 0"),
+        case("led by inf, allowed", total(one("infx"), "infx s"), "2 3 + 0 0"),
+        case("led by inf, forbidden", total(one("infx").without_infinity(), "infx s"), "0 6 + 5 0"),
+        case("beginning of inf", total(one("in"), "in s"), "0 4 + 5 0"),
+        case("infinity's long one, forbidden", total(one("infinity").without_infinity(), "infinity s"), "0 10 + 5 0"),
+        case("ago's", total(one("ago"), "ago s"), "0 5 + 5 0"),
+        case("ago's, behind a unit", total(one("ago"), "1s ago s"), "6 7 + 0 0"),
+        case("ago's, behind ago", total(one("ago"), "1s ago ago s"), "0 12 + 4 0"),
+        case("led by e", total(one("eon"), "eon s"), "0 5 + 5 0"),
+        case("led by e, neither", total(one("eon").without_both(), "eon s"), "0 5 + 5 0"),
+        case("led by E, neither", total(one("E").without_both(), "E s"), "0 3 + 5 0"),
+        case("led by e, neither, no inner", total(no_inner, "1s"), "0 2 + 1 0"),
+        case("a unit's that nobody could type", total(one("eon").with_rows(&[five("eon")]).without_both(), "1"),
+            "7 0 + 0 0"),
+    ]
+}
+
+// 7 at 68 and the numeral's row: equal names, the later row being the bad one, and names that nearly are.
+#[rustfmt::skip]
+fn equal_numerals() -> Vec<Case> {
+    let names = |names: &[&str]| {
+        let rows: Vec<_> = names.iter().map(|name| named(name)).collect();
+        card().with_numerals(&rows)
+    };
+    let other_worth = card().with_numerals(&[times("x", 1, 0), times("x", 2, 1)]);
+    let first_and_last = card().with_numerals(&[rows(31), vec![named("aa")]].concat());
+    vec![
+        case("neighbours", total(names(&["a", "a"]), "1"), "7 69 + 0 0"),
+        case("neighbours, other worth", total(other_worth, "1"), "7 69 + 0 0"),
+        case("two apart", total(names(&["a", "b", "a"]), "1"), "7 70 + 0 0"),
+        case("three apart", total(names(&["a", "b", "c", "a"]), "1"), "7 71 + 0 0"),
+        case("last two", total(names(&["a", "b", "c", "c"]), "1"), "7 71 + 0 0"),
+        case("first of 32 and last", total(first_and_last, "1"), "7 99 + 0 0"),
+        case("three times", total(names(&["a", "a", "a"]), "1"), "7 69 + 0 0"),
+        case("two pairs", total(names(&["a", "b", "b", "a"]), "1"), "7 70 + 0 0"),
+        case("16 bytes", total(names(&["abcdefghijklmnop", "abcdefghijklmnop"]), "1"), "7 69 + 0 0"),
+        case("16 bytes but the last", total(names(&["abcdefghijklmnop", "abcdefghijklmnoq"]), "abcdefghijklmnoq s"),
+            "0 18 + 1 0"),
+        case("16 bytes but the first", total(names(&["abcdefghijklmnop", "bbcdefghijklmnop"]), "bbcdefghijklmnop s"),
+            "0 18 + 1 0"),
+        case("last byte", total(names(&["ab", "ac"]), "ac s"), "0 4 + 1 0"),
+        case("longer", total(names(&["ab", "abc"]), "abc s"), "0 5 + 1 0"),
+        case("shorter", total(names(&["abc", "ab"]), "ab s"), "0 4 + 1 0"),
+        case("other case", total(names(&["a", "A"]), "A s"), "0 3 + 1 0"),
+    ]
+}
+
+// 7 at 68 and the numeral's row: the coefficient within plus or minus 9223372036854775807, and any power.
+#[rustfmt::skip]
+fn numerals_at_their_limits() -> Vec<Case> {
+    let x = |coefficient, power| card().with_numerals(&[times("x", coefficient, power)]);
+    let (most, least) = (9_223_372_036_854_775_807, -9_223_372_036_854_775_808);
+    vec![
+        case("most", total(x(most, 0), "x s"), "0 3 + 9223372036854775807 0"),
+        case("minus most", total(x(-most, 0), "x s"), "0 3 - 9223372036854775807 0"),
+        case("minus most, ago", total(x(-most, 0), "x s ago"), "0 7 + 9223372036854775807 0"),
+        case("least", total(x(least, 0), "1"), "7 68 + 0 0"),
+        case("least, with a power", total(x(least, -18), "1"), "7 68 + 0 0"),
+        case("none", total(x(0, 0), "x s"), "0 3 + 0 0"),
+        case("most, most power", total(x(most, 32767), "x s"), "0 3 + 18446744073709551615 999999999"),
+        case("most, least power", total(x(most, -32768), "x s"), "0 3 + 0 0"),
+        case("power brought back", total(x(1, 32767).with_rows(&[times("b", 1, -32767)]), "x b"), "0 3 + 1 0"),
+        case("least power brought back", total(x(1, -32768).with_rows(&[times("b", 1, 32767)]), "x b"),
+            "0 3 + 0 100000000"),
+    ]
+}
+
+// 7 at 68 and the numeral's row: which row is named when it is not the first, or not the only one.
+#[rustfmt::skip]
+fn first_bad_numeral() -> Vec<Case> {
+    let (a, b, c) = (named("a"), named("b"), named("c"));
+    let (kind, name, least) = (unit(2, 1, 0), named("1"), times("x", i64::MIN, 0));
+    let numerals = |rows: &[[u8; ROW_BYTES]]| card().with_numerals(rows);
+    let last_of_32 = numerals(&[rows(31), vec![kind]].concat());
+    let last_of_32_good = numerals(&[rows(31), vec![c]].concat());
+    vec![
+        case("row 1", total(numerals(&[a, kind, b]), "1"), "7 69 + 0 0"),
+        case("row 2", total(numerals(&[a, b, name]), "1"), "7 70 + 0 0"),
+        case("row 2, part", part(0, numerals(&[a, b, name]), "1"), "7 70 + 0 0"),
+        case("row 31", total(last_of_32, "1"), "7 99 + 0 0"),
+        case("row 31, good", total(last_of_32_good, "c s"), "0 3 + 1 0"),
+        case("rows 0 and 1", total(numerals(&[name, kind]), "1"), "7 68 + 0 0"),
+        case("rows 1 and 3", total(numerals(&[a, least, b, name]), "1"), "7 69 + 0 0"),
+        case("rows 1 and 2, equal", total(numerals(&[a, kind, a]), "1"), "7 69 + 0 0"),
+        case("rows 1, equal, and 2", total(numerals(&[a, a, kind]), "1"), "7 69 + 0 0"),
+    ]
+}
+
+// The order of 7 (64, the units' rows, 100, the numerals'), then 11, 8, 10: each card has all that the one before has wrong.
+#[rustfmt::skip]
+fn order_with_numerals() -> Vec<Case> {
+    let bad = unit(8, 1, 0);
+    let numeral = card().with_numerals(&[bad]);
+    let size = card().with_numerals(&[vec![bad], rows(32)].concat());
+    let last_row = size.clone().with_rows(&[rows(63), vec![bad]].concat());
+    let row = size.clone().with_rows(&[bad]);
+    let table = size.clone().with_rows(&[vec![bad], rows(64)].concat());
+    let kind = table.clone().with_kind(8);
+    let words = kind.clone().with_word(b"an1");
+    let inner = words.clone().with_inner(b"0");
+    let ragged = numeral.clone().with_numeral_size(33);
+    let malformed = plus(0, 1_000_000_000);
+    let long = text(4097);
+    vec![
+        case("numeral, long text", total(numeral.clone(), &long), "7 68 + 0 0"),
+        case("size, numeral, long text", total(size.clone(), &long), "7 100 + 0 0"),
+        case("size within a row, long text", total(ragged, &long), "7 100 + 0 0"),
+        case("last row, size, numeral, long text", total(last_row, &long), "7 63 + 0 0"),
+        case("row, size, numeral, long text", total(row.clone(), &long), "7 0 + 0 0"),
+        case("table size and the same", total(table, &long), "7 64 + 0 0"),
+        case("kind and the same", total(kind, &long), "7 67 + 0 0"),
+        case("words and the same", total(words, &long), "7 66 + 0 0"),
+        case("inner and the same", total(inner, &long), "7 65 + 0 0"),
+        case("row, numeral", total(numeral.clone().with_rows(&[bad]), "1"), "7 0 + 0 0"),
+        case("row that nobody could type, numeral", total(numeral.clone().with_rows(&[five("e")]).without_both(), "1"),
+            "7 0 + 0 0"),
+        case("numeral, long text, place", part(4098, numeral.clone(), &long), "7 68 + 0 0"),
+        case("size, long text, place", part(4098, size.clone(), &long), "7 100 + 0 0"),
+        case("numeral, place", part(2, numeral.clone(), "1"), "7 68 + 0 0"),
+        case("size, place", part(2, size.clone(), "1"), "7 100 + 0 0"),
+        case("numeral, record, long text", shift(malformed, numeral.clone(), &long), "7 68 + 0 0 + 0 1000000000"),
+        case("size, record, long text", shift(malformed, size.clone(), &long), "7 100 + 0 0 + 0 1000000000"),
+        case("numeral, empty text", total(numeral.clone(), ""), "7 68 + 0 0"),
+        case("size, empty text", total(size, ""), "7 100 + 0 0"),
+        case("numeral, syntax", total(numeral, "1s "), "7 68 + 0 0"),
+        case("record, spoken", shift(malformed, spoken(), "five min"), "11 0 + 0 0 + 0 1000000000"),
+        case("place, spoken", part(9, spoken(), "five min"), "10 9 + 0 0"),
+        case("end, spoken", part(8, spoken(), "five min"), "1 8 + 0 0"),
+    ]
+}
+
+// A numeral, inner delimiters and a unit stand for a part, wherever a part may begin.
+#[rustfmt::skip]
+fn spoken_numbers() -> Vec<Case> {
+    let nothing_on = spoken().without_fractions().without_both().without_ago().without_infinity();
+    let filled = |size: usize, end: &str| format!("five{}{end}", " ".repeat(size - 4 - end.len()));
+    let two_parts = "five min and eight s";
+    vec![
+        case("five min", total(spoken(), "five min"), "0 8 + 300 0"),
+        case("two delimiters", total(spoken(), "five  min"), "0 9 + 300 0"),
+        case("two parts", total(spoken(), two_parts), "0 20 + 308 0"),
+        case("first part", part(0, spoken(), two_parts), "0 13 + 300 0"),
+        case("second part", part(13, spoken(), two_parts), "0 20 + 8 0"),
+        case("within the first part", part(5, spoken(), two_parts), "6 5 + 0 0"),
+        case("shift", shift(minus(7, 5), spoken(), "five min"), "0 8 + 292 999999995 + 292 999999995"),
+        case("a power", total(spoken(), "half s"), "0 6 + 0 500000000"),
+        case("a unit with coefficient and power", total(spoken(), "five turn"), "0 9 + 0 61500000"),
+        case("the last numeral, the first unit", total(spoken(), "eight ns"), "0 8 + 0 8"),
+        case("no default kind", total(spoken().with_kind(7), "five s"), "0 6 + 5 0"),
+        case("everything off", total(nothing_on, "five min"), "0 8 + 300 0"),
+        case("the switch before units off", total(spoken().without_unit_delimiter(), "five min"), "0 8 + 300 0"),
+
+        case("behind a number", total(spoken(), "1 five min"), "0 10 + 301 0"),
+        case("directly behind a number", total(spoken(), "1five min"), "0 9 + 301 0"),
+        case("directly behind a point", total(spoken(), "1.five min"), "0 10 + 301 0"),
+        case("directly behind an exponent", total(spoken(), "1e1five min"), "0 11 + 310 0"),
+        case("directly behind a number, led by e", total(spoken(), "1eight s"), "2 2 + 0 0"),
+        case("behind a number, led by e", total(spoken(), "1 eight s"), "0 9 + 9 0"),
+        case("behind a unit", total(spoken(), "1s five min"), "0 11 + 301 0"),
+        case("directly behind a unit", total(spoken(), "1sfive min"), "6 1 + 0 0"),
+        case("directly behind a unit, with a sign", total(spoken(), "1s+five min"), "0 11 + 301 0"),
+        case("behind a conjunction", total(spoken(), "1s and five min"), "0 15 + 301 0"),
+        case("directly behind a conjunction", total(spoken(), "1s andfive min"), "2 6 + 0 0"),
+        case("directly behind a conjunction, with a sign", total(spoken(), "1s and-five min"), "0 15 - 299 0"),
+        case("behind infinity", total(spoken(), "-inf five min"), "0 13 - 18446744073709551315 999999999"),
+        case("behind a spoken number", total(spoken(), "half s five min"), "0 15 + 300 500000000"),
+        case("before a number", total(spoken(), "five min1"), "0 9 + 301 0"),
+        case("before a sign", total(spoken(), "five min-1"), "0 10 + 299 0"),
+
+        case("4096 bytes", total(spoken(), filled(4096, "min")), "0 4096 + 300 0"),
+        case("4097 bytes", total(spoken(), filled(4097, "min")), "8 4096 + 0 0"),
+        case("4096 bytes, no unit", total(spoken(), filled(4096, "x")), "15 4095 + 0 0"),
+        case("4096 bytes, delimiters", total(spoken(), filled(4096, "")), "2 4 + 0 0"),
+        case("4096 bytes, letters", total(spoken(), "f".repeat(4096)), "6 0 + 0 0"),
+    ]
+}
+
+// 6: the stretch up to an inner delimiter or the end, looked up byte for byte, and the delimiter that has to follow.
+#[rustfmt::skip]
+fn no_numerals() -> Vec<Case> {
+    let inner_comma = || spoken().with_inner(b",");
+    let outer_comma = || spoken().with_outer(b",");
+    vec![
+        case("end behind it", total(spoken(), "five"), "6 0 + 0 0"),
+        case("end behind it, second part", total(spoken(), "1s five"), "6 3 + 0 0"),
+        case("end behind it, part", part(3, spoken(), "1s five"), "6 3 + 0 0"),
+        case("end behind it, shift", shift(minus(7, 5), spoken(), "five"), "6 0 + 0 0 - 7 5"),
+        case("a unit directly behind it", total(spoken(), "fivemin"), "6 0 + 0 0"),
+        case("another case", total(spoken(), "Five min"), "6 0 + 0 0"),
+        case("another case, last letter", total(spoken(), "fivE min"), "6 0 + 0 0"),
+        case("a letter less", total(spoken(), "fiv min"), "6 0 + 0 0"),
+        case("a letter more", total(spoken(), "fives min"), "6 0 + 0 0"),
+        case("a letter before it", total(spoken(), "xfive min"), "6 0 + 0 0"),
+        case("a digit behind it", total(spoken(), "five5 min"), "6 0 + 0 0"),
+        case("a sign behind it", total(spoken(), "five+ min"), "6 0 + 0 0"),
+        case("a point behind it", total(spoken(), "five. min"), "6 0 + 0 0"),
+        case("a byte that is no letter", total(spoken(), b"five\xff min"), "6 0 + 0 0"),
+        case("a byte 0", total(spoken(), b"five\0 min"), "6 0 + 0 0"),
+        case("a delimiter before it", total(spoken(), " five min"), "6 0 + 0 0"),
+        case("a unit", total(spoken(), "min min"), "6 0 + 0 0"),
+
+        case("inner comma", total(inner_comma(), "five,min"), "0 8 + 300 0"),
+        case("inner comma, outer space", total(inner_comma(), "five min"), "6 0 + 0 0"),
+        case("inner comma, outer space and another part", total(inner_comma(), "five min,s"), "6 0 + 0 0"),
+        case("inner comma behind an outer space", total(inner_comma(), "five ,min"), "6 0 + 0 0"),
+        case("outer comma", total(outer_comma(), "five,min"), "6 0 + 0 0"),
+        case("outer comma in the stretch", total(outer_comma(), "five,x min"), "6 0 + 0 0"),
+        case("outer comma, inner space", total(outer_comma(), "five min,five s"), "0 15 + 305 0"),
+        case("no inner", total(spoken().with_inner(b""), "five min"), "6 0 + 0 0"),
+        case("no inner, the name alone", total(spoken().with_inner(b""), "five"), "6 0 + 0 0"),
+    ]
+}
+
+// The sign before a numeral, and the switch behind it.
+#[rustfmt::skip]
+fn signs_before_numerals() -> Vec<Case> {
+    let with = || spoken().with_sign_delimiter();
+    vec![
+        case("plus", total(spoken(), "+five min"), "0 9 + 300 0"),
+        case("minus", total(spoken(), "-five min"), "0 9 - 300 0"),
+        case("minus, minus", total(spoken(), "-off s"), "0 6 + 1 0"),
+        case("plus, minus", total(spoken(), "+off s"), "0 6 - 1 0"),
+        case("minus, no numeral", total(spoken(), "-x min"), "6 1 + 0 0"),
+        case("minus, end behind it", total(spoken(), "-five"), "6 1 + 0 0"),
+        case("delimiter, switch off", total(spoken(), "- five min"), "6 1 + 0 0"),
+        case("delimiter, switch on", total(with(), "- five min"), "0 10 - 300 0"),
+        case("delimiters, switch on", total(with(), "+  five min"), "0 11 + 300 0"),
+        case("no delimiter, switch on", total(with(), "-five min"), "0 9 - 300 0"),
+        case("delimiter, switch on, no numeral", total(with(), "- x min"), "6 2 + 0 0"),
+        case("delimiter, switch on, end behind it", total(with(), "- five"), "6 2 + 0 0"),
+        case("delimiter, switch on, no unit", total(with(), "- five x"), "15 7 + 0 0"),
+        case("delimiter, switch on, delimiters", total(with(), "- five "), "2 6 + 0 0"),
+        case("two signs", total(spoken(), "--five min"), "6 1 + 0 0"),
+    ]
+}
+
+// 2 at the first of the delimiters behind a numeral that end the text, and what else of a spoken part is 2.
+#[rustfmt::skip]
+fn delimiters_behind_numerals() -> Vec<Case> {
+    let inner_comma = || spoken().with_inner(b",");
+    vec![
+        case("one", total(spoken(), "five "), "2 4 + 0 0"),
+        case("two", total(spoken(), "five  "), "2 4 + 0 0"),
+        case("inner comma", total(inner_comma(), "five,,"), "2 4 + 0 0"),
+        case("inner comma, outer space", total(inner_comma(), "five, "), "15 5 + 0 0"),
+        case("sign", total(spoken(), "-five "), "2 5 + 0 0"),
+        case("second part", total(spoken(), "1s five "), "2 7 + 0 0"),
+        case("second part, from its place", part(3, spoken(), "1s five "), "2 7 + 0 0"),
+        case("shift", shift(minus(7, 5), spoken(), "five "), "2 4 + 0 0 - 7 5"),
+        case("no units", total(spoken().with_size(0), "five "), "2 4 + 0 0"),
+        case("no numeral", total(spoken(), "fives "), "6 0 + 0 0"),
+
+        case("behind the unit", total(spoken(), "five min "), "2 8 + 0 0"),
+        case("behind the unit, ago off", total(spoken().without_ago(), "five min "), "2 8 + 0 0"),
+        case("behind the unit, inner comma", total(inner_comma(), "five,min,"), "2 8 + 0 0"),
+        case("behind the unit, inner comma, ago off", total(inner_comma().without_ago(), "five,min,"), "15 5 + 0 0"),
+        case("behind ago", total(spoken(), "five min ago "), "2 12 + 0 0"),
+        case("a conjunction", total(spoken(), "five min and"), "2 9 + 0 0"),
+        case("a conjunction and delimiters", total(spoken(), "five min and "), "2 12 + 0 0"),
+        case("a conjunction and a letter", total(spoken(), "five min andx"), "2 12 + 0 0"),
+        case("a conjunction and a part", total(spoken(), "five min and x"), "6 13 + 0 0"),
+    ]
+}
+
+// 15 at the byte behind a numeral's delimiters, where step 6 finds no unit; and `ago` behind one that it finds.
+#[rustfmt::skip]
+fn numerals_without_units() -> Vec<Case> {
+    let inner_comma = || spoken().with_inner(b",");
+    let negatives_off = || spoken().without_negatives();
+    vec![
+        case("a letter", total(spoken(), "five x"), "15 5 + 0 0"),
+        case("a letter behind two delimiters", total(spoken(), "five  x"), "15 6 + 0 0"),
+        case("a digit", total(spoken(), "five 5"), "15 5 + 0 0"),
+        case("a number with a unit", total(spoken(), "five 5s"), "15 5 + 0 0"),
+        case("a sign", total(spoken(), "five -"), "15 5 + 0 0"),
+        case("a point", total(spoken(), "five .5"), "15 5 + 0 0"),
+        case("infinity", total(spoken(), "five inf"), "15 5 + 0 0"),
+        case("a conjunction", total(spoken(), "five and min"), "15 5 + 0 0"),
+        case("ago", total(spoken(), "five ago"), "15 5 + 0 0"),
+        case("another numeral", total(spoken(), "five eight s"), "15 5 + 0 0"),
+        case("the unit in another case", total(spoken(), "five Min"), "15 5 + 0 0"),
+        case("a letter more than the unit", total(spoken(), "five mins"), "15 5 + 0 0"),
+        case("a point behind the unit", total(spoken(), "five min."), "15 5 + 0 0"),
+        case("no units", total(spoken().with_size(0), "five min"), "15 5 + 0 0"),
+        case("no units, a digit", total(spoken().with_size(0), "five 5"), "15 5 + 0 0"),
+        case("an outer delimiter", total(inner_comma(), "five, min"), "15 5 + 0 0"),
+        case("sign", total(spoken(), "-five x"), "15 6 + 0 0"),
+        case("second part", total(spoken(), "1s five x"), "15 8 + 0 0"),
+        case("second part, from its place", part(3, spoken(), "1s five x"), "15 8 + 0 0"),
+        case("first part, from its place", part(0, spoken(), "1s five x"), "0 3 + 1 0"),
+        case("shift", shift(minus(7, 5), spoken(), "five x"), "15 5 + 0 0 - 7 5"),
+        case("delimiters at the end", total(spoken(), "five x "), "15 5 + 0 0"),
+        case("an exponent behind it", total(spoken(), "five x 1e99999"), "15 5 + 0 0"),
+        case("an exponent before it", total(spoken(), "1e99999 five x"), "3 6 + 0 0"),
+        case("negatives off", total(negatives_off(), "-five x"), "15 6 + 0 0"),
+        case("negatives off, negative before it", total(negatives_off(), "-1s five x"), "5 0 + 0 0"),
+
+        // Where the unit's stretch ends, and what may follow it.
+        case("ago on, an inner delimiter", total(inner_comma(), "five,min,x"), "6 8 + 0 0"),
+        case("ago off, an inner delimiter", total(inner_comma().without_ago(), "five,min,x"), "15 5 + 0 0"),
+        case("ago", total(spoken(), "five min ago"), "0 12 - 300 0"),
+        case("ago, another case", total(spoken(), "five min AgO"), "0 12 - 300 0"),
+        case("ago, minus", total(spoken(), "-five min ago"), "0 13 + 300 0"),
+        case("ago, minus, minus", total(spoken(), "-off s ago"), "0 10 - 1 0"),
+        case("ago and a letter", total(spoken(), "five min agos"), "6 9 + 0 0"),
+        case("ago and a digit", total(spoken(), "five min ago1"), "0 13 - 299 0"),
+        case("ago and a part", total(spoken(), "five min ago eight s"), "0 20 - 292 0"),
+        case("ago off", total(spoken().without_ago(), "five min ago"), "6 9 + 0 0"),
+    ]
+}
+
+// 16: each of the two products within plus or minus 9223372036854775807: 7 times `seventh` is that, 60 times `sixty` nearly.
+#[rustfmt::skip]
+fn product_coefficients() -> Vec<Case> {
+    let card = || {
+        let numerals = [
+            times("most", i64::MAX, 0), times("least", -i64::MAX, 0), times("half", -(1 << 62), 0),
+            times("seventh", 1_317_624_576_693_539_401, 0), times("more", 1_317_624_576_693_539_402, 0),
+            times("sixty", 153_722_867_280_912_930, 0), times("moresixty", 153_722_867_280_912_931, 0),
+            times("wrap", 1 << 32, 0), times("nil", 0, 0),
+        ];
+        card().with_numerals(&numerals).with_more_rows(&[
+            times("two", 2, 0), times("mtwo", -2, 0), times("seven", 7, 0), times("mseven", -7, 0),
+            times("wrap", 1 << 32, 0), times("none", 0, 0), row("nomin", 4, 0, 0).to_bytes(),
+            times("top", i64::MAX, 0), times("back", 1, -1),
+        ])
+    };
+    vec![
+        case("most", total(card(), "most s"), "0 6 + 9223372036854775807 0"),
+        case("minus most", total(card(), "least s"), "0 7 - 9223372036854775807 0"),
+        case("minus most, ago", total(card(), "least s ago"), "0 11 + 9223372036854775807 0"),
+        case("most by the row", total(card(), "seventh seven"), "0 13 + 9223372036854775807 0"),
+        case("minus most by the row", total(card(), "seventh mseven"), "0 14 - 9223372036854775807 0"),
+        case("minus most by ago", total(card(), "seventh seven ago"), "0 17 - 9223372036854775807 0"),
+        case("6 more", total(card(), "more seven"), "16 0 + 0 0"),
+        case("6 more, minus", total(card(), "more mseven"), "16 0 + 0 0"),
+        case("6 more, typed minus", total(card(), "-more seven"), "16 0 + 0 0"),
+        case("6 more, ago", total(card(), "more seven ago"), "16 0 + 0 0"),
+        case("half", total(card(), "half s"), "0 6 - 4611686018427387904 0"),
+        // Exactly -9223372036854775808, and that without its minus.
+        case("least", total(card(), "half two"), "16 0 + 0 0"),
+        case("least, typed minus", total(card(), "-half two"), "16 0 + 0 0"),
+        case("least by ago", total(card(), "half mtwo ago"), "16 0 + 0 0"),
+        case("one more than most", total(card(), "half mtwo"), "16 0 + 0 0"),
+        case("one more than most by ago", total(card(), "half two ago"), "16 0 + 0 0"),
+        case("twice most", total(card(), "most two"), "16 0 + 0 0"),
+        case("twice minus most", total(card(), "least two"), "16 0 + 0 0"),
+        case("most times most", total(card(), "most top"), "16 0 + 0 0"),
+        case("0 in 64 bits", total(card(), "wrap wrap"), "16 0 + 0 0"),
+
+        case("by the kind", total(card(), "sixty min"), "0 9 + 9223372036854775800 0"),
+        case("by the kind, over", total(card(), "moresixty min"), "16 0 + 0 0"),
+        case("by the kind, minus, over", total(card(), "-moresixty min"), "16 0 + 0 0"),
+        case("by the kind, then by none", total(card(), "sixty nomin"), "0 11 + 0 0"),
+        case("by the kind, over, then by none", total(card(), "moresixty nomin"), "16 0 + 0 0"),
+        case("by none", total(card(), "most none"), "0 9 + 0 0"),
+        case("none", total(card(), "nil top"), "0 7 + 0 0"),
+        case("none, minus", total(card(), "-nil top"), "0 8 + 0 0"),
+        // A power does not bring a coefficient back.
+        case("a tenth", total(card(), "most back"), "0 9 + 922337203685477580 700000000"),
+        case("part", part(3, card(), "1s half two"), "16 0 + 0 0"),
+        case("shift", shift(minus(7, 5), card(), "half two"), "16 0 + 0 0 - 7 5"),
+    ]
+}
+
+// 16: each of the two powers within -32768 to 32767.
+#[rustfmt::skip]
+fn product_powers() -> Vec<Case> {
+    let card = || {
+        let numerals = [times("up", 1, 32767), times("down", 1, -32768), times("nil", 0, 32767), times("one", 1, 0)];
+        card().with_numerals(&numerals).with_more_rows(&[
+            times("ten", 1, 1), times("tenth", 1, -1), times("up", 1, 32767), times("down", 1, -32768),
+            row("mten", 2, 1, 1).to_bytes(), row("mback", 2, 1, 3).to_bytes(), row("mfar", 2, 1, 4).to_bytes(),
+            row("nback", 0, 1, 9).to_bytes(), times("none", 0, 1),
+        ])
+    };
+    vec![
+        case("most", total(card(), "up s"), "0 4 + 18446744073709551615 999999999"),
+        case("one more", total(card(), "up ten"), "16 0 + 0 0"),
+        case("one less than most", total(card(), "up tenth"), "0 8 + 18446744073709551615 999999999"),
+        case("most by the row", total(card(), "one up"), "0 6 + 18446744073709551615 999999999"),
+        case("least", total(card(), "down s"), "0 6 + 0 0"),
+        case("one less", total(card(), "down tenth"), "16 0 + 0 0"),
+        case("one more than least", total(card(), "down ten"), "0 8 + 0 0"),
+        case("least by the row", total(card(), "one down"), "0 8 + 0 0"),
+        case("most and least", total(card(), "up down"), "0 7 + 0 100000000"),
+        case("least and most", total(card(), "down up"), "0 7 + 0 100000000"),
+        case("twice most", total(card(), "up up"), "16 0 + 0 0"),
+        // 65536 below zero is 0 in 16 bits.
+        case("twice least", total(card(), "down down"), "16 0 + 0 0"),
+
+        case("by the kind", total(card(), "up ms"), "0 5 + 18446744073709551615 999999999"),
+        case("by the kind, most", total(card(), "up mback"), "0 8 + 18446744073709551615 999999999"),
+        case("by the kind, one more", total(card(), "up mfar"), "16 0 + 0 0"),
+        case("by the kind, less", total(card(), "down ms"), "16 0 + 0 0"),
+        case("by the kind, less, and more by the row", total(card(), "down mten"), "16 0 + 0 0"),
+        case("by the kind, less, brought back by the row", total(card(), "down mback"), "16 0 + 0 0"),
+        case("by the kind, less, brought back beyond", total(card(), "down mfar"), "16 0 + 0 0"),
+        case("by nanoseconds, brought back by the row", total(card(), "down nback"), "16 0 + 0 0"),
+        case("of none", total(card(), "nil s"), "0 5 + 0 0"),
+        case("of none, one more", total(card(), "nil ten"), "16 0 + 0 0"),
+        case("by none", total(card(), "one none"), "0 8 + 0 0"),
+        case("by none, one more", total(card(), "up none"), "16 0 + 0 0"),
+        case("minus", total(card(), "-up ten"), "16 0 + 0 0"),
+        case("ago", total(card(), "up ten ago"), "16 0 + 0 0"),
+    ]
+}
+
+// 16 at 0: after every refusal of the same part's steps, connection included, before 5, and left to right among parts.
+#[rustfmt::skip]
+fn order_with_products() -> Vec<Case> {
+    let numerals = [times("most", i64::MAX, 0), times("five", 5, 0)];
+    let card = || card().with_numerals(&numerals).with_more_rows(&[times("two", 2, 0)]);
+    let negatives_off = || card().without_negatives();
+    vec![
+        case("delimiters", total(card(), "most "), "2 4 + 0 0"),
+        case("no unit", total(card(), "most x"), "15 5 + 0 0"),
+        case("delimiters behind the unit", total(card(), "most two "), "2 8 + 0 0"),
+        case("delimiters behind ago", total(card(), "most two ago "), "2 12 + 0 0"),
+        case("conjunction", total(card(), "most two and"), "2 9 + 0 0"),
+        case("conjunction and a letter", total(card(), "most two andx"), "2 12 + 0 0"),
+        case("conjunction and delimiters", total(card(), "most two and "), "2 12 + 0 0"),
+        case("conjunction and a part", total(card(), "most two and 1s"), "16 0 + 0 0"),
+        case("a later 6", total(card(), "most two x"), "16 0 + 0 0"),
+        case("a later 2", total(card(), "most two 1s "), "16 0 + 0 0"),
+        case("a later 15", total(card(), "most two five x"), "16 0 + 0 0"),
+        case("a later 3", total(card(), "most two 1e99999"), "16 0 + 0 0"),
+        case("an earlier 3", total(card(), "1e99999 most two"), "3 6 + 0 0"),
+        case("an earlier 6", total(card(), "x most two"), "6 0 + 0 0"),
+        case("an earlier 15", total(card(), "five x most two"), "15 5 + 0 0"),
+        case("an earlier part", total(card(), "1s most two"), "16 0 + 0 0"),
+        case("an earlier part, from its place", part(0, card(), "1s most two"), "0 3 + 1 0"),
+        case("an earlier part, shift", shift(plus(1, 0), card(), "1s most two"), "16 0 + 0 0 + 1 0"),
+        case("negatives off, negative", total(negatives_off(), "-most two"), "16 0 + 0 0"),
+        case("negatives off, negative by ago", total(negatives_off(), "most two ago"), "16 0 + 0 0"),
+        case("negatives off, in range", total(negatives_off(), "-most s"), "5 0 + 0 0"),
+        case("negatives off, an earlier 5", total(negatives_off(), "-1s most two"), "5 0 + 0 0"),
+        case("negatives off, an earlier spoken 5", total(negatives_off(), "-five s most two"), "5 0 + 0 0"),
+        case("negatives off, a later 5", total(negatives_off(), "most two -1s"), "16 0 + 0 0"),
+        case("long text", total(card(), format!("most{}two", " ".repeat(4090))), "8 4096 + 0 0"),
+        case("place", part(9, card(), "most two"), "10 9 + 0 0"),
+        case("record", shift(minus(0, 0), card(), "most two"), "11 0 + 0 0 - 0 0"),
+    ]
+}
+
+// The worth of a spoken number: 1 times its power, cut at the eighteenth decimal, times its coefficient; MAX and MIN by the sign.
+#[rustfmt::skip]
+fn spoken_worth() -> Vec<Case> {
+    let with_ten = || card().with_more_rows(&[times("ten", 1, 1)]);
+    let x = |coefficient, power| with_ten().with_numerals(&[times("x", coefficient, power)]);
+    let (max, min) = ("+ 18446744073709551615 999999999", "- 18446744073709551615 999999999");
+    let ten_digits = 10_000_000_000;
+    vec![
+        case("power -18", total(x(ten_digits, -18), "x s"), "0 3 + 0 10"),
+        case("power -18, minus", total(x(ten_digits, -18), "-x s"), "0 4 - 0 10"),
+        case("power -19", total(x(ten_digits, -19), "x s"), "0 3 + 0 0"),
+        case("power -19, most", total(x(i64::MAX, -19), "x s"), "0 3 + 0 0"),
+        case("power -18, most", total(x(i64::MAX, -18), "x s"), "0 3 + 9 223372036"),
+        case("power -19 and 1", total(x(ten_digits, -19), "x ten"), "0 5 + 0 10"),
+        case("power -9 and -9", total(x(ten_digits, -9), "x ns"), "0 4 + 0 10"),
+        case("power -10 and -9", total(x(ten_digits, -10), "x ns"), "0 4 + 0 0"),
+        case("just below a nanosecond", total(x(999_999_999, -18), "x s"), "0 3 + 0 0"),
+        case("just below a nanosecond, minus", total(x(999_999_999, -18), "-x s"), "0 4 + 0 0"),
+        case("just a nanosecond", total(x(1_000_000_000, -18), "x s"), "0 3 + 0 1"),
+        case("just below two", total(x(1_999_999_999, -18), "x s"), "0 3 + 0 1"),
+        case("power -9", total(x(1_999_999_999, -9), "x s"), "0 3 + 1 999999999"),
+        case("power -1", total(x(i64::MAX, -1), "x s"), "0 3 + 922337203685477580 700000000"),
+        case("power 0", total(x(1, 0), "x s"), "0 3 + 1 0"),
+        case("power 1", total(x(1_844_674_407_370_955_161, 1), "x s"), "0 3 + 18446744073709551610 0"),
+        case("power 1, over", total(x(1_844_674_407_370_955_162, 1), "x s"), format!("0 3 {max}")),
+        case("power 1, minus", total(x(1_844_674_407_370_955_161, 1), "-x s"), "0 4 - 18446744073709551610 0"),
+        case("power 1, minus, over", total(x(1_844_674_407_370_955_162, 1), "-x s"), format!("0 4 {min}")),
+        case("power 18", total(x(18, 18), "x s"), "0 3 + 18000000000000000000 0"),
+        case("power 18, over", total(x(19, 18), "x s"), format!("0 3 {max}")),
+        case("power 19", total(x(1, 19), "x s"), "0 3 + 10000000000000000000 0"),
+        case("power 19, minus", total(x(1, 19), "-x s"), "0 4 - 10000000000000000000 0"),
+        case("power 19, over", total(x(2, 19), "x s"), format!("0 3 {max}")),
+        case("power 19, minus, over", total(x(2, 19), "-x s"), format!("0 4 {min}")),
+        // Above the nineteenth power the sign counts as it does below.
+        case("power 20", total(x(1, 20), "x s"), format!("0 3 {max}")),
+        case("power 20, plus", total(x(1, 20), "+x s"), format!("0 4 {max}")),
+        case("power 20, minus", total(x(1, 20), "-x s"), format!("0 4 {min}")),
+        case("power 20, ago", total(x(1, 20), "x s ago"), format!("0 7 {min}")),
+        case("power 20, minus, ago", total(x(1, 20), "-x s ago"), format!("0 8 {max}")),
+        case("power 20, negative", total(x(-1, 20), "x s"), format!("0 3 {min}")),
+        case("power 20, negative, minus", total(x(-1, 20), "-x s"), format!("0 4 {max}")),
+        case("power 20, negative, ago", total(x(-1, 20), "x s ago"), format!("0 7 {max}")),
+        case("power 20, negative, minus, ago", total(x(-1, 20), "-x s ago"), format!("0 8 {min}")),
+        case("power 20, none", total(x(0, 20), "-x s"), "0 4 + 0 0"),
+        case("power 20 by the row", total(x(1, 19), "-x ten"), format!("0 6 {min}")),
+        case("power 20 and -3", total(x(1, 20), "-x ms"), "0 5 - 100000000000000000 0"),
+        case("power 20, two parts", total(x(1, 20), "-x s x s"), "0 8 + 0 0"),
+        case("power 20, shift", shift(plus(5, 0), x(1, 20), "-x s"),
+            "0 4 - 18446744073709551610 999999999 - 18446744073709551610 999999999"),
+    ]
+}
+
+// 5 of a spoken part: by its sign, its numeral, its unit or `ago`, unless it comes to zero.
+#[rustfmt::skip]
+fn spoken_negatives() -> Vec<Case> {
+    let numerals = [times("big", 1, 20), times("low", -1, 20), times("small", 1, -18)];
+    let big = || card().with_numerals(&numerals).without_negatives();
+    let card = || spoken().without_negatives().with_more_rows(&[times("back", -1, 0)]);
+    vec![
+        case("plus", total(card(), "+five min"), "0 9 + 300 0"),
+        case("minus", total(card(), "-five min"), "5 0 + 0 0"),
+        case("by the numeral", total(card(), "off s"), "5 0 + 0 0"),
+        case("by both", total(card(), "-off s"), "0 6 + 1 0"),
+        case("by the unit", total(card(), "five back"), "5 0 + 0 0"),
+        case("by numeral and unit", total(card(), "off back"), "0 8 + 1 0"),
+        case("by ago", total(card(), "five min ago"), "5 0 + 0 0"),
+        case("by numeral and ago", total(card(), "off s ago"), "0 9 + 1 0"),
+        case("none, minus", total(card(), "-nil s"), "0 6 + 0 0"),
+        case("none, ago", total(card(), "nil s ago"), "0 9 + 0 0"),
+        case("cut to zero, minus", total(big(), "-small s"), "0 8 + 0 0"),
+        case("power 20, minus", total(big(), "-big s"), "5 0 + 0 0"),
+        case("power 20, negative", total(big(), "low s"), "5 0 + 0 0"),
+        case("power 20, negative, minus", total(big(), "-low s"), "0 6 + 18446744073709551615 999999999"),
+        case("second part", total(card(), "five min -five s"), "5 0 + 0 0"),
+        case("part", part(9, card(), "five min -five s"), "5 0 + 0 0"),
+        case("first part", part(0, card(), "five min -five s"), "0 9 + 300 0"),
+        case("shift", shift(plus(7, 5), card(), "-five s"), "5 0 + 0 0 + 7 5"),
+        case("a conjunction", total(card(), "-five min and"), "2 10 + 0 0"),
+        case("a later 6", total(card(), "-five min and x"), "5 0 + 0 0"),
+        case("a later 15", total(card(), "-five min five x"), "5 0 + 0 0"),
+    ]
+}
+
+// A numeral that begins where a unit's lookup failed: with ago off the unit's stretch went on behind an inner delimiter, and
+// the numeral's does not; read from its own place, the part is the same.
+#[rustfmt::skip]
+fn where_a_lookup_failed() -> Vec<Case> {
+    let on = || spoken().with_inner(b",_").with_outer(b" _");
+    let off = || on().without_ago();
+    let mut cases = vec![
+        case("ago off, stretch to a space", part(1, off(), "1five,min 1"), "0 10 + 300 0"),
+        case("ago off, first part", part(0, off(), "1five,min"), "0 1 + 1 0"),
+        case("ago off, second part", part(1, off(), "1five,min"), "0 9 + 300 0"),
+        case("ago off, second part, to both", part(1, off(), "1five,min_1"), "0 10 + 300 0"),
+        case("ago off, shift", shift(plus(1, 0), off(), "1five,min"), "0 9 + 302 0 + 302 0"),
+        case("ago off, no units", total(off().with_size(0), "1five,min"), "15 6 + 0 0"),
+        case("ago off, no numeral", total(off(), "1fives,min"), "6 1 + 0 0"),
+        case("ago off, third part", total(off(), "1five,min 1five,s"), "0 17 + 307 0"),
+    ];
+    for (which, card) in [("ago on", on()), ("ago off", off())] {
+        let with = |what: &str| format!("{which}, {what}");
+        cases.extend([
+            case(with("alone"), total(card.clone(), "five,min"), "0 8 + 300 0"),
+            case(with("behind a space"), total(card.clone(), "1 five,min"), "0 10 + 301 0"),
+            case(with("behind a comma"), total(card.clone(), "1,five,min"), "0 10 + 301 0"),
+            case(with("behind a sign"), total(card.clone(), "1+five,min"), "0 10 + 301 0"),
+            case(with("to the end"), total(card.clone(), "1five,min"), "0 9 + 301 0"),
+            case(with("to a space"), total(card.clone(), "1five,min 1"), "0 11 + 302 0"),
+            case(with("to a sign"), total(card.clone(), "1five,min+1"), "0 11 + 302 0"),
+            case(with("to a digit"), total(card.clone(), "1five,min1"), "0 10 + 302 0"),
+            case(with("to a low line"), total(card.clone(), "1five,min_1"), "0 11 + 302 0"),
+            case(with("no unit"), total(card.clone(), "1five,x"), "15 6 + 0 0"),
+            case(with("delimiters"), total(card.clone(), "1five,"), "2 5 + 0 0"),
+            case(with("delimiters, behind a comma"), total(card, "1,five,"), "2 6 + 0 0"),
+        ]);
+    }
+    cases
 }

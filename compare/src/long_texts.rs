@@ -3,6 +3,7 @@
 
 use crate::plain::MOST_TEXT_BYTES;
 use crate::request::{Card, Request};
+use crate::table::{ROW_BYTES, Row};
 
 /// The largest size from both sides, and one well beyond it.
 const SIZES: [usize; 4] = [
@@ -47,7 +48,8 @@ fn runs(card: &Card, size: usize) -> Vec<Vec<u8>> {
     texts
 }
 
-/// Both signs, all digits, all delimiters, and short parts in a row.
+/// Both signs, all digits, all delimiters, and short parts in a row, of numbers
+/// and of a numeral.
 fn patterns(card: &Card) -> Vec<Vec<u8>> {
     let mut patterns: Vec<Vec<u8>> = ["+-", "1234567890", "+1", ".5", "1e1+", "inf "]
         .iter()
@@ -57,7 +59,22 @@ fn patterns(card: &Card) -> Vec<Vec<u8>> {
     if !delimiters.is_empty() {
         patterns.push(delimiters);
     }
+    patterns.extend(spoken(card));
     patterns
+}
+
+/// The card's first numeral with its first unit, if a part of them can be read.
+fn spoken(card: &Card) -> Option<Vec<u8>> {
+    let first_row = |table: &[u8]| table.chunks(ROW_BYTES).next().and_then(Row::from_bytes);
+    let (numeral, unit) = (first_row(&card.numerals)?, first_row(&card.table)?);
+    let (inner, outer) = (card.inner.bytes(), card.outer.bytes());
+    let part = [
+        &numeral.name,
+        inner.first_chunk::<1>()?.as_slice(),
+        &unit.name,
+        outer.get(..1).unwrap_or(b"+"),
+    ];
+    Some(part.concat())
 }
 
 fn filled(pattern: &[u8], size: usize) -> Vec<u8> {

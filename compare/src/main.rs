@@ -15,6 +15,7 @@ mod iso_antt;
 mod iso_lengths;
 mod iso_list;
 mod iso_texts;
+mod left_out;
 mod limits;
 mod lines;
 mod long_texts;
@@ -31,6 +32,7 @@ mod replay;
 mod request;
 mod rng;
 mod round;
+mod spoken;
 mod stored;
 mod table;
 mod tally;
@@ -49,7 +51,7 @@ usage: compare make SEED COUNT          make requests
        compare plain                    the plain reading's answers to the same
        compare agree SEED COUNT         make requests and compare the two
        compare check                    document 01's readings of card A, asked of the crate
-       compare points                   the points document 01 reads, crate against plain
+       compare points                   the points on which the papers are silent, crate against plain
        compare untypable                all short texts with a unit that nobody could type, of the crate alone
        compare evaluations              numbers and multipliers with the crate's lengths
        compare tally REQUESTS ANSWERS   count the lines of two files

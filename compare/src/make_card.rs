@@ -1,8 +1,11 @@
-//! Making cards and tables that document 01 accepts, request two counted in.
+//! Making cards and tables that document 01 accepts, requests two and four
+//! counted in.
 
 use crate::request::{ByteSet, Card, Conjunctions, Switches};
 use crate::rng::Random;
-use crate::table::{KINDS, MOST_ROWS, NAME_BYTES, Row, is_led_by_e, table_bytes};
+use crate::table::{
+    KINDS, MOST_NUMERALS, MOST_ROWS, NAME_BYTES, NUMERAL_KIND, Row, is_led_by_e, table_bytes,
+};
 
 /// Delimiters that people use, and a few that they do not: NUL and delete.
 const COMMON_DELIMITERS: &[u8] = b" \t\n\0,;:_/|&\x7f";
@@ -56,6 +59,42 @@ const COMMON_NAMES: &[&str] = &[
     "éééééééé",
 ];
 
+/// Numerals that get in the way of units, words, infinity, `ago`, exponents and
+/// each other: prefixes, other cases, one letter, sixteen.
+const COMMON_NUMERALS: &[&str] = &[
+    "five",
+    "fiv",
+    "fi",
+    "f",
+    "Five",
+    "fives",
+    "one",
+    "on",
+    "a",
+    "an",
+    "and",
+    "half",
+    "next",
+    "s",
+    "ms",
+    "min",
+    "inf",
+    "Inf",
+    "infinity",
+    "infi",
+    "in",
+    "i",
+    "ago",
+    "AGO",
+    "e",
+    "E",
+    "eleven",
+    "Eight",
+    "abcdefghijklmnop",
+    "abcdefghijklmno",
+    "ABCDEFGHIJKLMNOP",
+];
+
 /// Signs that may stand in a name as long as they are no delimiters.
 const NAME_ODDITIES: &[char] = &['/', ' ', '_', '\0', ',', '%', '\u{7f}', '€'];
 
@@ -69,9 +108,14 @@ pub fn make_card(random: &mut Random) -> Card {
         conjunctions: Conjunctions::of(&words),
         kind: make_kind(random),
         table: Vec::new(),
+        numerals: Vec::new(),
     };
     // Which names are allowed depends on all the rest.
-    card.table = table_bytes(&make_rows(random, &card, &words));
+    let rows = make_rows(random, &card, &words);
+    card.table = table_bytes(&rows);
+    if random.chance(50) {
+        card.numerals = table_bytes(&make_numerals(random, &rows, &words));
+    }
     card
 }
 
@@ -92,6 +136,16 @@ pub fn make_small_card(random: &mut Random) -> Card {
     }
     card.conjunctions = Conjunctions::of(&words);
     card.table = table_bytes(&rows);
+    if !card.numerals.is_empty() {
+        let mut numerals: Vec<Row> = Vec::new();
+        for _ in 0..=random.below(3) {
+            let name = random.pick(&letters[..4]).as_bytes().to_vec();
+            if numerals.iter().all(|numeral| numeral.name != name) {
+                numerals.push(make_numeral(random, name, &rows));
+            }
+        }
+        card.numerals = table_bytes(&numerals);
+    }
     card
 }
 
@@ -273,11 +327,95 @@ fn make_row(random: &mut Random, name: Vec<u8>) -> Row {
     }
 }
 
+/// One to 32 numerals, most of the time a few.
+fn make_numerals(random: &mut Random, rows: &[Row], words: &[Vec<u8>]) -> Vec<Row> {
+    let wanted = match random.below(100) {
+        0..=69 => 1 + random.below(4),
+        70..=95 => 5 + random.below(5),
+        96..=98 => 10 + random.below(MOST_NUMERALS as u64 - 10),
+        _ => MOST_NUMERALS as u64,
+    };
+    let mut numerals: Vec<Row> = Vec::new();
+    while (numerals.len() as u64) < wanted {
+        let name = make_numeral_name(random, &numerals, rows, words);
+        let is_new = numerals.iter().all(|numeral| numeral.name != name);
+        if is_new && (1..=NAME_BYTES).contains(&name.len()) {
+            numerals.push(make_numeral(random, name, rows));
+        }
+    }
+    numerals
+}
+
+fn make_numeral_name(
+    random: &mut Random,
+    earlier: &[Row],
+    rows: &[Row],
+    words: &[Vec<u8>],
+) -> Vec<u8> {
+    let mut name = match random.below(20) {
+        0..=8 => random.pick(COMMON_NUMERALS).as_bytes().to_vec(),
+        9..=11 if !rows.is_empty() => random.pick(rows).name.clone(),
+        12..=13 if !words.is_empty() => random.pick(words).clone(),
+        14..=16 if !earlier.is_empty() => random.pick(earlier).name.clone(),
+        17 => random_letters(random, NAME_BYTES as u64),
+        _ => random_letters(random, 5),
+    };
+    // A neighbour of the same name: longer, shorter, or in another case.
+    match random.below(10) {
+        0..=1 => name.push(random_letter(random)),
+        2..=3 => {
+            name.pop();
+        }
+        4 => name.iter_mut().for_each(|letter| *letter ^= 32),
+        _ => {}
+    }
+    // Of a unit's name only the letters can be a numeral's.
+    name.retain(u8::is_ascii_alphabetic);
+    name
+}
+
+fn make_numeral(random: &mut Random, name: Vec<u8>, rows: &[Row]) -> Row {
+    let mut numeral = Row {
+        name,
+        kind: NUMERAL_KIND,
+        coefficient: make_coefficient(random, i64::MAX),
+        power: make_power(random, 0),
+    };
+    if !rows.is_empty() && random.chance(40) {
+        let row = random.pick(rows);
+        meet_limits(random, &mut numeral, row);
+    }
+    numeral
+}
+
+/// Changes a numeral so that one of its two products with a row, the one with
+/// the kind alone or the one with the row too, comes to a limit or beside it.
+fn meet_limits(random: &mut Random, numeral: &mut Row, row: &Row) {
+    let (mut coefficient, power) = KINDS[usize::from(row.kind)];
+    let mut power = i64::from(power);
+    if random.chance(70) {
+        coefficient *= row.coefficient;
+        power += i64::from(row.power);
+    }
+    if coefficient != 0 && random.chance(50) {
+        // Where the factor is a power of two this comes to 2^63 itself.
+        let limit = (1_u64 << 63) / coefficient.unsigned_abs();
+        let beside = limit.saturating_add_signed(*random.pick(&[-1, 0, 0, 1]));
+        let size = i64::try_from(beside).unwrap_or(i64::MAX);
+        numeral.coefficient = if random.chance(50) { -size } else { size };
+    } else {
+        let limit = *random.pick(&[i64::from(i16::MIN), -18, 0, 19, i64::from(i16::MAX)]);
+        let beside = limit + random.between(-2, 2) - power;
+        numeral.power = beside.clamp(i64::from(i16::MIN), i64::from(i16::MAX)) as i16;
+    }
+}
+
 /// A coefficient between `-limit` and `limit`.
 fn make_coefficient(random: &mut Random, limit: i64) -> i64 {
     let size = match random.below(20) {
         0 => 0,
-        1..=8 => 1,
+        1..=6 => 1,
+        7..=8 => 1 << random.below(63),
         9..=11 => random.between(2, 1_000),
         12 => 10_i64.pow(random.below(13) as u32),
         13..=14 => limit,

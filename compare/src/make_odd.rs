@@ -7,7 +7,10 @@ use crate::make::Maker;
 use crate::plain::MOST_TEXT_BYTES;
 use crate::request::{ByteSet, Card, Request};
 use crate::rng::Random;
-use crate::table::ROW_BYTES;
+use crate::table::{MOST_NUMERALS, NUMERAL_KIND, ROW_BYTES, Row};
+
+/// Names that are not of letters alone.
+const ODD_NUMERALS: &[&str] = &["fi ve", "f1", "+", "a.", "µs", "a@", "`"];
 
 /// One request in so many has a long text, which takes much room and time.
 const REQUESTS_TO_A_LONG_ONE: u64 = 500;
@@ -54,7 +57,7 @@ impl Iterator for OddMaker {
 fn spoil(random: &mut Random, card: &mut Card) {
     let byte = random.below(256) as u8;
     let slot = random.below(4) as usize;
-    match random.below(12) {
+    match random.below(16) {
         0 => card.inner = with_byte(&card.inner, byte),
         1 => card.outer = with_byte(&card.outer, byte),
         2 => card.conjunctions.count = *random.pick(&[1, 2, 3, 4, 5, 6, byte]),
@@ -68,13 +71,51 @@ fn spoil(random: &mut Random, card: &mut Card) {
             card.table.extend_from_within(..size);
         }
         8..=9 => put_in_led_by_e(random, card),
-        _ => {
-            if !card.table.is_empty() {
-                let place = random.below(card.table.len() as u64) as usize;
-                card.table[place] = *random.pick(&[0, 1, 8, 127, 128, 255, byte]);
-            }
+        10..=11 => change_byte(random, &mut card.table),
+        12 => {
+            let size = match random.below(4) {
+                0 => random.below(1_100) as usize,
+                1 => ROW_BYTES * (MOST_NUMERALS + 1),
+                _ => card.numerals.len() + 1 + random.below(ROW_BYTES as u64 - 1) as usize,
+            };
+            card.numerals.resize(size, 0);
         }
+        13 => {
+            let size = card.numerals.len().min(ROW_BYTES);
+            card.numerals.extend_from_within(..size);
+        }
+        14 => put_in_a_bad_numeral(random, card),
+        _ => change_byte(random, &mut card.numerals),
     }
+}
+
+/// Changes a byte of a table, if it has any.
+fn change_byte(random: &mut Random, table: &mut [u8]) {
+    if !table.is_empty() {
+        let place = random.below(table.len() as u64) as usize;
+        let byte = random.below(256) as u8;
+        table[place] = *random.pick(&[0, 1, 2, 3, 4, 8, 127, 128, 255, byte]);
+    }
+}
+
+/// Puts a numeral in at any row that is nearly right: of another kind, with a
+/// name that is not of letters alone, or with the least coefficient.
+fn put_in_a_bad_numeral(random: &mut Random, card: &mut Card) {
+    let good = row("five", NUMERAL_KIND, 5, 0);
+    let bad = match random.below(3) {
+        0 => Row {
+            kind: *random.pick(&[0, 2, 4, 255]),
+            ..good
+        },
+        1 => Row {
+            coefficient: i64::MIN,
+            ..good
+        },
+        _ => row(*random.pick(ODD_NUMERALS), NUMERAL_KIND, 5, 0),
+    };
+    let rows = card.numerals.len() / ROW_BYTES;
+    let place = random.below(rows as u64 + 1) as usize * ROW_BYTES;
+    card.numerals.splice(place..place, bad.to_bytes());
 }
 
 /// Switches exponents off, mostly takes the delimiter before units away too,

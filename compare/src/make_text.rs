@@ -13,6 +13,9 @@ pub const MOST_TEXT_BYTES: usize = 200;
 const EXPONENT_TOP: i64 = i16::MAX as i64;
 const EXPONENT_BOTTOM: i64 = i16::MIN as i64;
 
+/// What may stand where a unit should and is mostly none.
+const STRANGERS: &[&[u8]] = &[b"q", b"sx", b"ago", b"e", b"in"];
+
 /// Bytes and letters that a damaged text may suddenly hold.
 const DAMAGE: &[char] = &[
     '0', '1', '9', '+', '-', '.', 'e', 'E', 'i', 'n', 'f', 'a', 'g', 'o', 's', ' ', '\0', '\t',
@@ -29,6 +32,7 @@ pub struct MadeText {
 pub struct Offer {
     card: Card,
     rows: Vec<Row>,
+    numerals: Vec<Row>,
     words: Vec<Vec<u8>>,
     inner: Vec<u8>,
     outer: Vec<u8>,
@@ -36,11 +40,8 @@ pub struct Offer {
 
 impl Offer {
     pub fn new(card: Card) -> Self {
-        let rows = card
-            .table
-            .chunks(ROW_BYTES)
-            .filter_map(Row::from_bytes)
-            .collect();
+        let rows = rows_of(&card.table);
+        let numerals = rows_of(&card.numerals);
         let words = card
             .conjunctions
             .words()
@@ -51,6 +52,7 @@ impl Offer {
         Self {
             card,
             rows,
+            numerals,
             words,
             inner,
             outer,
@@ -62,13 +64,15 @@ impl Offer {
     }
 
     /// An alphabet for all short texts: a digit, a sign, the point, the
-    /// exponent's letter, a delimiter, first letters of a name and of a word.
+    /// exponent's letter, a delimiter, first letters of a name, of a numeral and
+    /// of a word.
     pub fn alphabet(&self, random: &mut Random, size: usize) -> Vec<char> {
         let mut letters = vec![*random.pick(&['1', '0', '5'])];
         let mut others = vec![*random.pick(&['+', '-']), '.', 'e'];
         others.extend(self.inner.first().map(|byte| char::from(*byte)));
         others.extend(self.outer.first().map(|byte| char::from(*byte)));
-        let names = self.rows.iter().map(|row| row.name.as_slice());
+        let rows = self.rows.iter().chain(&self.numerals);
+        let names = rows.map(|row| row.name.as_slice());
         for name in names.chain(self.words.iter().map(Vec::as_slice)) {
             let first = std::str::from_utf8(name)
                 .ok()
@@ -83,6 +87,11 @@ impl Offer {
         }
         letters
     }
+}
+
+fn rows_of(table: &[u8]) -> Vec<Row> {
+    let rows = table.chunks(ROW_BYTES);
+    rows.filter_map(Row::from_bytes).collect()
 }
 
 pub fn make_text(random: &mut Random, offer: &Offer) -> MadeText {
@@ -136,6 +145,7 @@ enum Beginning {
     Free,
     SignOrDigit,
     Sign,
+    Numeral,
 }
 
 struct TextMaker<'a> {
@@ -187,10 +197,14 @@ impl TextMaker<'_> {
 
     fn part(&mut self, beginning: Beginning) -> Ending {
         let allowed = self.offer.card.switches.infinity || !self.careful;
-        if allowed && self.random.chance(8) && beginning != Beginning::SignOrDigit {
+        let is_free = !matches!(beginning, Beginning::SignOrDigit | Beginning::Numeral);
+        if allowed && self.random.chance(8) && is_free {
             self.sign(beginning, false);
             self.infinity();
             return Ending::Infinity;
+        }
+        if beginning == Beginning::Numeral || self.can_speak() && self.random.chance(50) {
+            return self.spoken(beginning);
         }
         let unit = self.choose_unit();
         let ago = unit.is_some() && self.wants_ago();
@@ -200,10 +214,7 @@ impl TextMaker<'_> {
         self.number(coefficient, power, beginning, led_by_e);
         let Some(unit) = unit else {
             if !self.careful && self.random.chance(10) {
-                let stranger = *self
-                    .random
-                    .pick(&[b"q".as_slice(), b"sx", b"ago", b"e", b"in"]);
-                self.bytes.extend_from_slice(stranger);
+                self.stranger();
             }
             return Ending::Number;
         };
@@ -218,6 +229,107 @@ impl TextMaker<'_> {
             self.ago();
         }
         Ending::Unit
+    }
+
+    /// Whether a numeral is to be considered, which can be read only with an
+    /// inner delimiter and a unit behind it.
+    fn can_speak(&self) -> bool {
+        let possible = !self.offer.inner.is_empty() && !self.offer.rows.is_empty();
+        !self.offer.numerals.is_empty() && (possible || !self.careful)
+    }
+
+    /// A part with a numeral. Directly behind a unit or a word it needs a sign;
+    /// directly behind a number it does not.
+    fn spoken(&mut self, beginning: Beginning) -> Ending {
+        let numeral = self.random.pick(&self.offer.numerals).clone();
+        let unit = match self.offer.rows.as_slice() {
+            [] => None,
+            rows => Some(self.random.pick(rows).clone()),
+        };
+        let ago = unit.is_some() && self.wants_ago();
+        let (coefficient, _) = self.product(unit.as_ref());
+        let beginning = match beginning {
+            Beginning::SignOrDigit => Beginning::Sign,
+            other => other,
+        };
+        let turned = (coefficient < 0) != (numeral.coefficient < 0);
+        self.sign(beginning, turned != ago);
+        self.numeral_name(&numeral.name);
+        if self.careful || self.random.chance(85) {
+            self.inner_run();
+        } else {
+            self.odd_run();
+        }
+        match unit {
+            Some(unit) if self.careful || self.random.chance(75) => {
+                self.bytes.extend_from_slice(&unit.name);
+            }
+            _ => self.no_unit(),
+        }
+        if ago {
+            self.ago();
+        }
+        Ending::Unit
+    }
+
+    /// The name of a numeral; a reckless one may be in another case, shorter or
+    /// longer, or have something behind it that is no inner delimiter.
+    fn numeral_name(&mut self, name: &[u8]) {
+        if self.careful || self.random.chance(70) {
+            self.bytes.extend_from_slice(name);
+            return;
+        }
+        match self.random.below(5) {
+            0 => self.bytes.extend(name.iter().map(|letter| letter ^ 32)),
+            1 => self.bytes.extend_from_slice(&name[..name.len() - 1]),
+            2 => {
+                self.bytes.extend_from_slice(name);
+                self.bytes.push(*self.random.pick(b"xs5+-.e"));
+            }
+            3 => {
+                self.bytes.extend_from_slice(name);
+                self.outer_run();
+            }
+            _ => self.in_mixed_case(name),
+        }
+    }
+
+    /// Something else where inner delimiters should stand: nothing, outer ones,
+    /// or both.
+    fn odd_run(&mut self) {
+        match self.random.below(4) {
+            0 => {}
+            1 => self.outer_run(),
+            2 => {
+                self.outer_run();
+                self.inner_run();
+            }
+            _ => {
+                self.inner_run();
+                self.outer_run();
+            }
+        }
+    }
+
+    /// Something else where the unit of a numeral should stand: nothing, a
+    /// number, a sign, another numeral or any letters.
+    fn no_unit(&mut self) {
+        match self.random.below(6) {
+            0 => {}
+            1 => self.bytes.push(*self.random.pick(b"0159.")),
+            2 => self.bytes.push(*self.random.pick(b"+-")),
+            3 => {
+                let numeral = self.random.pick(&self.offer.numerals);
+                self.bytes.extend_from_slice(&numeral.name);
+            }
+            4 => self.word(),
+            _ => self.stranger(),
+        }
+    }
+
+    fn stranger(&mut self) {
+        let letters = *self.random.pick(STRANGERS);
+        self.bytes.extend_from_slice(letters);
     }
 
     /// Whether something behind a switch is to be considered.
@@ -353,10 +465,11 @@ impl TextMaker<'_> {
         }
         let no_delimiters = self.offer.outer.is_empty();
         if ending != Ending::Infinity && (no_delimiters || self.random.chance(30)) {
-            return if ending == Ending::Unit {
-                Beginning::SignOrDigit
-            } else {
-                Beginning::Sign
+            return match ending {
+                Ending::Unit => Beginning::SignOrDigit,
+                // A numeral may follow a number directly.
+                _ if self.can_speak() && self.random.chance(30) => Beginning::Numeral,
+                _ => Beginning::Sign,
             };
         }
         self.outer_run();

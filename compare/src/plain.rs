@@ -1,12 +1,13 @@
 //! A plain reading of document 01, written from its words: the acceptance of
 //! settings and table, the steps of a part, the evaluation, the total, the
-//! writer and the shift total. The words of requests two and three are among
-//! them: a unit that nobody could type is not accepted, and an exponent out of
-//! range is refused at the digit with which it is.
+//! writer and the shift total. The words of requests two, three and four are
+//! among them: a unit that nobody could type is not accepted, an exponent out of
+//! range is refused at the digit with which it is, and a numeral may stand for a
+//! number.
 
 use crate::natural::Natural;
 use crate::request::{Answer, ByteSet, Card, Length, Request, bytes_field};
-use crate::table::{KINDS, MOST_ROWS, ROW_BYTES, Row, is_led_by_e};
+use crate::table::{KINDS, MOST_NUMERALS, MOST_ROWS, NUMERAL_KIND, ROW_BYTES, Row, is_led_by_e};
 
 pub const MOST_TEXT_BYTES: usize = 4_096;
 const MOST_CONJUNCTIONS: usize = 4;
@@ -49,14 +50,14 @@ pub fn total(card: &Card, text: &[u8]) -> Answer {
 }
 
 pub fn part(card: &Card, text: &[u8], place: u64) -> Answer {
-    let read = accepted(card).and_then(|rows| {
+    let read = accepted(card).and_then(|tables| {
         check_text_size(text)?;
         let place = match usize::try_from(place) {
             Ok(inside) if inside <= text.len() => inside,
             // The place is handed back as it came, however large.
             _ => return Ok(Answer::refusal(10, place)),
         };
-        let reader = Reader { card, rows, text };
+        let reader = Reader { card, tables, text };
         let (length, next) = reader.length_at(place)?;
         Ok(Answer::success(next as u64, length))
     });
@@ -103,12 +104,12 @@ fn as_answer(outcome: Result<Answer, Refusal>) -> Answer {
 /// The total of a text, checks in the document's order: 7, 11 if a record is
 /// lent, 8, then left to right.
 fn read_total(card: &Card, text: &[u8], record: Option<Length>) -> Result<Answer, Refusal> {
-    let rows = accepted(card)?;
+    let tables = accepted(card)?;
     if record.is_some_and(is_malformed) {
         return refuse(11, 0);
     }
     check_text_size(text)?;
-    let reader = Reader { card, rows, text };
+    let reader = Reader { card, tables, text };
     let mut total = Length::ZERO;
     let mut place = 0;
     loop {
@@ -128,9 +129,15 @@ fn check_text_size(text: &[u8]) -> Result<(), Refusal> {
     Ok(())
 }
 
-// Settings and table.
+// Settings and tables.
 
-/// Whether document 01 accepts the settings and the table.
+/// The rows of both tables of an accepted card.
+struct Tables {
+    units: Vec<Row>,
+    numerals: Vec<Row>,
+}
+
+/// Whether document 01 accepts the settings and the tables.
 pub fn accepts(card: &Card) -> bool {
     accepted(card).is_ok()
 }
@@ -144,7 +151,7 @@ pub fn check(card: &Card) -> (u8, usize) {
 }
 
 /// The rows of an accepted card, or refusal 7.
-fn accepted(card: &Card) -> Result<Vec<Row>, Refusal> {
+fn accepted(card: &Card) -> Result<Tables, Refusal> {
     if !delimiters_are_right(&card.inner) || !delimiters_are_right(&card.outer) {
         return refuse(7, 65);
     }
@@ -157,14 +164,24 @@ fn accepted(card: &Card) -> Result<Vec<Row>, Refusal> {
     if card.table.len() % ROW_BYTES != 0 || card.table.len() / ROW_BYTES > MOST_ROWS {
         return refuse(7, 64);
     }
-    let mut rows: Vec<Row> = Vec::new();
+    let mut units: Vec<Row> = Vec::new();
     for bytes in card.table.chunks(ROW_BYTES) {
         match Row::from_bytes(bytes) {
-            Some(row) if row_is_right(&row, card, &rows) => rows.push(row),
-            _ => return refuse(7, rows.len()),
+            Some(row) if row_is_right(&row, card, &units) => units.push(row),
+            _ => return refuse(7, units.len()),
         }
     }
-    Ok(rows)
+    if card.numerals.len() % ROW_BYTES != 0 || card.numerals.len() / ROW_BYTES > MOST_NUMERALS {
+        return refuse(7, 100);
+    }
+    let mut numerals: Vec<Row> = Vec::new();
+    for bytes in card.numerals.chunks(ROW_BYTES) {
+        match Row::from_bytes(bytes) {
+            Some(row) if numeral_is_right(&row, &numerals) => numerals.push(row),
+            _ => return refuse(7, 68 + numerals.len()),
+        }
+    }
+    Ok(Tables { units, numerals })
 }
 
 fn delimiters_are_right(set: &ByteSet) -> bool {
@@ -189,23 +206,27 @@ fn conjunctions_are_right(card: &Card) -> bool {
 }
 
 fn row_is_right(row: &Row, card: &Card, earlier: &[Row]) -> bool {
-    let Some((kind_coefficient, kind_power)) = KINDS.get(usize::from(row.kind)) else {
+    if usize::from(row.kind) >= KINDS.len() {
         return false;
-    };
+    }
     let name_can_be_read = row.name.iter().all(|byte| {
         !card.inner.holds(*byte)
             && !card.outer.holds(*byte)
             && !is_digit_or_sign(*byte)
             && *byte != b'.'
     });
-    let product = Natural::of(kind_coefficient.unsigned_abs())
-        .times(&Natural::of(row.coefficient.unsigned_abs()));
-    let power = i64::from(*kind_power) + i64::from(row.power);
     name_can_be_read
         && earlier.iter().all(|other| other.name != row.name)
-        && product <= Natural::of(9_223_372_036_854_775_807)
-        && (-32_768..=32_767).contains(&power)
+        && of_kind(row.kind).times(&of_row(row)).is_in_range()
         && name_can_be_typed(&row.name, card)
+}
+
+/// A numeral may have the name of a unit, of a conjunction or of infinity.
+fn numeral_is_right(row: &Row, earlier: &[Row]) -> bool {
+    row.kind == NUMERAL_KIND
+        && row.name.iter().all(u8::is_ascii_alphabetic)
+        && earlier.iter().all(|other| other.name != row.name)
+        && of_kind(row.kind).times(&of_row(row)).is_in_range()
 }
 
 /// Directly after a number `e` and `E` begin an exponent, so a name led by one
@@ -245,6 +266,10 @@ enum Body<'a> {
         number: Number<'a>,
         unit: Option<Unit<'a>>,
     },
+    Spoken {
+        numeral: &'a Row,
+        unit: Unit<'a>,
+    },
 }
 
 struct Number<'a> {
@@ -261,19 +286,20 @@ struct Unit<'a> {
 
 struct Reader<'a> {
     card: &'a Card,
-    rows: Vec<Row>,
+    tables: Tables,
     text: &'a [u8],
 }
 
 impl<'a> Reader<'a> {
-    /// Reads the part at a place to its end, evaluates it, and only then tests
-    /// whether it may be negative. Gives its length and the next place.
+    /// Reads the part at a place to its end, evaluates it, which may refuse a
+    /// spoken number, and only then tests whether it may be negative. Gives its
+    /// length and the next place.
     fn length_at(&self, place: usize) -> Result<(Length, usize), Refusal> {
         if place == self.text.len() {
             return refuse(1, place);
         }
         let (part, next) = self.part_at(place)?;
-        let length = self.evaluated(&part);
+        let length = self.evaluated(&part)?;
         if length.negative && !self.card.switches.negatives {
             return refuse(5, 0);
         }
@@ -287,6 +313,16 @@ impl<'a> Reader<'a> {
             let body = Body::Infinity;
             return Ok((Part { minus, body }, next));
         }
+        let (body, place) = match self.byte(place) {
+            Some(b'0'..=b'9' | b'.') => self.number_and_unit(place)?,
+            _ => self.numeral_and_unit(place)?,
+        };
+        let next = self.connection_step(place)?;
+        Ok((Part { minus, body }, next))
+    }
+
+    /// Steps 2 to 6 for a part that begins with a number.
+    fn number_and_unit(&self, place: usize) -> Result<(Body<'_>, usize), Refusal> {
         let (number, place) = self.number_steps(place)?;
         let place = if self.card.switches.unit_delimiter {
             self.delimiters(place, &self.card.inner)?
@@ -294,9 +330,27 @@ impl<'a> Reader<'a> {
             place
         };
         let (unit, place) = self.unit_step(place)?;
-        let next = self.connection_step(place)?;
-        let body = Body::Number { number, unit };
-        Ok((Part { minus, body }, next))
+        Ok((Body::Number { number, unit }, place))
+    }
+
+    /// The same for a part that begins with anything else: the stretch up to an
+    /// inner delimiter has to be a numeral, the delimiters behind it may not end
+    /// the text, and step 6 has to find a unit (request four).
+    fn numeral_and_unit(&self, place: usize) -> Result<(Body<'_>, usize), Refusal> {
+        let is_inner = |byte: &u8| self.card.inner.holds(*byte);
+        let Some(length) = self.text[place..].iter().position(is_inner) else {
+            return refuse(6, place);
+        };
+        let stretch = &self.text[place..place + length];
+        let mut numerals = self.tables.numerals.iter();
+        let Some(numeral) = numerals.find(|numeral| numeral.name == stretch) else {
+            return refuse(6, place);
+        };
+        let behind = self.delimiters(place + length, &self.card.inner)?;
+        match self.unit_step(behind)? {
+            (Some(unit), place) => Ok((Body::Spoken { numeral, unit }, place)),
+            (None, _) => refuse(15, behind),
+        }
     }
 
     /// Step 1.
@@ -316,12 +370,8 @@ impl<'a> Reader<'a> {
         Ok((minus, after))
     }
 
-    /// Steps 2 to 4 for a part that is not infinity.
+    /// Steps 2 to 4 for a part that begins with a digit or a point.
     fn number_steps(&self, place: usize) -> Result<(Number<'a>, usize), Refusal> {
-        match self.byte(place) {
-            Some(b'0'..=b'9' | b'.') => {}
-            _ => return refuse(6, place),
-        }
         let (whole, place) = self.digits(place);
         let (fraction, place) = self.fraction_step(place, !whole.is_empty())?;
         let (exponent, place) = self.exponent_step(place)?;
@@ -382,7 +432,8 @@ impl<'a> Reader<'a> {
     fn unit_step(&self, place: usize) -> Result<(Option<Unit<'_>>, usize), Refusal> {
         let end = self.end_of_stretch(place);
         let stretch = &self.text[place..end];
-        let Some(row) = self.rows.iter().find(|row| row.name == stretch) else {
+        let mut units = self.tables.units.iter();
+        let Some(row) = units.find(|row| row.name == stretch) else {
             return Ok((None, place));
         };
         let after_ago = self.after_ago(end)?;
@@ -505,17 +556,17 @@ impl<'a> Reader<'a> {
 
     // Evaluation.
 
-    fn evaluated(&self, part: &Part) -> Length {
-        let (number, unit) = match &part.body {
-            Body::Infinity => return limit(part.minus),
-            Body::Number { number, unit } => (number, unit),
-        };
-        let product = match unit {
-            Some(unit) => product_of(unit),
-            None => default_product(self.card.kind),
+    fn evaluated(&self, part: &Part) -> Result<Length, Refusal> {
+        let (number, product) = match &part.body {
+            Body::Infinity => return Ok(limit(part.minus)),
+            Body::Number { number, unit } => match unit {
+                Some(unit) => (number, of_kind(unit.row.kind).times(&of_unit(unit))),
+                None => (number, of_kind(self.card.kind)),
+            },
+            Body::Spoken { numeral, unit } => (&ONE, spoken_product(numeral, unit)?),
         };
         if product.size.is_zero() {
-            return Length::ZERO;
+            return Ok(Length::ZERO);
         }
         let minus = part.minus != product.minus;
 
@@ -525,34 +576,74 @@ impl<'a> Reader<'a> {
         let power = product.power + number.exponent;
         let attos = digits.shifted(power + 18 - number.fraction.len() as i64);
         let nanos = product.size.times(&attos).shifted(-9);
-        length_of_nanos(minus, &nanos)
+        Ok(length_of_nanos(minus, &nanos))
     }
 }
 
-/// A product of a kind and a row: coefficient by sign and size, and power.
+/// What a spoken number is worth is its product alone, as if the number 1 had
+/// been typed.
+const ONE: Number = Number {
+    whole: b"1",
+    fraction: b"",
+    exponent: 0,
+};
+
+/// Numeral, kind and row multiplied from left to right. Each of the two products
+/// has to be in range, also where the row is zero or would bring a power back.
+fn spoken_product(numeral: &Row, unit: &Unit) -> Result<Product, Refusal> {
+    let by_kind = of_row(numeral).times(&of_kind(unit.row.kind));
+    let by_row = by_kind.times(&of_unit(unit));
+    if !by_kind.is_in_range() || !by_row.is_in_range() {
+        return refuse(16, 0);
+    }
+    Ok(by_row)
+}
+
+/// A coefficient, by sign and size, and a power, of any size.
 struct Product {
     minus: bool,
     size: Natural,
     power: i64,
 }
 
-fn default_product(kind: u8) -> Product {
-    let (coefficient, power) = KINDS[usize::from(kind)];
-    Product {
-        minus: false,
-        size: Natural::of(coefficient.unsigned_abs()),
-        power: i64::from(power),
+impl Product {
+    fn of(coefficient: i64, power: i16) -> Self {
+        Self {
+            minus: coefficient < 0,
+            size: Natural::of(coefficient.unsigned_abs()),
+            power: i64::from(power),
+        }
+    }
+
+    fn times(&self, other: &Product) -> Product {
+        Product {
+            minus: self.minus != other.minus,
+            size: self.size.times(&other.size),
+            power: self.power + other.power,
+        }
+    }
+
+    fn is_in_range(&self) -> bool {
+        self.size <= Natural::of(9_223_372_036_854_775_807)
+            && (-32_768..=32_767).contains(&self.power)
     }
 }
 
-fn product_of(unit: &Unit) -> Product {
-    let kind = default_product(unit.row.kind);
+fn of_kind(kind: u8) -> Product {
+    let (coefficient, power) = KINDS[usize::from(kind)];
+    Product::of(coefficient, power)
+}
+
+fn of_row(row: &Row) -> Product {
+    Product::of(row.coefficient, row.power)
+}
+
+/// A unit's row, negated by `ago`.
+fn of_unit(unit: &Unit) -> Product {
+    let row = of_row(unit.row);
     Product {
-        minus: (unit.row.coefficient < 0) != unit.ago,
-        size: kind
-            .size
-            .times(&Natural::of(unit.row.coefficient.unsigned_abs())),
-        power: kind.power + i64::from(unit.row.power),
+        minus: row.minus != unit.ago,
+        ..row
     }
 }
 

@@ -1,12 +1,13 @@
 //! The points where document 01's rules are a reading of what its authors had
-//! no text of: the main driver, `POW10`, `Duration`, `Multiplier` and `Config`.
-//! Each point is asked of the crate by short texts under card A or a card near
+//! no text of: the main driver, `POW10`, `Duration`, `Multiplier` and `Config`;
+//! and those on which request four is silent. Each point is asked of the crate by short texts under card A or a card near
 //! it, and the answers are set against the plain reading.
 
 use crate::card_a::{card_a, row, same_answer};
 use crate::crate_side::{CrateAnswer, ask};
 use crate::plain;
 use crate::request::{ByteSet, Card, Conjunctions, Request};
+use crate::spoken;
 use crate::table::{Row, table_bytes};
 use crate::untypable;
 
@@ -21,8 +22,10 @@ pub fn ask_points() -> Result<bool, String> {
     asking.about_durations();
     asking.about_multipliers();
     asking.about_settings();
-    let as_written = untypable::ask_points()?;
-    Ok(asking.all_agree && as_written)
+    asking.about_spoken_numbers();
+    let untypable_as_written = untypable::ask_points()?;
+    let spoken_as_written = spoken::ask_points()?;
+    Ok(asking.all_agree && untypable_as_written && spoken_as_written)
 }
 
 struct Asking {
@@ -45,7 +48,7 @@ impl Asking {
         });
         let verdict = match &crate_answer {
             CrateAnswer::Says(answer) if same_answer(answer, &plain_answer) => "agrees",
-            CrateAnswer::LeftOut => "left out",
+            CrateAnswer::LeftOut(_) => "left out",
             _ => {
                 self.all_agree = false;
                 "DIFFERENT"
@@ -340,6 +343,157 @@ impl Asking {
             }),
             &["1\0s", "1s\0and\0ago", "1s\0ago", "1s 1", "1\0"],
         );
+    }
+
+    fn about_spoken_numbers(&mut self) {
+        let spoken = changed(|card| {
+            card.numerals = table_bytes(&[
+                row("five", 3, 5, 0),
+                row("one", 3, 1, 0),
+                row("half", 3, 5, -1),
+                row("off", 3, -1, 0),
+                row("s", 3, 2, 0),
+                row("and", 3, 3, 0),
+                row("inf", 3, 4, 0),
+                row("infix", 3, 6, 0),
+            ]);
+        });
+        self.ask(
+            "spoken numbers, a numeral and what follows it",
+            &spoken,
+            &[
+                "five min",
+                "five  min",
+                "five",
+                "five ",
+                "five  ",
+                "fivemin",
+                "five5 min",
+                "five.min",
+                "Five min",
+                "fiv min",
+                "fives min",
+                "five x",
+                "five and",
+                "five 5",
+                "five +",
+                "five five min",
+                "five min5",
+                "five min five",
+                "half s",
+                "off s",
+                "five turn",
+                "s s",
+                "and s",
+            ],
+        );
+        self.ask(
+            "spoken numbers, signs, ago and connections",
+            &spoken,
+            &[
+                "-five min",
+                "- five min",
+                "+off s",
+                "-off s",
+                "five min ago",
+                "-five min ago",
+                "five min agos",
+                "five min ",
+                "five min and",
+                "five min and one s",
+                "five min and1s",
+                "five min one s",
+                "1 five min",
+                "1five min",
+                "1s five min",
+                "1s and five min",
+                "1sfive min",
+                "1s+five min",
+                "1.five min",
+                "1e0five min",
+                "1efive min",
+            ],
+        );
+        self.ask(
+            "spoken numbers, a delimiter after a sign",
+            &also(&spoken, |card| card.switches.sign_delimiter = true),
+            &["- five min", "-five min", "- ", "-  five", "- five "],
+        );
+        self.ask(
+            "spoken numbers, infinity allowed",
+            &spoken,
+            &["inf s", "infix s", "inf", "-inf s", "Inf s"],
+        );
+        self.ask(
+            "spoken numbers, infinity forbidden",
+            &also(&spoken, |card| card.switches.infinity = false),
+            &["inf s", "infix s", "inf", "-inf s", "Inf s"],
+        );
+        self.ask(
+            "spoken numbers, no units",
+            &also(&spoken, |card| card.table.clear()),
+            &["five min", "five", "five ", "five 5", "1 five 5"],
+        );
+        self.ask(
+            "spoken numbers, no inner delimiter",
+            &also(&spoken, |card| card.inner = ByteSet::EMPTY),
+            &["five min", "fivemin", "1five"],
+        );
+        self.ask(
+            "spoken numbers, inner comma and outer space",
+            &also(&spoken, |card| card.inner = ByteSet::of(b",")),
+            &[
+                "five,min",
+                "five min",
+                "five ,min",
+                "five,,min",
+                "five, min",
+                "five,min,ago",
+                "five,min ago",
+                "five,min five,s",
+                "five,",
+                "five,,",
+                "1,five,min",
+                "1 five,min",
+            ],
+        );
+        self.ask(
+            "spoken numbers, fractions, exponents and delimiters before units off",
+            &also(&spoken, |card| {
+                card.switches.fractions = false;
+                card.switches.exponents = false;
+                card.switches.unit_delimiter = false;
+            }),
+            &["five min", "half s", "five min and one s", "1 five min"],
+        );
+        self.ask(
+            "spoken numbers, negatives off",
+            &also(&spoken, |card| card.switches.negatives = false),
+            &[
+                "-five min",
+                "off s",
+                "-off s",
+                "five min ago",
+                "off s ago",
+                "-five min and",
+                "-five x",
+                "-five ",
+            ],
+        );
+        for power in [-28, -27, -19, -18, -10, -9, -1, 0, 1, 19, 20] {
+            self.ask(
+                &format!("spoken numbers, worth at the power {power}"),
+                &changed(|card| {
+                    card.numerals = table_bytes(&[
+                        row("one", 3, 1, power),
+                        row("nine", 3, 999_999_999, power),
+                        row("ten", 3, 10_000_000_000, power),
+                        row("most", 3, i64::MAX, power),
+                    ]);
+                }),
+                &["one s", "nine s", "ten s", "most s", "one ns", "nine ns"],
+            );
+        }
     }
 }
 

@@ -8,6 +8,7 @@ use crate::request::{Answer, ByteSet, Card, Length};
 pub struct Port {
     settings: raw::Settings,
     table: Vec<u8>,
+    numerals: Vec<u8>,
 }
 
 impl Port {
@@ -31,17 +32,24 @@ impl Port {
         Self {
             settings,
             table: card.table.clone(),
+            numerals: card.numerals.clone(),
         }
     }
 
     pub fn total(&self, text: &[u8]) -> Answer {
-        answer(raw::read_total(&self.settings, &self.table, text))
+        answer(raw::read_total(
+            &self.settings,
+            &self.table,
+            &self.numerals,
+            text,
+        ))
     }
 
     pub fn part(&self, text: &[u8], place: u64) -> Answer {
         answer(raw::read_part(
             &self.settings,
             &self.table,
+            &self.numerals,
             text,
             place as usize,
         ))
@@ -50,7 +58,13 @@ impl Port {
     /// Adds a text's total to a record.
     pub fn add_total(&self, total: &mut Length, text: &[u8]) -> Answer {
         let mut record = record_of(*total);
-        let added = raw::add_total(&mut record, &self.settings, &self.table, text);
+        let added = raw::add_total(
+            &mut record,
+            &self.settings,
+            &self.table,
+            &self.numerals,
+            text,
+        );
         *total = length_of(record);
         answer(added)
     }

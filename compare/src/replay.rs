@@ -27,7 +27,7 @@ use crate::stored;
 
 /// The seed of the stored list, and how many of its requests are made by it.
 const SEED: u64 = 2_026;
-const MADE: usize = 4_200;
+const MADE: usize = 4_600;
 
 /// On the fly, so many cards are tried with long texts.
 const CARDS_FOR_LONG_TEXTS: usize = 10;
@@ -126,7 +126,7 @@ fn by_card(requests: Vec<Listed>) -> Vec<Listed> {
 }
 
 /// The card of a request, its two lines and its answer's number, or nothing if
-/// document 01 leaves it out of the comparison.
+/// it is left out of the comparison.
 fn listed(
     chosen: &mut Chosen,
     request: Request,
@@ -161,7 +161,7 @@ struct List<Out: Write> {
     held: Vec<Listed>,
     cards: u64,
     requests: u64,
-    numbers: [u64; 12],
+    numbers: [u64; 17],
 }
 
 impl<Out: Write> List<Out> {
@@ -171,7 +171,7 @@ impl<Out: Write> List<Out> {
             held: Vec::new(),
             cards: 0,
             requests: 0,
-            numbers: [0; 12],
+            numbers: [0; 17],
         }
     }
 

@@ -1,9 +1,9 @@
 //! The line format: one request a line, fields separated by one space.
 //!
 //! ```text
-//! total SWITCHES INNER OUTER CONJUNCTIONS KIND TABLE TEXT
-//! part PLACE SWITCHES INNER OUTER CONJUNCTIONS KIND TABLE TEXT
-//! shift SIGN SECONDS NANOS SWITCHES INNER OUTER CONJUNCTIONS KIND TABLE TEXT
+//! total SWITCHES INNER OUTER CONJUNCTIONS KIND TABLE NUMERALS TEXT
+//! part PLACE SWITCHES INNER OUTER CONJUNCTIONS KIND TABLE NUMERALS TEXT
+//! shift SIGN SECONDS NANOS SWITCHES INNER OUTER CONJUNCTIONS KIND TABLE NUMERALS TEXT
 //! write SIGN SECONDS NANOS PLACE BUFFER
 //! ```
 //!
@@ -100,8 +100,8 @@ impl Conjunctions {
     }
 }
 
-/// The settings with the unit table: everything of a request but record, place
-/// and text.
+/// The settings with the unit table and the numeral table: everything of a
+/// request but record, place and text.
 #[derive(Clone, PartialEq, Eq)]
 pub struct Card {
     pub switches: Switches,
@@ -110,6 +110,7 @@ pub struct Card {
     pub conjunctions: Conjunctions,
     pub kind: u8,
     pub table: Vec<u8>,
+    pub numerals: Vec<u8>,
 }
 
 /// A length or a record that claims to be one; nanoseconds may be too many.
@@ -235,13 +236,14 @@ impl fmt::Display for Card {
     fn fmt(&self, out: &mut fmt::Formatter<'_>) -> fmt::Result {
         write!(
             out,
-            "{} {} {} {} {} {}",
+            "{} {} {} {} {} {} {}",
             self.switches,
             set_field(&self.inner),
             set_field(&self.outer),
             self.conjunctions,
             self.kind,
-            bytes_field(&self.table)
+            bytes_field(&self.table),
+            bytes_field(&self.numerals)
         )
     }
 }
@@ -400,6 +402,7 @@ impl<'a> Fields<'a> {
             conjunctions: parse_conjunctions(self.next("CONJUNCTIONS")?)?,
             kind: small_decimal(self.next("KIND")?, "KIND")?,
             table: self.bytes("TABLE")?,
+            numerals: self.bytes("NUMERALS")?,
         })
     }
 }

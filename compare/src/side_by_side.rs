@@ -26,7 +26,7 @@ pub fn under_card(
     card: &Card,
     ask_texts: impl FnOnce(&mut SideBySide),
 ) -> Result<(), String> {
-    found.cards += 1;
+    found.begin_card(card);
     crate_side::under(card, |set_up| {
         let mut both = SideBySide {
             card,

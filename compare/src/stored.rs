@@ -23,9 +23,9 @@ pub fn length(length: Length) -> String {
 }
 
 /// A line of the settings (switches, inner set, outer set, conjunctions,
-/// default kind) with the size of the table, and a line for each row in its
-/// stored form. The last row is filled with zeros where the size ends within
-/// it.
+/// default kind) with the sizes of the unit table and of the numeral table, and
+/// a line for each row of the one and then of the other in its stored form. The
+/// last row of each is filled with zeros where the size ends within it.
 pub fn card_lines(card: &Card) -> String {
     let mut lines = card.switches.in_order().map(flag).concat();
     lines += &set(&card.inner);
@@ -34,14 +34,22 @@ pub fn card_lines(card: &Card) -> String {
     for (size, letters) in card.conjunctions.slots {
         let _ = write!(lines, "{size:02x}{}", hex(&letters));
     }
-    let size = u16::try_from(card.table.len()).expect("the size of a stored table fits 16 bits");
-    let _ = writeln!(lines, "{:02x}{}", card.kind, hex(&size.to_le_bytes()));
-    for row in card.table.chunks(ROW_BYTES) {
+    let _ = write!(lines, "{:02x}", card.kind);
+    lines += &size(&card.table);
+    lines += &size(&card.numerals);
+    lines.push('\n');
+    let rows = [&card.table, &card.numerals].map(|table| table.chunks(ROW_BYTES));
+    for row in rows.into_iter().flatten() {
         let mut stored = row.to_vec();
         stored.resize(ROW_BYTES, 0);
         let _ = writeln!(lines, "{}", hex(&stored));
     }
     lines
+}
+
+fn size(table: &[u8]) -> String {
+    let size = u16::try_from(table.len()).expect("the size of a stored table fits 16 bits");
+    hex(&size.to_le_bytes())
 }
 
 /// Run and size of a text as fields, and its bytes as a line, before which the

@@ -1,8 +1,13 @@
-//! The unit table of document 01: rows of 32 bytes, and the eight fixed kinds.
+//! The unit table of document 01 and the numeral table of request four: rows of
+//! 32 bytes, and the eight fixed kinds.
 
 pub const ROW_BYTES: usize = 32;
 pub const NAME_BYTES: usize = 16;
 pub const MOST_ROWS: usize = 64;
+pub const MOST_NUMERALS: usize = 32;
+
+/// The kind of every numeral.
+pub const NUMERAL_KIND: u8 = 3;
 
 const NAME_PLACE: usize = 1;
 const KIND_PLACE: usize = 17;

@@ -1,6 +1,6 @@
 //! Counting requests and answers that stand in two files, line by line.
 
-use std::collections::HashSet;
+use std::collections::{BTreeMap, HashSet};
 use std::fs;
 
 use crate::request::Request;
@@ -18,9 +18,9 @@ pub fn tally(requests_path: &str, answers_path: &str) -> Result<bool, String> {
 
     let mut cards = HashSet::new();
     let mut parts = 0;
-    let mut left_out = 0;
+    let mut left_out: BTreeMap<&str, u64> = BTreeMap::new();
     let mut loud = 0;
-    let mut numbers = [0_u64; 12];
+    let mut numbers = [0_u64; 17];
     for (line, answer) in requests.lines().zip(answers.lines()) {
         let request = Request::parse(line)?;
         if let Some(card) = request.card() {
@@ -29,10 +29,10 @@ pub fn tally(requests_path: &str, answers_path: &str) -> Result<bool, String> {
         if let Request::Part { .. } = request {
             parts += 1;
         }
-        let first = answer.split(' ').next().unwrap_or_default();
+        let (first, rest) = answer.split_once(' ').unwrap_or((answer, ""));
         match first.parse::<usize>() {
             Ok(number) if number < numbers.len() => numbers[number] += 1,
-            _ if first == "-" => left_out += 1,
+            _ if first == "-" => *left_out.entry(rest).or_default() += 1,
             _ => loud += 1,
         }
     }
@@ -42,7 +42,10 @@ pub fn tally(requests_path: &str, answers_path: &str) -> Result<bool, String> {
         requests.lines().count()
     );
     println!("{} different cards", cards.len());
-    println!("{left_out} left out");
+    println!("{} left out", left_out.values().sum::<u64>());
+    for (reason, count) in left_out {
+        println!("left out, {reason}: {count}");
+    }
     if loud > 0 {
         println!("{loud} answers without a number");
     }

@@ -1,5 +1,5 @@
-/* Reads one line under card A, its argument or the first line of standard input, and prints number, position, sign, seconds and nanoseconds.
- * What was read is then written back, and added to a shift total that stands at one second.
+/* Reads one line under card A and the numeral `five`, its argument or the first line of standard input, and prints number, position, sign,
+ * seconds and nanoseconds. What was read is then written back, and added to a shift total that stands at one second.
  *
  *     $ read_line 61.7ms
  *     0 6 + 0 61700000
@@ -34,14 +34,15 @@ int main(int argc, char **argv)
     uint8_t typed[HEROVINGA_LONGEST_TEXT + 1];
     const uint8_t *text = argc > 1 ? (const uint8_t *)argv[1] : typed;
     const size_t size = argc > 1 ? strlen(argv[1]) : read_text(typed);
-    uint8_t written[HEROVINGA_LONGEST_FORM];
+    uint8_t written[HEROVINGA_LONGEST_FORM], five[HEROVINGA_ROW_SIZE];
     herovinga_length total = {0, 1, 0};
     herovinga_answer read, answer;
     uint8_t number;
     card a;
 
     make_card_a(&a);
-    number = herovinga_read_total(&a.settings, a.table, sizeof a.table, text, size, &read);
+    put_row(five, "five", HEROVINGA_SECOND, 5, 0);
+    number = herovinga_read_total(&a.settings, a.table, sizeof a.table, five, sizeof five, text, size, &read);
     printf("%d %" PRIu64 " ", number, read.position);
     print_length(read.length);
     if (number != HEROVINGA_DONE)
@@ -50,7 +51,7 @@ int main(int argc, char **argv)
     /* Neither is refused: what was read is a length, the longest fits the buffer, and the text reads again as it did. */
     herovinga_write(&read.length, written, sizeof written, 0, &answer);
     printf("written %.*s\n", (int)answer.position, (const char *)written);
-    herovinga_add_total(&total, &a.settings, a.table, sizeof a.table, text, size, &answer);
+    herovinga_add_total(&total, &a.settings, a.table, sizeof a.table, five, sizeof five, text, size, &answer);
     printf("total ");
     print_length(total);
     return 0;

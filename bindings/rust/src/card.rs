@@ -1,4 +1,4 @@
-//! Cards: the settings and the unit table, under which texts are read.
+//! Cards: the settings, the units and the numerals, under which texts are read.
 
 use crate::length::Length;
 use crate::parts::{Part, Parts};
@@ -32,18 +32,19 @@ pub enum Kind {
     Week = 7,
 }
 
-/// Settings and a unit table that the port accepts. A card is checked when it
-/// is made, and cannot be changed afterwards.
+/// Settings, a unit table and a numeral table that the port accepts. A card is
+/// checked when it is made, and cannot be changed afterwards.
 #[derive(Clone, PartialEq, Eq, Hash, Debug)]
 pub struct Card {
     settings: Settings,
     table: Vec<u8>,
+    numerals: Vec<u8>,
 }
 
 impl Card {
     /// A card to be made step by step. It begins with all switches off, no
-    /// delimiters, no conjunctions, seconds for numbers without a unit, and no
-    /// units.
+    /// delimiters, no conjunctions, seconds for numbers without a unit, no units
+    /// and no numerals.
     pub fn builder() -> CardBuilder {
         CardBuilder::default()
     }
@@ -72,15 +73,23 @@ impl Card {
             .expect("card A is accepted")
     }
 
-    /// A card from the words of its settings and the bytes of its unit table,
-    /// or what is wrong with them (7).
-    pub fn from_words(settings: Settings, table: Vec<u8>) -> Result<Self, Refusal> {
+    /// A card from the words of its settings and the bytes of its unit table and
+    /// of its numerals, or what is wrong with them (7).
+    pub fn from_words(
+        settings: Settings,
+        table: Vec<u8>,
+        numerals: Vec<u8>,
+    ) -> Result<Self, Refusal> {
         // The card is checked before anything else, so an empty text, of which
         // nothing can be read, tells whether it is accepted.
-        let answer = raw::read_total(&settings, &table, b"");
+        let answer = raw::read_total(&settings, &table, &numerals, b"");
         match answer.number {
             7 => Err(Refusal::of(&answer)),
-            _ => Ok(Self { settings, table }),
+            _ => Ok(Self {
+                settings,
+                table,
+                numerals,
+            }),
         }
     }
 
@@ -94,15 +103,27 @@ impl Card {
         &self.table
     }
 
+    /// The bytes of the numeral table, as [`raw`] takes them.
+    pub fn numerals(&self) -> &[u8] {
+        &self.numerals
+    }
+
     /// The sum of a text's parts, clamped at each part between [`Length::MIN`]
     /// and [`Length::MAX`].
     pub fn read_total(&self, text: impl AsRef<[u8]>) -> Result<Length, Refusal> {
-        Length::of_answer(&raw::read_total(&self.settings, &self.table, text.as_ref()))
+        let answer = raw::read_total(&self.settings, &self.table, &self.numerals, text.as_ref());
+        Length::of_answer(&answer)
     }
 
     /// The part of a text at a place, and the place at which the next begins.
     pub fn read_part(&self, text: impl AsRef<[u8]>, place: usize) -> Result<Part, Refusal> {
-        let answer = raw::read_part(&self.settings, &self.table, text.as_ref(), place);
+        let answer = raw::read_part(
+            &self.settings,
+            &self.table,
+            &self.numerals,
+            text.as_ref(),
+            place,
+        );
         Ok(Part {
             length: Length::of_answer(&answer)?,
             next: answer.position as usize,
@@ -119,7 +140,13 @@ impl Card {
     /// the text is refused the shift total stays as it was.
     pub fn add_total(&self, total: &mut Length, text: impl AsRef<[u8]>) -> Result<Length, Refusal> {
         let mut record = total.record();
-        let added = raw::add_total(&mut record, &self.settings, &self.table, text.as_ref());
+        let added = raw::add_total(
+            &mut record,
+            &self.settings,
+            &self.table,
+            &self.numerals,
+            text.as_ref(),
+        );
         // After a refusal the record is as it was.
         *total = Length::of(record);
         Length::of_answer(&added)
@@ -139,6 +166,7 @@ impl Card {
 pub struct CardBuilder {
     settings: Settings,
     table: Vec<u8>,
+    numerals: Vec<u8>,
 }
 
 impl Default for CardBuilder {
@@ -146,6 +174,7 @@ impl Default for CardBuilder {
         let builder = Self {
             settings: [0; 25],
             table: Vec::new(),
+            numerals: Vec::new(),
         };
         builder.default_kind(Kind::Second)
     }
@@ -245,15 +274,8 @@ impl CardBuilder {
         coefficient: i64,
         power: i16,
     ) -> Self {
-        let name = name.as_ref();
-        let mut row = [0; ROW_SIZE];
-        // A name that has no room is refused by its size, whatever is left out.
-        row[0] = u8::try_from(name.len()).unwrap_or(u8::MAX);
-        copy_what_fits(name, &mut row[NAME_AT..NAME_AT + NAME_ROOM]);
-        row[KIND_AT] = kind as u8;
-        row[COEFFICIENT_AT..POWER_AT].copy_from_slice(&coefficient.to_le_bytes());
-        row[POWER_AT..ZEROS_AT].copy_from_slice(&power.to_le_bytes());
-        self.table.extend_from_slice(&row);
+        self.table
+            .extend(row(name.as_ref(), kind, coefficient, power));
         self
     }
 
@@ -263,10 +285,45 @@ impl CardBuilder {
         self
     }
 
+    /// One more word for a number, coefficient times ten to the power. It stands
+    /// where a number would, and inner delimiters and a unit follow it.
+    ///
+    /// A card is refused if the word is not 1 to 16 ASCII letters, if it was
+    /// there before, if the coefficient is [`i64::MIN`], or if there are more than
+    /// 32. A unit may have the same name.
+    ///
+    /// ```
+    /// use herovinga::{Card, Kind, Refusal};
+    ///
+    /// let card = Card::builder().inner(" ").unit("min", Kind::Minute, 1, 0).numeral("five", 5, 0).numeral("half", 5, -1).build()?;
+    /// assert_eq!(card.read_total("five min")?.to_string(), "+300");
+    /// assert_eq!(card.read_total("half min")?.to_string(), "+30");
+    /// assert_eq!(card.read_total("five x"), Err(Refusal { number: 15, position: 5 }));
+    /// # Ok::<(), Refusal>(())
+    /// ```
+    pub fn numeral(mut self, name: impl AsRef<[u8]>, coefficient: i64, power: i16) -> Self {
+        // A row has a kind; a numeral's is the second, which multiplies by 1.
+        let row = row(name.as_ref(), Kind::Second, coefficient, power);
+        self.numerals.extend(row);
+        self
+    }
+
     /// The card, or what is wrong with it (7).
     pub fn build(self) -> Result<Card, Refusal> {
-        Card::from_words(self.settings, self.table)
+        Card::from_words(self.settings, self.table, self.numerals)
     }
+}
+
+/// A row of either table. A name that has no room is refused by its size,
+/// whatever is left out.
+fn row(name: &[u8], kind: Kind, coefficient: i64, power: i16) -> [u8; ROW_SIZE] {
+    let mut row = [0; ROW_SIZE];
+    row[0] = u8::try_from(name.len()).unwrap_or(u8::MAX);
+    copy_what_fits(name, &mut row[NAME_AT..NAME_AT + NAME_ROOM]);
+    row[KIND_AT] = kind as u8;
+    row[COEFFICIENT_AT..POWER_AT].copy_from_slice(&coefficient.to_le_bytes());
+    row[POWER_AT..ZEROS_AT].copy_from_slice(&power.to_le_bytes());
+    row
 }
 
 fn copy_what_fits(bytes: &[u8], room: &mut [u8]) {

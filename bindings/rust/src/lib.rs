@@ -1,9 +1,9 @@
 //! Timings that are read exactly.
 //!
-//! A [`Card`] says how timings are typed: switches, delimiters, conjunctions
-//! and units. Under it a text is read to a [`Length`], in whole or part by
-//! part, and refused with a number and a place ([`Refusal`]) where it cannot be.
-//! The reading is done by Herovinga's library, every function of which is
+//! A [`Card`] says how timings are typed: switches, delimiters, conjunctions,
+//! units and numerals. Under it a text is read to a [`Length`], in whole or part
+//! by part, and refused with a number and a place ([`Refusal`]) where it cannot
+//! be. The reading is done by Herovinga's library, every function of which is
 //! proved to meet its contract; this crate lends it words and bytes.
 //!
 //! ```
@@ -19,11 +19,13 @@
 //!     .unit("s", Kind::Second, 1, 0)
 //!     .unit("ms", Kind::Millisecond, 1, 0)
 //!     .unit("turn", Kind::Millisecond, 123, -1)
+//!     .numeral("five", 5, 0)
 //!     .build()?;
 //!
 //! assert_eq!(card.read_total("61.7ms")?, Length::new(false, 0, 61_700_000)?);
 //! assert_eq!(card.read_total("1s and 200ms")?.to_string(), "+1.2");
 //! assert_eq!(card.read_total("5ms ago, 3turn")?.to_string(), "+0.0319");
+//! assert_eq!(card.read_total("five ms")?.to_string(), "+0.005");
 //!
 //! // What cannot be read is refused with a number and a place.
 //! let refused = card.read_total("1s android").unwrap_err();

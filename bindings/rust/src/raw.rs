@@ -2,7 +2,9 @@
 //! or changed on this side. `include/herovinga.h` is the same for C.
 //!
 //! Here a card that is not accepted and a length record that is malformed can
-//! be lent; the answer then has the refusal, 7 or 11.
+//! be lent; the answer then has the refusal, 7 or 11. A card is settings, the
+//! bytes of the unit table and those of the numeral table, either of which may
+//! be empty.
 
 /// Switches, sets, conjunctions and default kind, at the places below.
 pub type Settings = [u64; 25];
@@ -51,6 +53,8 @@ unsafe extern "C" {
         settings: *const u64,
         table: *const u8,
         table_size: usize,
+        numerals: *const u8,
+        numerals_size: usize,
         text: *const u8,
         text_size: usize,
         place: usize,
@@ -60,6 +64,8 @@ unsafe extern "C" {
         settings: *const u64,
         table: *const u8,
         table_size: usize,
+        numerals: *const u8,
+        numerals_size: usize,
         text: *const u8,
         text_size: usize,
         answer: *mut u64,
@@ -76,6 +82,8 @@ unsafe extern "C" {
         settings: *const u64,
         table: *const u8,
         table_size: usize,
+        numerals: *const u8,
+        numerals_size: usize,
         text: *const u8,
         text_size: usize,
         answer: *mut u64,
@@ -91,9 +99,15 @@ unsafe extern "C" {
 }
 
 /// Reads one part of a text from a place.
-pub fn read_part(settings: &Settings, table: &[u8], text: &[u8], place: usize) -> Answer {
+pub fn read_part(
+    settings: &Settings,
+    table: &[u8],
+    numerals: &[u8],
+    text: &[u8],
+    place: usize,
+) -> Answer {
     let mut answer = [0; 4];
-    // SAFETY: the settings are 25 words, table and text are slices lent with
+    // SAFETY: the settings are 25 words, tables and text are slices lent with
     // their sizes, all of them for the call; the four words of the answer are
     // the entry's alone, and it writes nothing else and keeps no pointer.
     let number = unsafe {
@@ -101,6 +115,8 @@ pub fn read_part(settings: &Settings, table: &[u8], text: &[u8], place: usize) -
             settings.as_ptr(),
             table.as_ptr(),
             table.len(),
+            numerals.as_ptr(),
+            numerals.len(),
             text.as_ptr(),
             text.len(),
             place,
@@ -111,9 +127,9 @@ pub fn read_part(settings: &Settings, table: &[u8], text: &[u8], place: usize) -
 }
 
 /// Reads a text's total.
-pub fn read_total(settings: &Settings, table: &[u8], text: &[u8]) -> Answer {
+pub fn read_total(settings: &Settings, table: &[u8], numerals: &[u8], text: &[u8]) -> Answer {
     let mut answer = [0; 4];
-    // SAFETY: the settings are 25 words, table and text are slices lent with
+    // SAFETY: the settings are 25 words, tables and text are slices lent with
     // their sizes, all of them for the call; the four words of the answer are
     // the entry's alone, and it writes nothing else and keeps no pointer.
     let number = unsafe {
@@ -121,6 +137,8 @@ pub fn read_total(settings: &Settings, table: &[u8], text: &[u8]) -> Answer {
             settings.as_ptr(),
             table.as_ptr(),
             table.len(),
+            numerals.as_ptr(),
+            numerals.len(),
             text.as_ptr(),
             text.len(),
             answer.as_mut_ptr(),
@@ -149,10 +167,16 @@ pub fn write(length: &Record, buffer: &mut [u8], place: usize) -> Answer {
 }
 
 /// Adds a text's total to a record. After a refusal the record is as it was.
-pub fn add_total(total: &mut Record, settings: &Settings, table: &[u8], text: &[u8]) -> Answer {
+pub fn add_total(
+    total: &mut Record,
+    settings: &Settings,
+    table: &[u8],
+    numerals: &[u8],
+    text: &[u8],
+) -> Answer {
     let mut answer = [0; 4];
     // SAFETY: the record is three words and the answer four, both the entry's
-    // alone for the call; the settings are 25 words, table and text are slices
+    // alone for the call; the settings are 25 words, tables and text are slices
     // lent with their sizes. It writes record and answer only and keeps no
     // pointer.
     let number = unsafe {
@@ -161,6 +185,8 @@ pub fn add_total(total: &mut Record, settings: &Settings, table: &[u8], text: &[
             settings.as_ptr(),
             table.as_ptr(),
             table.len(),
+            numerals.as_ptr(),
+            numerals.len(),
             text.as_ptr(),
             text.len(),
             answer.as_mut_ptr(),

@@ -5,18 +5,22 @@ use std::fmt;
 
 use crate::raw::Answer;
 
-/// A refusal, by its number in document 01 or, above 11, in request one, and
-/// where it was met. What the position means depends on the number; `Display`
-/// says it in a sentence.
+/// A refusal, by its number in document 01 or, above 11, in the requests that
+/// followed it, and where it was met. What the position means depends on the
+/// number; `Display` says it in a sentence.
 #[derive(Clone, Copy, PartialEq, Eq, Hash, Debug)]
 pub struct Refusal {
-    /// 1 to 14.
+    /// 1 to 16.
     pub number: u8,
     /// A place of the text or buffer, 0, or for 7 what is wrong: 65 the
     /// delimiters, 66 the conjunctions, 67 the default kind, 64 the size of the
-    /// unit table, any lower number the first bad row.
+    /// unit table, any lower number its first bad row; 100 the size of the
+    /// numeral table, 68 to 99 its first bad row, counted from 68.
     pub position: usize,
 }
+
+/// What the position of a bad numeral counts from.
+const FIRST_NUMERAL: usize = 68;
 
 impl Refusal {
     pub(crate) fn of(answer: &Answer) -> Self {
@@ -26,7 +30,7 @@ impl Refusal {
         }
     }
 
-    /// What is wrong with settings or table.
+    /// What is wrong with settings, units or numerals.
     fn describe_card(self, out: &mut fmt::Formatter<'_>) -> fmt::Result {
         match self.position {
             65 => {
@@ -37,10 +41,17 @@ impl Refusal {
             ),
             67 => out.write_str("the default kind is not one of 0 to 7"),
             64 => out.write_str("the unit table is not 0 to 64 rows of 32 bytes"),
-            row => write!(
-                out,
-                "row {row} of the unit table has a name, kind or multiplier that is not accepted"
-            ),
+            100 => out.write_str("the numeral table is not 0 to 32 rows of 32 bytes"),
+            position => {
+                let (row, table) = match position.checked_sub(FIRST_NUMERAL) {
+                    Some(row) => (row, "numeral"),
+                    None => (position, "unit"),
+                };
+                write!(
+                    out,
+                    "row {row} of the {table} table has a name, kind or multiplier that is not accepted"
+                )
+            }
         }
     }
 }
@@ -73,6 +84,13 @@ impl fmt::Display for Refusal {
                 "years and months have no length, and place {position} has the letter of one"
             ),
             14 => out.write_str("the ISO timing is beyond the largest length"),
+            15 => write!(
+                out,
+                "a numeral needs a unit, and none begins at place {position}"
+            ),
+            16 => out.write_str(
+                "a numeral times its unit has a coefficient or a power of ten that is out of range",
+            ),
             number => write!(out, "refusal {number} at {position}"),
         }
     }

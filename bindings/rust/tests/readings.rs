@@ -59,7 +59,12 @@ fn totals_are_the_documents() {
 fn a_totals_position_is_the_texts_size() {
     let card = Card::a();
     for (text, wanted) in readings() {
-        let answer = raw::read_total(card.settings(), card.table(), text.as_bytes());
+        let answer = raw::read_total(
+            card.settings(),
+            card.table(),
+            card.numerals(),
+            text.as_bytes(),
+        );
         let wanted = match wanted {
             Ok(length) => (0, text.len(), length.record()),
             Err(refusal) => (refusal.number, refusal.position, [0; 3]),
@@ -73,7 +78,12 @@ fn a_totals_position_is_the_texts_size() {
 fn the_line_programs_lines() {
     let card = Card::a();
     let lines = ["61.7ms", "1.", ".", "2s ago"].map(|text| {
-        let answer = raw::read_total(card.settings(), card.table(), text.as_bytes());
+        let answer = raw::read_total(
+            card.settings(),
+            card.table(),
+            card.numerals(),
+            text.as_bytes(),
+        );
         let [negative, seconds, nanoseconds] = answer.length;
         let sign = if negative == 0 { '+' } else { '-' };
         format!(

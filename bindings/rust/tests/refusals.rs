@@ -94,10 +94,10 @@ fn conjunctions() {
 fn the_default_kind() {
     let mut settings = *Card::a().settings();
     settings[raw::DEFAULT_KIND] = 8;
-    let refused = Card::from_words(settings, Vec::new());
+    let refused = Card::from_words(settings, Vec::new(), Vec::new());
     assert_eq!(refused, Err(refusal(7, 67)));
     settings[raw::DEFAULT_KIND] = 7;
-    let card = Card::from_words(settings, Vec::new()).expect("the card is accepted");
+    let card = Card::from_words(settings, Vec::new(), Vec::new()).expect("the card is accepted");
     assert_eq!(card.read_total("1").map(Length::seconds), Ok(604_800));
 }
 
@@ -182,7 +182,13 @@ fn malformed_records() {
         assert_eq!(buffer, [b'.'; 40]);
 
         let mut total = record;
-        let added = raw::add_total(&mut total, card.settings(), card.table(), b"1");
+        let added = raw::add_total(
+            &mut total,
+            card.settings(),
+            card.table(),
+            card.numerals(),
+            b"1",
+        );
         assert_eq!((added.number, added.position), (11, 0));
         assert_eq!(total, record);
     }
@@ -232,6 +238,18 @@ fn sentences() {
             (7, 3),
             "row 3 of the unit table has a name, kind or multiplier that is not accepted",
         ),
+        (
+            (7, 100),
+            "the numeral table is not 0 to 32 rows of 32 bytes",
+        ),
+        (
+            (7, 68),
+            "row 0 of the numeral table has a name, kind or multiplier that is not accepted",
+        ),
+        (
+            (7, 99),
+            "row 31 of the numeral table has a name, kind or multiplier that is not accepted",
+        ),
         ((8, 4096), "the text has more than 4096 bytes"),
         ((9, 4), "the buffer has too few bytes left at place 4"),
         ((10, 9), "place 9 is beyond the text or buffer"),
@@ -248,6 +266,14 @@ fn sentences() {
             "years and months have no length, and place 2 has the letter of one",
         ),
         ((14, 0), "the ISO timing is beyond the largest length"),
+        (
+            (15, 5),
+            "a numeral needs a unit, and none begins at place 5",
+        ),
+        (
+            (16, 0),
+            "a numeral times its unit has a coefficient or a power of ten that is out of range",
+        ),
     ];
     for ((number, position), sentence) in sentences {
         let error: Box<dyn std::error::Error> = Box::new(refusal(number, position));

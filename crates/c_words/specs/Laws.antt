@@ -9,10 +9,10 @@ use borrow.Author.Tests.{le-ltb}
 use lib.ListN.{length}
 use Rattle.rules.specs.declared.Length.{Length}
 use Rattle.rules.specs.declared.Answer.{Answer}
-use Rattle.rules.specs.declared.Settings.{Settings}
 use Rattle.rules.specs.ThePartOfTheCrateWeTake.{nanoseconds-per-second, well-formed}
 use Rattle.rules.specs.SettingsAsWords.{word, held-to}
 use Rattle.rules.specs.NumbersHandedBack.{Outcome, got, refused, done, refusal, answered}
+use Rattle.rules.specs.SettingsAndUnitTable.{Card}
 use Rattle.rules.specs.Laws.Answers.{refusal-number}
 use Rattle.rules.specs.Laws.SettingsAsWords.{held-fits, held-reaches, bit-back}
 use Rattle.rules.specs.Laws.Tests.{and-false}
@@ -51,11 +51,11 @@ module _ (so-far : List ℕ) (size : ℕ) where
   after-kept (got l) e = absurd (e refl)
   after-kept (refused cause) e = refl
 
-module _ (so-far : List ℕ) (s : Settings) (table text : List ℕ) where
-  pub shifted-done : (shift-answer (length-of so-far) s table text) .number ≡ 0 → length-words (shifted-record (length-of so-far) s table text) ≡ shifted-words so-far s table text
+module _ (so-far : List ℕ) (card : Card) (text : List ℕ) where
+  pub shifted-done : (shift-answer (length-of so-far) card text) .number ≡ 0 → length-words (shifted-record (length-of so-far) card text) ≡ shifted-words so-far card text
   unfolding shift-answer shifted-record shifted-words
-  shifted-done e = after-done so-far (length text) (add-total (length-of so-far) s table text) e
+  shifted-done e = after-done so-far (length text) (add-total (length-of so-far) card text) e
 
-  pub shifted-kept : (shift-answer (length-of so-far) s table text) .number ≢ 0 → so-far ≡ shifted-words so-far s table text
+  pub shifted-kept : (shift-answer (length-of so-far) card text) .number ≢ 0 → so-far ≡ shifted-words so-far card text
   unfolding shift-answer shifted-words
-  shifted-kept e = after-kept so-far (length text) (add-total (length-of so-far) s table text) e
+  shifted-kept e = after-kept so-far (length text) (add-total (length-of so-far) card text) e

@@ -4,9 +4,9 @@ use mathlib.Core.List.{List, [], _∷_}
 use Prim.Native.Nat.{ℕ, _-_, _^_}
 use Rattle.rules.specs.declared.Length.{Length}
 use Rattle.rules.specs.declared.Answer.{Answer}
-use Rattle.rules.specs.declared.Settings.{Settings}
 use Rattle.rules.specs.SettingsAsWords.{word, on, held-to, bit}
 use Rattle.rules.specs.NumbersHandedBack.{Outcome, got, refused}
+use Rattle.rules.specs.SettingsAndUnitTable.{Card}
 use Rattle.rules.specs.WhatEveryEntryOwes.{add-total}
 
 -- what a field of 32 bits can hold
@@ -32,5 +32,5 @@ unfoldable pub words-after : List ℕ → Outcome Length → List ℕ
 words-after words (got l) = length-words l
 words-after words (refused cause) = words
 
-unfoldable pub shifted-words : List ℕ → Settings → List ℕ → List ℕ → List ℕ
-shifted-words so-far s table text = words-after so-far (add-total (length-of so-far) s table text)
+unfoldable pub shifted-words : List ℕ → Card → List ℕ → List ℕ
+shifted-words so-far card text = words-after so-far (add-total (length-of so-far) card text)

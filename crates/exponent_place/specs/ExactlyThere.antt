@@ -13,14 +13,15 @@ use Rattle.rules.specs.declared.Refusal.{Refusal}
 use Rattle.rules.specs.Common.{if_then_else_}
 use Rattle.rules.specs.ThePartOfTheCrateWeTake.{zero-length}
 use Rattle.rules.specs.NumbersHandedBack.{Outcome, refused, number, position, refusal}
+use Rattle.rules.specs.SettingsAndUnitTable.{Card}
 use Rattle.rules.specs.ReadingOnePart.{gap, sign-step, number-step, exponent-passed, exponent-step, unit-step, connection, infinity-step, infinite-part, finite-part, unsigned-part, part}
-use Rattle.rules.specs.Evaluation.{allowed, part-reading, sum, parts, total}
+use Rattle.rules.specs.Evaluation.{evaluated, allowed, part-reading, sum, parts, total}
 use Rattle.rules.specs.Laws.Choices.{if-then, if-else}
 use Rattle.rules.specs.Laws.Outcomes.{All, all-got, all-refused, all-of, all-if, all-bind, itself, bind-got, bind-refused, Refused, not-refused, the-cause, refused-map, refused-if, refused-bind}
 use Rattle.rules.specs.Laws.Totals.{total-from, total-is, total-step}
 use Rattle.exponent_place.specs.TheWrongDigit.{minus-behind, Passed, after-number, WrongDigit, Reached, at-first, behind, WrongInTotal, passed-at, out-of-range}
 use Rattle.exponent_place.specs.StepFour.{step-told, step-refuses}
-use Rattle.exponent_place.specs.NoOtherStep.{IfOutOfRange, by-other, sign-other, number-other, gap-other, unit-other, connection-other, infinity-other}
+use Rattle.exponent_place.specs.NoOtherStep.{IfOutOfRange, by-other, sign-other, number-other, gap-other, unit-other, connection-other, infinity-other, spoken-other, evaluated-other}
 
 -- ---- what an exponent out of range is refused with
 
@@ -67,22 +68,25 @@ exactly {X = X} {m = m} found negative q = (there, found .given negative q)
 
 -- ---- a part
 
-module _ (s : Settings) (table text : List ℕ) where
+module _ (card : Card) (text : List ℕ) where
+  abbrev s : Settings
+  s = card .settings
+
   -- what the part that begins at `from` is refused with, if it is 3 or 4
   abbrev PartTold : ℕ → Refusal → Type 0
   PartTold from = PassedWith (WrongDigit s text from)
 
-  part-told : (from : ℕ) → Refused (IfOutOfRange (PartTold from)) (part-reading s table text from)
+  part-told : (from : ℕ) → Refused (IfOutOfRange (PartTold from)) (part-reading card text from)
   unfolding part-reading part unsigned-part finite-part infinite-part allowed after-number out-of-range number
   part-told from =
-      refused-bind (part s table text from)
+      refused-bind (part card text from)
       (refused-if (λ _. by-other (PartTold from) _ refl)
       (λ on.
-      refused-bind (sign-step s text from) (sign-other (PartTold from) s table text from)
+      refused-bind (sign-step s text from) (sign-other (PartTold from) s text from)
       (λ signed sign-got.
       refused-if
       (λ starts.
-      refused-bind (number-step s text (signed .next)) (number-other (PartTold from) s table text (signed .next))
+      refused-bind (number-step s text (signed .next)) (number-other (PartTold from) s text (signed .next))
       (λ number number-got.
       refused-bind (exponent-step s text (number .next))
       (refused-map (step-told text (number .next) s)
@@ -100,18 +104,20 @@ module _ (s : Settings) (table text : List ℕ) where
         },
       )))
       (λ scaled _.
-      refused-bind (gap (s .«before_unit») s text (scaled .next)) (gap-other (PartTold from) s table text (s .«before_unit») (scaled .next))
+      refused-bind (gap (s .«before_unit») s text (scaled .next)) (gap-other (PartTold from) s text (s .«before_unit») (scaled .next))
       (λ name _.
-      refused-bind (unit-step s table text name) (unit-other (PartTold from) s table text name)
+      refused-bind (unit-step card text name) (unit-other (PartTold from) card text name)
       (λ unit _.
-      refused-bind (connection s text (unit .next)) (connection-other (PartTold from) s table text (unit .next)) (λ next _. not-refused))))))
+      refused-bind (connection s text (unit .next)) (connection-other (PartTold from) s text (unit .next)) (λ next _. not-refused))))))
       (λ _.
       refused-if
-      (λ _. refused-bind (infinity-step s text (signed .next)) (infinity-other (PartTold from) s table text (signed .next)) (λ next _. not-refused))
-      (λ _. by-other (PartTold from) _ refl)))))
-      (λ p _. refused-if (λ _. by-other (PartTold from) _ refl) (λ _. not-refused))
+      (λ _. refused-bind (infinity-step s text (signed .next)) (infinity-other (PartTold from) s text (signed .next)) (λ next _. not-refused))
+      (λ _. spoken-other (PartTold from) card text (signed .negative) (signed .next))))))
+      (λ p _.
+      refused-bind (evaluated text (p .repr)) (evaluated-other (PartTold from) card text (p .repr))
+      (λ l _. refused-if (λ _. by-other (PartTold from) _ refl) (λ _. not-refused)))
 
-  part-refuses : (place : ℕ) → All (λ e. (q : ℕ) → s .exponents ≡ true → Passed text e q → part-reading s table text place ≡ refused (exponent-passed (minus-behind text e) q)) (after-number s text place)
+  part-refuses : (place : ℕ) → All (λ e. (q : ℕ) → s .exponents ≡ true → Passed text e q → part-reading card text place ≡ refused (exponent-passed (minus-behind text e) q)) (after-number s text place)
   unfolding after-number part-reading part unsigned-part finite-part
   part-refuses place =
       all-if (λ _. all-refused)
@@ -132,7 +138,7 @@ module _ (s : Settings) (table text : List ℕ) where
       ∙ bind-refused _ (step-refuses text (number .next) s q exponents passed)))))
       (λ _. all-refused)))
 
-  pub part-found : (from : ℕ) → Exactly (WrongDigit s text from) (part-reading s table text from)
+  pub part-found : (from : ℕ) → Exactly (WrongDigit s text from) (part-reading card text from)
   part-found from = record {
     told = part-told from;
     given = λ negative q wrong.
@@ -140,7 +146,7 @@ module _ (s : Settings) (table text : List ℕ) where
   }
 
   -- the part is refused so exactly if its exponent passes the range there
-  pub part-exactly : (from : ℕ) (negative : Bool) (q : ℕ) → (part-reading s table text from ≡ refused (exponent-passed negative q)) ↔ WrongDigit s text from negative q
+  pub part-exactly : (from : ℕ) (negative : Bool) (q : ℕ) → (part-reading card text from ≡ refused (exponent-passed negative q)) ↔ WrongDigit s text from negative q
   part-exactly from = exactly (part-found from)
 
   -- so there is one such digit at most
@@ -151,36 +157,36 @@ module _ (s : Settings) (table text : List ℕ) where
   -- ---- the total
 
   abbrev TotalTold : Refusal → Type 0
-  TotalTold = PassedWith (WrongInTotal s table text)
+  TotalTold = PassedWith (WrongInTotal card text)
 
-  parts-told : (n place : ℕ) → Reached s table text place → Refused (IfOutOfRange TotalTold) (parts s table text n place)
+  parts-told : (n place : ℕ) → Reached card text place → Refused (IfOutOfRange TotalTold) (parts card text n place)
   unfolding parts out-of-range number
   parts-told zero place h = by-other TotalTold _ refl
   parts-told (suc n) place h =
-      refused-bind (part-reading s table text place) (refused-map (part-told place) (λ cause told wrong. let (negative, q, is, digit) = told wrong in (negative, q, is, (place, h, digit))))
+      refused-bind (part-reading card text place) (refused-map (part-told place) (λ cause told wrong. let (negative, q, is, digit) = told wrong in (negative, q, is, (place, h, digit))))
       (λ r read.
       refused-if (λ _. not-refused)
-      (λ on. refused-bind (parts s table text n (r .next)) (parts-told n (r .next) (behind h read on)) (λ more _. not-refused)))
+      (λ on. refused-bind (parts card text n (r .next)) (parts-told n (r .next) (behind h read on)) (λ more _. not-refused)))
 
-  total-told : Refused (IfOutOfRange TotalTold) (total s table text)
+  total-told : Refused (IfOutOfRange TotalTold) (total card text)
   unfolding total
-  total-told = refused-bind (parts s table text (suc (length text)) 0) (parts-told (suc (length text)) 0 at-first) (λ lengths _. not-refused)
+  total-told = refused-bind (parts card text (suc (length text)) 0) (parts-told (suc (length text)) 0 at-first) (λ lengths _. not-refused)
 
   -- where the total comes to read a part, it is what it has summed up so far and the parts from there on
-  total-goes-on : {from : ℕ} → Reached s table text from → (so-far : Length) × (total s table text ≡ total-from s table text so-far from)
-  total-goes-on at-first = (zero-length, total-is s table text)
+  total-goes-on : {from : ℕ} → Reached card text from → (so-far : Length) × (total card text ≡ total-from card text so-far from)
+  total-goes-on at-first = (zero-length, total-is card text)
   total-goes-on (behind {place = place} {r = r} h read on) =
       let (so-far, same) = total-goes-on h in
-      (sum so-far (r .length), same ∙ total-step s table text so-far place ∙ bind-got _ read ∙ if-else _ _ on)
+      (sum so-far (r .length), same ∙ total-step card text so-far place ∙ bind-got _ read ∙ if-else _ _ on)
 
-  pub total-found : Exactly (WrongInTotal s table text) (total s table text)
+  pub total-found : Exactly (WrongInTotal card text) (total card text)
   total-found = record {
     told = total-told;
     given = λ negative q (from, reached, wrong).
         let (so-far, same) = total-goes-on reached in
-        same ∙ total-step s table text so-far from ∙ bind-refused _ (part-exactly from negative q .1 wrong);
+        same ∙ total-step card text so-far from ∙ bind-refused _ (part-exactly from negative q .1 wrong);
   }
 
   -- the total is refused so exactly if the exponent of a part that it comes to read passes the range there
-  pub total-exactly : (negative : Bool) (q : ℕ) → (total s table text ≡ refused (exponent-passed negative q)) ↔ WrongInTotal s table text negative q
+  pub total-exactly : (negative : Bool) (q : ℕ) → (total card text ≡ refused (exponent-passed negative q)) ↔ WrongInTotal card text negative q
   total-exactly = exactly total-found

@@ -3,27 +3,27 @@
 use mathlib.Core.Path.{_≡_, refl, ap}
 use mathlib.Core.Bool.{Bool, _&&_}
 use mathlib.Core.List.{List}
-use Prim.Native.Nat.{ℕ}
+use Prim.Native.Nat.{ℕ, _+_}
 use Prim.Native.String.{String}
 use lib.Dec.{T}
 use lib.ListN.{length}
 use Rattle.rules.specs.declared.Answer.{Answer}
 use Rattle.rules.specs.declared.Length.{Length}
-use Rattle.rules.specs.declared.Settings.{Settings}
 use Rattle.rules.specs.declared.Refusal.{Refusal}
-use Rattle.rules.specs.declared.Refusal.the-variants.{Nothing, SignEnds, DelimiterEnds, FractionOff, FractionEmpty, ExponentOff, ExponentByte, ExponentEnds, ExponentAbove, ExponentBelow, InfinityByte, InfinityEnds, InfinityGoesOn, ConjunctionEnds, ConjunctionGoesOn, NegativeForbidden, NoNumber, Delimiters, Conjunctions, DefaultKind, TableSize, BadRow, TextTooLong, NoRoom, Beyond, Malformed, NotIso, YearOrMonth, TooLarge}
+use Rattle.rules.specs.declared.Refusal.the-variants.{Nothing, SignEnds, DelimiterEnds, FractionOff, FractionEmpty, ExponentOff, ExponentByte, ExponentEnds, ExponentAbove, ExponentBelow, InfinityByte, InfinityEnds, InfinityGoesOn, ConjunctionEnds, ConjunctionGoesOn, NegativeForbidden, NoNumber, NoUnit, OutOfRange, Delimiters, Conjunctions, DefaultKind, TableSize, BadRow, NumeralsSize, BadNumeral, TextTooLong, NoRoom, Beyond, Malformed, NotIso, YearOrMonth, TooLarge}
 use Rattle.rules.specs.Common.{if_then_else_, ascii}
 use Rattle.rules.specs.ThePartOfTheCrateWeTake.{longest-text, zero-length}
 use Rattle.rules.specs.NumbersHandedBack.{Outcome, got, refused, number, position, done, refusal, answered}
+use Rattle.rules.specs.SettingsAndUnitTable.{Card}
 use Rattle.rules.specs.WriterAndShiftTotal.{writing}
 use Rattle.rules.specs.WhatEveryEntryOwes.{read-part, part-answer, read-total, total-answer, write-answer, add-total, shift-answer}
 use Rattle.rules.specs.Computing.{computing}
-use Rattle.rules.specs.CardAAndItsReadings.{space, conjunction, card, card-A, row-of, table-A, same-length, same-answer, fails}
+use Rattle.rules.specs.CardAAndItsReadings.{space, conjunction, settings, settings-A, row-of, table-A, unspoken, card-A, same-length, same-answer, fails}
 use Rattle.exponent_place.specs.TheWrongDigit.{out-of-range}
 
 -- ---- as it was
 
--- written out, so that it does not follow what is handed back now
+-- written out, so that it does not follow what is handed back now; what later requests refuse has the place that they give it
 unfoldable pub position-before : Refusal → ℕ
 position-before (Nothing p) = p
 position-before (SignEnds p) = p
@@ -42,11 +42,15 @@ position-before (ConjunctionEnds p) = p
 position-before (ConjunctionGoesOn p) = p
 position-before (NegativeForbidden p) = 0
 position-before (NoNumber p) = p
+position-before (NoUnit p) = p
+position-before OutOfRange = 0
 position-before Delimiters = 65
 position-before Conjunctions = 66
 position-before DefaultKind = 67
 position-before TableSize = 64
 position-before (BadRow i) = i
+position-before NumeralsSize = 100
+position-before (BadNumeral i) = 68 + i
 position-before TextTooLong = longest-text
 position-before (NoRoom p) = p
 position-before (Beyond p) = p
@@ -59,17 +63,17 @@ unfoldable pub answered-before : {A : Type 0} → (A → Answer) → Outcome A �
 answered-before show (got a) = show a
 answered-before show (refused cause) = record { number = number cause; position = position-before cause; length = zero-length }
 
-unfoldable pub part-before : Settings → List ℕ → List ℕ → ℕ → Answer
-part-before s table text place = answered-before (λ r. done (r .next) (r .length)) (read-part s table text place)
+unfoldable pub part-before : Card → List ℕ → ℕ → Answer
+part-before card text place = answered-before (λ r. done (r .next) (r .length)) (read-part card text place)
 
-unfoldable pub total-before : Settings → List ℕ → List ℕ → Answer
-total-before s table text = answered-before (done (length text)) (read-total s table text)
+unfoldable pub total-before : Card → List ℕ → Answer
+total-before card text = answered-before (done (length text)) (read-total card text)
 
 unfoldable pub write-before : Length → List ℕ → ℕ → Answer
 write-before l buffer place = answered-before (λ r. done (r .next) (r .length)) (writing l buffer place)
 
-unfoldable pub shift-before : Length → Settings → List ℕ → List ℕ → Answer
-shift-before so-far s table text = answered-before (done (length text)) (add-total so-far s table text)
+unfoldable pub shift-before : Length → Card → List ℕ → Answer
+shift-before so-far card text = answered-before (done (length text)) (add-total so-far card text)
 
 -- ---- folded back: the place of 3 and 4 is 0 again, and nothing else is touched
 
@@ -98,11 +102,15 @@ position-folded (ConjunctionEnds p) = refl
 position-folded (ConjunctionGoesOn p) = refl
 position-folded (NegativeForbidden p) = refl
 position-folded (NoNumber p) = refl
+position-folded (NoUnit p) = refl
+position-folded OutOfRange = refl
 position-folded Delimiters = refl
 position-folded Conjunctions = refl
 position-folded DefaultKind = refl
 position-folded TableSize = refl
 position-folded (BadRow i) = refl
+position-folded NumeralsSize = refl
+position-folded (BadNumeral i) = refl
 position-folded TextTooLong = refl
 position-folded (NoRoom p) = refl
 position-folded (Beyond p) = refl
@@ -119,30 +127,30 @@ folded-back show (refused cause) read = ap (λ place. record { number = number c
 
 -- ---- the entries
 
-pub part-folded : (s : Settings) (table text : List ℕ) (place : ℕ) → folded (part-answer s table text place) ≡ part-before s table text place
+pub part-folded : (card : Card) (text : List ℕ) (place : ℕ) → folded (part-answer card text place) ≡ part-before card text place
 unfolding part-answer part-before done
-part-folded s table text place = folded-back _ (read-part s table text place) (λ r. refl)
+part-folded card text place = folded-back _ (read-part card text place) (λ r. refl)
 
-pub total-folded : (s : Settings) (table text : List ℕ) → folded (total-answer s table text) ≡ total-before s table text
+pub total-folded : (card : Card) (text : List ℕ) → folded (total-answer card text) ≡ total-before card text
 unfolding total-answer total-before done
-total-folded s table text = folded-back _ (read-total s table text) (λ r. refl)
+total-folded card text = folded-back _ (read-total card text) (λ r. refl)
 
 pub write-folded : (l : Length) (buffer : List ℕ) (place : ℕ) → folded (write-answer l buffer place) ≡ write-before l buffer place
 unfolding write-answer write-before done
 write-folded l buffer place = folded-back _ (writing l buffer place) (λ r. refl)
 
-pub shift-folded : (so-far : Length) (s : Settings) (table text : List ℕ) → folded (shift-answer so-far s table text) ≡ shift-before so-far s table text
+pub shift-folded : (so-far : Length) (card : Card) (text : List ℕ) → folded (shift-answer so-far card text) ≡ shift-before so-far card text
 unfolding shift-answer shift-before done
-shift-folded so-far s table text = folded-back _ (add-total so-far s table text) (λ r. refl)
+shift-folded so-far card text = folded-back _ (add-total so-far card text) (λ r. refl)
 
 -- ---- computed
 
 -- an exponent out of range was handed back with 0, and a wrong byte in one with its place, as now
 unfoldable pub was : String → ℕ → ℕ → Bool
 was text n p =
-    same-answer (total-before card-A table-A (ascii text)) (fails text n p .comes-to)
-    && same-answer (folded (total-answer card-A table-A (ascii text))) (fails text n p .comes-to)
+    same-answer (total-before card-A (ascii text)) (fails text n p .comes-to)
+    && same-answer (folded (total-answer card-A (ascii text))) (fails text n p .comes-to)
 
 pub before : T (was "1e-0032769" 4 0 && was "1s 1e99999s" 3 0 && was "1s 1e-x" 2 6 && was "1s 1e9 x" 6 7)
-unfolding computing space conjunction card card-A row-of table-A same-length same-answer fails was position-before answered-before total-before fold-position folded out-of-range
+unfolding computing space conjunction settings settings-A row-of table-A unspoken card-A same-length same-answer fails was position-before answered-before total-before fold-position folded out-of-range
 before = tt

@@ -13,7 +13,7 @@ use Rattle.rules.specs.declared.Refusal.the-variants.{Nothing, NoNumber}
 use Rattle.rules.specs.Common.{if_then_else_, ends, sees, run}
 use Rattle.rules.specs.ThePartOfTheCrateWeTake.{zero-length}
 use Rattle.rules.specs.NumbersHandedBack.{Outcome, got, refused, _>>=_}
-use Rattle.rules.specs.SettingsAndUnitTable.{DIGIT, SIGN, POINT, is}
+use Rattle.rules.specs.SettingsAndUnitTable.{DIGIT, SIGN, POINT, is, Card}
 use Rattle.rules.specs.ReadingOnePart.{same-letter, sign-step, number-step, exponent-limit}
 use Rattle.rules.specs.Evaluation.{spelled, part-reading}
 
@@ -41,7 +41,7 @@ pub record Passed (text : List ℕ) (e place : ℕ) : Type 0 where
 
 -- ---- the exponent of a part
 
--- where step 4 looks for an `e`: behind the sign and the number of the part that begins at the place
+-- where step 4 looks for an `e`: behind the sign and the number of the part that begins at the place; infinity and a spoken number have none
 unfoldable pub after-number : Settings → List ℕ → ℕ → Outcome ℕ
 after-number s text place =
     if ends text place
@@ -64,13 +64,13 @@ pub record WrongDigit (s : Settings) (text : List ℕ) (from : ℕ) (negative : 
 -- ---- the parts of a text
 
 -- the total comes to read a part at the place
-pub data Reached (s : Settings) (table text : List ℕ) : ℕ → Type 0 where
-  at-first : Reached s table text 0
-  behind : {place : ℕ} {r : Reading} → Reached s table text place → part-reading s table text place ≡ got r → ends text (r .next) ≡ false → Reached s table text (r .next)
+pub data Reached (card : Card) (text : List ℕ) : ℕ → Type 0 where
+  at-first : Reached card text 0
+  behind : {place : ℕ} {r : Reading} → Reached card text place → part-reading card text place ≡ got r → ends text (r .next) ≡ false → Reached card text (r .next)
 
 -- the wrong digit of a part that the total comes to read
-abbrev pub WrongInTotal : Settings → List ℕ → List ℕ → Bool → ℕ → Type 0
-WrongInTotal s table text negative place = (from : ℕ) × Reached s table text from × WrongDigit s text from negative place
+abbrev pub WrongInTotal : Card → List ℕ → Bool → ℕ → Type 0
+WrongInTotal card text negative place = (from : ℕ) × Reached card text from × WrongDigit (card .settings) text from negative place
 
 -- ---- what is handed back for an exponent out of range
 

@@ -10,18 +10,17 @@ use lib.Dec.{leb}
 use lib.ListN.{length}
 use Rattle.rules.specs.declared.Answer.{Answer}
 use Rattle.rules.specs.declared.Length.{Length}
-use Rattle.rules.specs.declared.Settings.{Settings}
 use Rattle.rules.specs.declared.Refusal.{Refusal}
-use Rattle.rules.specs.declared.Refusal.the-variants.{Delimiters, Conjunctions, DefaultKind, TableSize, TextTooLong, Beyond, Malformed}
+use Rattle.rules.specs.declared.Refusal.the-variants.{Delimiters, Conjunctions, DefaultKind, TableSize, BadRow, NumeralsSize, BadNumeral, TextTooLong, Beyond, Malformed}
 use Rattle.rules.specs.ThePartOfTheCrateWeTake.{longest-text, well-formed}
 use Rattle.rules.specs.NumbersHandedBack.{_>>_, Outcome, got, refused, number, unless, done, refusal, answered}
-use Rattle.rules.specs.SettingsAndUnitTable.{settings-check, delimiters-accepted, conjunctions-accepted, rows, rows-check, table-check, card-check}
+use Rattle.rules.specs.SettingsAndUnitTable.{settings-check, rows, rows-check, table-check, numerals-check, Card, card-check}
 use Rattle.rules.specs.Evaluation.{total}
 use Rattle.rules.specs.WriterAndShiftTotal.{shifting, record-after}
 use Rattle.rules.specs.WhatEveryEntryOwes.{read-part, part-answer, read-total, total-answer, add-total, shift-answer, shifted-record}
 use Rattle.rules.specs.Laws.Outcomes.{bind-refused, Refused, not-refused, refused-by, the-cause, refused-map, refused-if, refused-bind, refused-then}
 use Rattle.exponent_place.specs.TheWrongDigit.{WrongDigit, WrongInTotal, passed-at, out-of-range}
-use Rattle.exponent_place.specs.NoOtherStep.{IfOutOfRange, by-other}
+use Rattle.exponent_place.specs.NoOtherStep.{IfOutOfRange, by-other, test-other}
 use Rattle.exponent_place.specs.ExactlyThere.{passed-number, passed-answer, same-at, Exactly, part-found, total-found}
 
 -- ---- what comes before the text is read refuses by other numbers
@@ -29,25 +28,22 @@ use Rattle.exponent_place.specs.ExactlyThere.{passed-number, passed-answ
 abbrev Other : {A : Type 0} → Outcome A → Type 0
 Other m = Refused (IfOutOfRange (λ _. ⊥)) m
 
-test-other : (cause : Refusal) (test : Bool) → out-of-range (number cause) ≡ false → Other (unless cause test)
-unfolding unless
-test-other cause true right = not-refused
-test-other cause false right = by-other (λ _. ⊥) cause right
+-- a test, and what comes behind it
+test-then : (cause : Refusal) (test : Bool) {next : Outcome (Unit {0})} → out-of-range (number cause) ≡ false → Other next → Other (unless cause test >> next)
+test-then cause test right other = refused-then (unless cause test) (test-other (λ _. ⊥) cause test right) other
 
-module _ (s : Settings) (table : List ℕ) where
-  rows-other : (i n : ℕ) → Other (rows-check s table i n)
-  unfolding rows-check out-of-range number
-  rows-other i zero = not-refused
-  rows-other i (suc n) = refused-if (λ _. rows-other (suc i) n) (λ _. by-other (λ _. ⊥) _ refl)
+rows-other : (accepted : ℕ → Bool) (bad : ℕ → Refusal) → ((i : ℕ) → out-of-range (number (bad i)) ≡ false) → (i n : ℕ) → Other (rows-check accepted bad i n)
+unfolding rows-check
+rows-other accepted bad right i zero = not-refused
+rows-other accepted bad right i (suc n) = refused-if (λ _. rows-other accepted bad right (suc i) n) (λ _. by-other (λ _. ⊥) (bad i) (right i))
 
-  card-other : Other (card-check s table)
-  unfolding card-check settings-check table-check out-of-range number
-  card-other =
-      refused-then (settings-check s)
-      (refused-then (unless Delimiters (delimiters-accepted s)) (test-other Delimiters _ refl)
-      (refused-then (unless Conjunctions (conjunctions-accepted s)) (test-other Conjunctions _ refl)
-      (test-other DefaultKind _ refl)))
-      (refused-then (unless TableSize _) (test-other TableSize _ refl) (rows-other 0 (rows table)))
+card-other : (card : Card) → Other (card-check card)
+unfolding card-check settings-check table-check numerals-check out-of-range number
+card-other card =
+    refused-then (settings-check (card .settings)) (test-then Delimiters _ refl (test-then Conjunctions _ refl (test-other (λ _. ⊥) DefaultKind _ refl)))
+    (refused-then (table-check (card .settings) (card .units))
+    (test-then TableSize _ refl (rows-other _ BadRow (λ i. refl) 0 (rows (card .units))))
+    (test-then NumeralsSize _ refl (rows-other _ BadNumeral (λ i. refl) 0 (rows (card .numerals)))))
 
 -- ---- behind a check 3 and 4 come as without it, if it has passed
 
@@ -65,7 +61,7 @@ module _ {A C : Type 0} {X : Bool → ℕ → Type 0} {next : Outcome A} (found 
 
   tested : (cause : Refusal) (test : Bool) → out-of-range (number cause) ≡ false → (test ≡ true → C) → (C → test ≡ true) → Exactly (λ negative q. C × X negative q) (unless cause test >> next)
   unfolding unless
-  tested cause test right there back = checked (unless cause test) (test-other cause test right) (λ e. there (passed test e)) (λ c. rw (back c))
+  tested cause test right there back = checked (unless cause test) (test-other (λ _. ⊥) cause test right) (λ e. there (passed test e)) (λ c. rw (back c))
     where
       passed : (test : Bool) → unless cause test ≡ got tt → test ≡ true
       passed true e = refl
@@ -103,9 +99,9 @@ module _ {A : Type 0} (show : A → Answer) (read : (a : A) → (show a) .number
 -- ---- the entries: what 3 or 4 says, and that 3, or 4 for a minus, is handed back with q exactly if the checks pass and the wrong digit
 -- stands there
 
-module _ (s : Settings) (table text : List ℕ) where
-  card-then : {A : Type 0} {X : Bool → ℕ → Type 0} {next : Outcome A} → Exactly X next → Exactly (λ negative q. (card-check s table ≡ got tt) × X negative q) (card-check s table >> next)
-  card-then found = checked found (card-check s table) (card-other s table) (λ e. e) (λ e. e)
+module _ (card : Card) (text : List ℕ) where
+  card-then : {A : Type 0} {X : Bool → ℕ → Type 0} {next : Outcome A} → Exactly X next → Exactly (λ negative q. (card-check card ≡ got tt) × X negative q) (card-check card >> next)
+  card-then found = checked found (card-check card) (card-other card) (λ e. e) (λ e. e)
 
   short-then : {A : Type 0} {X : Bool → ℕ → Type 0} {next : Outcome A} → Exactly X next → Exactly (λ negative q. (length text ≤ longest-text) × X negative q) (unless TextTooLong (leb (length text) longest-text) >> next)
   unfolding out-of-range number
@@ -116,20 +112,20 @@ module _ (s : Settings) (table text : List ℕ) where
   module _ (place : ℕ) where
     -- the checks pass, and the wrong digit of the part that begins at the place stands at q
     abbrev pub InPart : Bool → ℕ → Type 0
-    InPart negative q = (card-check s table ≡ got tt) × ((length text ≤ longest-text) × ((place ≤ length text) × WrongDigit s text place negative q))
+    InPart negative q = (card-check card ≡ got tt) × ((length text ≤ longest-text) × ((place ≤ length text) × WrongDigit (card .settings) text place negative q))
 
-    part-entry : Exactly InPart (read-part s table text place)
+    part-entry : Exactly InPart (read-part card text place)
     unfolding read-part out-of-range number
     part-entry =
         card-then
         (short-then
-        (tested (part-found s table text place) (Beyond place) (leb place (length text)) refl (leb-true place (length text)) (le-leb place (length text))))
+        (tested (part-found card text place) (Beyond place) (leb place (length text)) refl (leb-true place (length text)) (le-leb place (length text))))
 
-    pub part-says : out-of-range ((part-answer s table text place) .number) ≡ true → Says InPart (part-answer s table text place)
+    pub part-says : out-of-range ((part-answer card text place) .number) ≡ true → Says InPart (part-answer card text place)
     unfolding part-answer done
     part-says = says _ (λ r. refl) part-entry
 
-    pub part-answer-exactly : (negative : Bool) (q : ℕ) → (part-answer s table text place ≡ passed-at negative q) ↔ InPart negative q
+    pub part-answer-exactly : (negative : Bool) (q : ℕ) → (part-answer card text place ≡ passed-at negative q) ↔ InPart negative q
     unfolding part-answer done
     part-answer-exactly = handed-back _ (λ r. refl) part-entry
 
@@ -137,17 +133,17 @@ module _ (s : Settings) (table text : List ℕ) where
 
   -- the checks pass, and the wrong digit of a part that the total comes to read stands at q
   abbrev pub InTotal : Bool → ℕ → Type 0
-  InTotal negative q = (card-check s table ≡ got tt) × ((length text ≤ longest-text) × WrongInTotal s table text negative q)
+  InTotal negative q = (card-check card ≡ got tt) × ((length text ≤ longest-text) × WrongInTotal card text negative q)
 
-  total-entry : Exactly InTotal (read-total s table text)
+  total-entry : Exactly InTotal (read-total card text)
   unfolding read-total
-  total-entry = card-then (short-then (total-found s table text))
+  total-entry = card-then (short-then (total-found card text))
 
-  pub total-says : out-of-range ((total-answer s table text) .number) ≡ true → Says InTotal (total-answer s table text)
+  pub total-says : out-of-range ((total-answer card text) .number) ≡ true → Says InTotal (total-answer card text)
   unfolding total-answer done
   total-says = says _ (λ l. refl) total-entry
 
-  pub total-answer-exactly : (negative : Bool) (q : ℕ) → (total-answer s table text ≡ passed-at negative q) ↔ InTotal negative q
+  pub total-answer-exactly : (negative : Bool) (q : ℕ) → (total-answer card text ≡ passed-at negative q) ↔ InTotal negative q
   unfolding total-answer done
   total-answer-exactly = handed-back _ (λ l. refl) total-entry
 
@@ -156,28 +152,28 @@ module _ (s : Settings) (table text : List ℕ) where
   module _ (so-far : Length) where
     -- the same, and the record is well-formed
     abbrev pub InShift : Bool → ℕ → Type 0
-    InShift negative q = (card-check s table ≡ got tt) × ((well-formed so-far ≡ true) × ((length text ≤ longest-text) × WrongInTotal s table text negative q))
+    InShift negative q = (card-check card ≡ got tt) × ((well-formed so-far ≡ true) × ((length text ≤ longest-text) × WrongInTotal card text negative q))
 
-    added : Exactly (WrongInTotal s table text) (shifting so-far (total s table text))
+    added : Exactly (WrongInTotal card text) (shifting so-far (total card text))
     unfolding shifting
     added = record {
-      told = refused-bind (total s table text) ((total-found s table text) .told) (λ l _. not-refused);
-      given = λ negative q wrong. bind-refused _ ((total-found s table text) .given negative q wrong);
+      told = refused-bind (total card text) ((total-found card text) .told) (λ l _. not-refused);
+      given = λ negative q wrong. bind-refused _ ((total-found card text) .given negative q wrong);
     }
 
-    shift-entry : Exactly InShift (add-total so-far s table text)
+    shift-entry : Exactly InShift (add-total so-far card text)
     unfolding add-total out-of-range number
     shift-entry = card-then (tested (short-then added) Malformed (well-formed so-far) refl (λ e. e) (λ e. e))
 
-    pub shift-says : out-of-range ((shift-answer so-far s table text) .number) ≡ true → Says InShift (shift-answer so-far s table text)
+    pub shift-says : out-of-range ((shift-answer so-far card text) .number) ≡ true → Says InShift (shift-answer so-far card text)
     unfolding shift-answer done
     shift-says = says _ (λ l. refl) shift-entry
 
-    pub shift-answer-exactly : (negative : Bool) (q : ℕ) → (shift-answer so-far s table text ≡ passed-at negative q) ↔ InShift negative q
+    pub shift-answer-exactly : (negative : Bool) (q : ℕ) → (shift-answer so-far card text ≡ passed-at negative q) ↔ InShift negative q
     unfolding shift-answer done
     shift-answer-exactly = handed-back _ (λ l. refl) shift-entry
 
     -- and the record stays as it was
-    pub shift-stays : out-of-range ((shift-answer so-far s table text) .number) ≡ true → shifted-record so-far s table text ≡ so-far
+    pub shift-stays : out-of-range ((shift-answer so-far card text) .number) ≡ true → shifted-record so-far card text ≡ so-far
     unfolding shift-answer shifted-record record-after done
-    shift-stays wrong = rw (named _ (λ l. refl) (add-total so-far s table text) wrong .1)
+    shift-stays wrong = rw (named _ (λ l. refl) (add-total so-far card text) wrong .1)

@@ -8,19 +8,19 @@ use native.Mathlib.Nat.{zero-div, zero-mul, mul-zero}
 use native.Mathlib.Omega.{arith}
 use lib.Dec.{eqb}
 use lib.ListN.{length, drop, length-drop}
-use lib.Seq.{slice}
 use borrow.Author.Tests.{le-leb, eqb-true, eq-eqb, ne-eqb, not-true}
 use Rattle.rules.specs.declared.ByteSet.{ByteSet}
 use Rattle.rules.specs.declared.Settings.{Settings}
 use Rattle.rules.specs.declared.Scaled.{Scaled}
 use Rattle.rules.specs.declared.DurationRepr.{DurationRepr}
+use Rattle.rules.specs.declared.Repr.the-variants.{Typed}
 use Rattle.rules.specs.declared.Found.the-variants.{Row}
 use Rattle.rules.specs.Common.{if_then_else_, ascii, between, all, runs, ends, starts, sees, run}
 use Rattle.rules.specs.ThePartOfTheCrateWeTake.{zero-length, size}
 use Rattle.rules.specs.NumbersHandedBack.{got, _>>=_}
-use Rattle.rules.specs.SettingsAndUnitTable.{DIGIT, SIGN, POINT, OTHER, class, is, is-next-duration, lower, holds, empty, may-name, settings-check, row-size, rows, row, name, product, led-by-e, e-may-lead, can-be-typed, row-right, lookup}
-use Rattle.rules.specs.ReadingOnePart.{same-letter, delimiters, gap, sign-step, fraction-step, number-step, exponent-limit, exponent-digits, exponent-number, exponent-step, in-stretch, ago-step, unit-found, unit-step, finite-part, unsigned-part, part}
-use Rattle.rules.specs.Evaluation.{spelled, digits-of, attos, nanos, length-of, evaluate, allowed, part-reading, sum, sum-all, parts, total}
+use Rattle.rules.specs.SettingsAndUnitTable.{DIGIT, SIGN, POINT, OTHER, class, is, is-next-duration, lower, holds, empty, may-name, settings-check, row-size, rows, row, name, product, led-by-e, e-may-lead, can-be-typed, row-right, Card, lookup}
+use Rattle.rules.specs.ReadingOnePart.{same-letter, delimiters, gap, sign-step, fraction-step, number-step, exponent-limit, exponent-digits, exponent-number, exponent-step, in-stretch, ago-step, find-unit, unit-found, unit-step, finite-part, unsigned-part, part}
+use Rattle.rules.specs.Evaluation.{spelled, digits-of, attos, nanos, length-of, evaluate, evaluated, allowed, part-reading, sum, sum-all, parts, total}
 use Rattle.rules.specs.Laws.Choices.{or-neither, if-either, and-both, and-left, and-right, all-first, all-weaken}
 use Rattle.rules.specs.Laws.Tests.{and-false}
 use Rattle.rules.specs.Laws.Lists.{runs-below}
@@ -35,11 +35,11 @@ use Rattle.card.specs.Laws.Accepted.{own-name}
 use Rattle.rows.specs.Laws.Rows.{length-row}
 use Rattle.card.specs.Laws.Names.{name-some, size-most, name-bytes}
 use Rattle.findable.specs.TheTextForARow.{first-held, joint, text-for}
-use Rattle.findable.specs.WhereAPartFindsItsUnit.{number-unit, unsigned-unit, unit-of, units, among, among-got, finds}
+use Rattle.findable.specs.WhereAPartFindsItsUnit.{number-unit, unsigned-unit, unit-of, counted, units, among, among-got, finds}
 
 -- the text can be read, comes to zero, and finds row i
-abbrev pub Reads : Settings → List ℕ → ℕ → List ℕ → Type 0
-Reads s table i text = (total s table text ≡ got zero-length) × (finds s table text i ≡ true)
+abbrev pub Reads : Card → ℕ → List ℕ → Type 0
+Reads card i text = (total card text ≡ got zero-length) × (finds card text i ≡ true)
 
 -- ---- bytes of a name
 
@@ -67,9 +67,8 @@ no-nanos : (c : ℕ) → nanos c 0 ≡ 0
 unfolding nanos
 no-nanos c = rw (mul-zero c)
 
--- ---- a text of zero and a name: what stands after the zero is no digit and no point, and an exponent and a gap may come before the name
+-- ---- what the text has before the name: `0`, and `e`
 
--- `0` and `e`
 fixed : (is DIGIT 48 ≡ true) × (is SIGN 48 ≡ false) × (is DIGIT 101 ≡ false) × (is POINT 101 ≡ false)
 unfolding is class between if_then_else_
 fixed = (refl, refl, refl, refl)
@@ -82,109 +81,6 @@ no-zero (b ∷ rest) e = go (eqb 48 b) refl
     go : (z : Bool) → eqb 48 b ≡ z → z ≡ false
     go true z = absurd (false≢true (sym e ∙ ap (is DIGIT) (sym (eqb-true 48 b z)) ∙ fixed .0))
     go false z = refl
-
-module _ (s : Settings) (rest : List ℕ) (no-digit : starts (is DIGIT) rest ≡ false) (no-point : starts (is POINT) rest ≡ false) where
-  abbrev text : List ℕ
-  text = 48 ∷ rest
-
-  run-one : (test : ℕ → Bool) → all test (48 ∷ []) ≡ true → starts test rest ≡ false → run test text 0 ≡ 1
-  run-one test passes stops = run-over text 0 (48 ∷ []) rest refl test passes stops
-
-  no-sign : sign-step s text 0 ≡ got (record { negative = false; next = 0 })
-  unfolding sign-step sees starts is class between if_then_else_
-  no-sign = refl
-
-  a-digit : sees (λ b. is DIGIT b || is POINT b) text 0 ≡ true
-  unfolding sees starts is class between if_then_else_
-  a-digit = refl
-
-  the-zero : number-step s text 0 ≡ got (record { whole = record { start = 1; end = 1 }; fract = record { start = 1; end = 1 }; next = 1 })
-  unfolding number-step fraction-step sees all if_then_else_
-  the-zero = rw (run-one (eqb 48) refl (no-zero rest no-digit), run-one (is DIGIT) (and-both (fixed .0) refl) no-digit, no-point)
-
-  -- up to the name at the place nothing is refused, and the lookup finds the name at row i
-  module _
-      (table : List ℕ)
-      (i place : ℕ)
-      (scaled : Scaled)
-      (typed-exponent : exponent-step s text 1 ≡ got scaled)
-      (typed-gap : gap (s .«before_unit») s text (scaled .next) ≡ got place)
-      (named : List ℕ)
-      (here : drop place text ≡ named)
-      (stretches : all (in-stretch s) named ≡ true)
-      (found : lookup table named ≡ Row i)
-    where
-      abbrev end : ℕ
-      end = place + length named
-
-      at-place : drop place text ≡ named ++ []
-      at-place = here ∙ sym (append-nil named)
-
-      at-end : ends text end ≡ true
-      unfolding ends
-      at-end = le-leb (length text) end (omega (arith, sym (length-drop place text) ∙ ap length here))
-
-      no-more : (test : ℕ → Bool) → sees test text end ≡ false
-      no-more test = sees-end test text end (ends-le text end at-end)
-
-      to-end : run (in-stretch s) text place ≡ end
-      unfolding starts
-      to-end = run-over text place named [] at-place (in-stretch s) stretches refl
-
-      the-name : lookup table (slice place (run (in-stretch s) text place) text) ≡ Row i
-      the-name = rw (to-end, stretch text place named [] at-place, found)
-
-      the-unit : unit-step s table text place ≡ got (record { multiplier = product (row table i); next = end })
-      unfolding unit-step unit-found ago-step if_then_else_
-      the-unit = rw (the-name, to-end, no-more (holds (s .inner)), and-false (s .ago))
-
-      abbrev repr : DurationRepr
-      repr = record {
-        negative = false;
-        infinite = false;
-        whole = record { start = 1; end = 1 };
-        fract = record { start = 1; end = 1 };
-        exponent = scaled .exponent;
-        multiplier = product (row table i);
-      }
-
-      the-number : finite-part s table text false 0 ≡ got (record { repr = repr; next = end })
-      unfolding finite-part
-      the-number =
-          bind-got _ the-zero
-          ∙ bind-got _ typed-exponent
-          ∙ bind-got _ typed-gap
-          ∙ bind-got _ the-unit
-          ∙ bind-got _ (connection-none s text end (no-more (holds (s .outer))))
-
-      the-part : part s table text 0 ≡ got (record { repr = repr; next = end })
-      unfolding part unsigned-part if_then_else_
-      the-part = rw (goes-on text 0 refl) (bind-got _ no-sign ∙ rw a-digit the-number)
-
-      -- it comes to zero, whatever the row
-      nothing : evaluate text repr ≡ zero-length
-      unfolding evaluate digits-of spelled if_then_else_
-      nothing = rw (no-attos, no-nanos, no-length)
-
-      the-reading : part-reading s table text 0 ≡ got (record { length = zero-length; next = end })
-      unfolding part-reading allowed zero-length if_then_else_
-      the-reading = bind-got _ the-part ∙ rw nothing
-
-      finds-row : unit-of s table text 0 ≡ got (Row i)
-      unfolding unit-of unsigned-unit number-unit if_then_else_
-      finds-row = bind-got _ no-sign ∙ rw a-digit (bind-got _ the-zero ∙ bind-got _ typed-exponent ∙ bind-got _ typed-gap ∙ ap got the-name)
-
-      -- the text can be read, and it finds the row
-      is-read : total s table text ≡ got zero-length
-      unfolding total parts sum-all sum size length-of zero-length if_then_else_ _>>=_
-      is-read = rw (the-reading, at-end)
-
-      is-found : finds s table text i ≡ true
-      unfolding finds units among-got among if_then_else_ _>>=_
-      is-found = rw (the-reading, finds-row, at-end, eq-eqb i i refl)
-
-      reads : Reads s table i text
-      reads = (is-read, is-found)
 
 -- ---- the first byte that a set holds
 
@@ -215,7 +111,7 @@ other-not-e d below other =
     let apart : (not (is OTHER d) || not (same-letter 101 d)) ≡ true = runs-below (λ k. not (is OTHER k) || not (same-letter 101 k)) 256 d refl below in
     not-true (same-letter 101 d) (rw (eq-eqb (class d) OTHER other) at apart)
 
--- ---- the three texts
+-- ---- an exponent of zero, and one delimiter
 
 zero-exponent : (s : Settings) (b : ℕ) (m : List ℕ) → s .exponents ≡ true → is DIGIT b ≡ false → exponent-step s (48 ∷ 101 ∷ 48 ∷ b ∷ m) 1 ≡ got (record { exponent = record { negative = false; power = 0 }; next = 3 })
 unfolding exponent-step exponent-number exponent-digits exponent-limit sees starts same-letter lower between if_then_else_
@@ -226,85 +122,199 @@ unfolding gap delimiters sees starts all if_then_else_
 one-delimiter s d b m on held other =
     rw (on, held, run-over (48 ∷ d ∷ b ∷ m) 1 (d ∷ []) (b ∷ m) refl (holds (s .inner)) (and-both held refl) other, goes-on (48 ∷ d ∷ b ∷ m) 2 refl)
 
-module _ (s : Settings) (b : ℕ) (m : List ℕ) (may : all (may-name s) (b ∷ m) ≡ true) (table : List ℕ) (i : ℕ) (found : lookup table (b ∷ m) ≡ Row i) where
-  abbrev named : List ℕ
-  named = b ∷ m
+module _ (card : Card) where
+  abbrev s : Settings
+  s = card .settings
 
-  first : (holds (s .inner) b ≡ false) × (holds (s .outer) b ≡ false) × (is DIGIT b ≡ false) × (is SIGN b ≡ false) × (is POINT b ≡ false)
-  first = name-byte s b (all-first (may-name s) b m may)
+  abbrev table : List ℕ
+  table = card .units
 
-  stretches : all (in-stretch s) named ≡ true
-  stretches = all-weaken (may-name s) (in-stretch s) (name-in-stretch s) named may
+  -- ---- a text of zero and a name: what stands after the zero is no digit and no point, and an exponent and a gap may come before the name
 
-  no-gap : (text : List ℕ) (place : ℕ) → drop place text ≡ named → gap (s .«before_unit») s text place ≡ got place
-  unfolding starts
-  no-gap text place here = gap-none s text place (s .«before_unit») (sees-of text place (holds (s .inner)) here ∙ first .0)
+  module _ (rest : List ℕ) (no-digit : starts (is DIGIT) rest ≡ false) (no-point : starts (is POINT) rest ≡ false) where
+    abbrev text : List ℕ
+    text = 48 ∷ rest
 
-  -- `0s`
-  plain : led-by-e named ≡ false → Reads s table i (48 ∷ named)
-  unfolding led-by-e starts sees same-letter lower between if_then_else_
-  plain unled =
-      let exponent = exponent-none s (48 ∷ named) 1 unled in
-      reads s named (first .2) (first .4) table i 1 _ exponent (no-gap (48 ∷ named) 1 refl) named refl stretches found
+    run-one : (test : ℕ → Bool) → all test (48 ∷ []) ≡ true → starts test rest ≡ false → run test text 0 ≡ 1
+    run-one test passes stops = run-over text 0 (48 ∷ []) rest refl test passes stops
 
-  -- `0e0eon`
-  with-exponent : s .exponents ≡ true → Reads s table i (48 ∷ 101 ∷ 48 ∷ named)
-  unfolding starts
-  with-exponent on = reads s (101 ∷ 48 ∷ named) (fixed .2) (fixed .3) table i 3 _ exponent (no-gap (48 ∷ 101 ∷ 48 ∷ named) 3 refl) named refl stretches found
+    no-sign : sign-step s text 0 ≡ got (record { negative = false; next = 0 })
+    unfolding sign-step sees starts is class between if_then_else_
+    no-sign = refl
+
+    a-digit : sees (λ b. is DIGIT b || is POINT b) text 0 ≡ true
+    unfolding sees starts is class between if_then_else_
+    a-digit = refl
+
+    the-zero : number-step s text 0 ≡ got (record { whole = record { start = 1; end = 1 }; fract = record { start = 1; end = 1 }; next = 1 })
+    unfolding number-step fraction-step sees all if_then_else_
+    the-zero = rw (run-one (eqb 48) refl (no-zero rest no-digit), run-one (is DIGIT) (and-both (fixed .0) refl) no-digit, no-point)
+
+    -- up to the name at the place nothing is refused, and the lookup finds the name at row i
+    module _
+        (i place : ℕ)
+        (scaled : Scaled)
+        (typed-exponent : exponent-step s text 1 ≡ got scaled)
+        (typed-gap : gap (s .«before_unit») s text (scaled .next) ≡ got place)
+        (named : List ℕ)
+        (here : drop place text ≡ named)
+        (stretches : all (in-stretch s) named ≡ true)
+        (found : lookup table named ≡ Row i)
+      where
+        abbrev end : ℕ
+        end = place + length named
+
+        at-place : drop place text ≡ named ++ []
+        at-place = here ∙ sym (append-nil named)
+
+        at-end : ends text end ≡ true
+        unfolding ends
+        at-end = le-leb (length text) end (omega (arith, sym (length-drop place text) ∙ ap length here))
+
+        no-more : (test : ℕ → Bool) → sees test text end ≡ false
+        no-more test = sees-end test text end (ends-le text end at-end)
+
+        to-end : run (in-stretch s) text place ≡ end
+        unfolding starts
+        to-end = run-over text place named [] at-place (in-stretch s) stretches refl
+
+        the-name : find-unit card text place ≡ Row i
+        unfolding find-unit
+        the-name = rw (to-end, stretch text place named [] at-place, found)
+
+        the-unit : unit-step card text place ≡ got (record { multiplier = product (row table i); next = end })
+        unfolding unit-step unit-found ago-step if_then_else_
+        the-unit = rw (the-name, to-end, no-more (holds (s .inner)), and-false (s .ago))
+
+        abbrev repr : DurationRepr
+        repr = record {
+          negative = false;
+          infinite = false;
+          whole = record { start = 1; end = 1 };
+          fract = record { start = 1; end = 1 };
+          exponent = scaled .exponent;
+          multiplier = product (row table i);
+        }
+
+        the-number : finite-part card text false 0 ≡ got (record { repr = Typed repr; next = end })
+        unfolding finite-part
+        the-number =
+            bind-got _ the-zero
+            ∙ bind-got _ typed-exponent
+            ∙ bind-got _ typed-gap
+            ∙ bind-got _ the-unit
+            ∙ bind-got _ (connection-none s text end (no-more (holds (s .outer))))
+
+        the-part : part card text 0 ≡ got (record { repr = Typed repr; next = end })
+        unfolding part unsigned-part if_then_else_
+        the-part = rw (goes-on text 0 refl) (bind-got _ no-sign ∙ rw a-digit the-number)
+
+        -- it comes to zero, whatever the row
+        nothing : evaluate text repr ≡ zero-length
+        unfolding evaluate digits-of spelled if_then_else_
+        nothing = rw (no-attos, no-nanos, no-length)
+
+        the-reading : part-reading card text 0 ≡ got (record { length = zero-length; next = end })
+        unfolding part-reading evaluated allowed zero-length if_then_else_
+        the-reading = bind-got _ the-part ∙ bind-got _ (ap got nothing)
+
+        finds-row : unit-of card text 0 ≡ got (Row i)
+        unfolding unit-of unsigned-unit number-unit if_then_else_
+        finds-row = bind-got _ no-sign ∙ rw a-digit (bind-got _ the-zero ∙ bind-got _ typed-exponent ∙ bind-got _ typed-gap ∙ ap got the-name)
+
+        -- the text can be read, and it finds the row
+        is-read : total card text ≡ got zero-length
+        unfolding total parts sum-all sum size length-of zero-length if_then_else_ _>>=_
+        is-read = rw (the-reading, at-end)
+
+        is-found : finds card text i ≡ true
+        unfolding finds units counted among-got among if_then_else_ _>>=_
+        is-found = rw (the-part, the-reading, finds-row, at-end, eq-eqb i i refl)
+
+        reads : Reads card i text
+        reads = (is-read, is-found)
+
+  -- ---- the three texts
+
+  module _ (b : ℕ) (m : List ℕ) (may : all (may-name s) (b ∷ m) ≡ true) (i : ℕ) (found : lookup table (b ∷ m) ≡ Row i) where
+    abbrev named : List ℕ
+    named = b ∷ m
+
+    first : (holds (s .inner) b ≡ false) × (holds (s .outer) b ≡ false) × (is DIGIT b ≡ false) × (is SIGN b ≡ false) × (is POINT b ≡ false)
+    first = name-byte s b (all-first (may-name s) b m may)
+
+    stretches : all (in-stretch s) named ≡ true
+    stretches = all-weaken (may-name s) (in-stretch s) (name-in-stretch s) named may
+
+    no-gap : (text : List ℕ) (place : ℕ) → drop place text ≡ named → gap (s .«before_unit») s text place ≡ got place
+    unfolding starts
+    no-gap text place here = gap-none s text place (s .«before_unit») (sees-of text place (holds (s .inner)) here ∙ first .0)
+
+    -- `0s`
+    plain : led-by-e named ≡ false → Reads card i (48 ∷ named)
+    unfolding led-by-e starts sees same-letter lower between if_then_else_
+    plain unled =
+        let exponent = exponent-none s (48 ∷ named) 1 unled in
+        reads named (first .2) (first .4) i 1 _ exponent (no-gap (48 ∷ named) 1 refl) named refl stretches found
+
+    -- `0e0eon`
+    with-exponent : s .exponents ≡ true → Reads card i (48 ∷ 101 ∷ 48 ∷ named)
+    unfolding starts
+    with-exponent on = reads (101 ∷ 48 ∷ named) (fixed .2) (fixed .3) i 3 _ exponent (no-gap (48 ∷ 101 ∷ 48 ∷ named) 3 refl) named refl stretches found
+      where
+        exponent : exponent-step s (48 ∷ 101 ∷ 48 ∷ named) 1 ≡ got (record { exponent = record { negative = false; power = 0 }; next = 3 })
+        exponent = zero-exponent s b m on (first .2)
+
+    -- `0 eon`
+    with-delimiter : (d : ℕ) → class d ≡ OTHER → d < 256 → holds (s .inner) d ≡ true → s .«before_unit» ≡ true → Reads card i (48 ∷ d ∷ named)
+    unfolding starts sees
+    with-delimiter d other below held on =
+        reads (d ∷ named) (other-class DIGIT d (λ e. omega (arith, e)) other) (other-class POINT d (λ e. omega (arith, e)) other) i 2 _
+        (exponent-none s (48 ∷ d ∷ named) 1 (other-not-e d below other)) delimiter named refl stretches found
+      where
+        delimiter : gap (s .«before_unit») s (48 ∷ d ∷ named) 1 ≡ got 2
+        delimiter = one-delimiter s d b m on held (first .0)
+
+  -- ---- every name that can be typed
+
+  typed-text : settings-check s ≡ got tt → (n : List ℕ) → (n ≡ [] → ⊥) → all (may-name s) n ≡ true → can-be-typed s n ≡ true → (i : ℕ) → lookup table n ≡ Row i → Reads card i (text-for s n)
+  unfolding text-for joint can-be-typed e-may-lead empty ascii if_then_else_
+  typed-text good [] some may typed i found = absurd (some refl)
+  typed-text good (b ∷ m) some may typed i found = go (led-by-e (b ∷ m)) (s .exponents) refl refl typed
     where
-      exponent : exponent-step s (48 ∷ 101 ∷ 48 ∷ named) 1 ≡ got (record { exponent = record { negative = false; power = 0 }; next = 3 })
-      exponent = zero-exponent s b m on (first .2)
+      d : ℕ
+      d = first-held (s .inner) 0 256
 
-  -- `0 eon`
-  with-delimiter : (d : ℕ) → class d ≡ OTHER → d < 256 → holds (s .inner) d ≡ true → s .«before_unit» ≡ true → Reads s table i (48 ∷ d ∷ named)
-  unfolding starts sees
-  with-delimiter d other below held on =
-      reads s (d ∷ named) (other-class DIGIT d (λ e. omega (arith, e)) other) (other-class POINT d (λ e. omega (arith, e)) other) table i 2 _
-      (exponent-none s (48 ∷ d ∷ named) 1 (other-not-e d below other)) delimiter named refl stretches found
-    where
-      delimiter : gap (s .«before_unit») s (48 ∷ d ∷ named) 1 ≡ got 2
-      delimiter = one-delimiter s d b m on held (first .0)
+      go :
+          (led on : Bool) → led-by-e (b ∷ m) ≡ led → s .exponents ≡ on
+          → (not led || (on || s .«before_unit» && not (empty (s .inner)))) ≡ true
+          → Reads card i (48 ∷ (if not led then [] else if on then ascii "e0" else d ∷ []) ++ b ∷ m)
+      go false on e f may-lead = plain b m may i found e
+      go true true e f may-lead = with-exponent b m may i found f
+      go true false e f may-lead =
+          let held = held-first (s .inner) 256 0 (not-true (empty (s .inner)) (and-right (s .«before_unit») (not (empty (s .inner))) may-lead)) in
+          with-delimiter b m may i found d (delimiter-class d (inner-delimits s good d (held .1) (held .0))) (held .1) (held .0) (and-left (s .«before_unit») (not (empty (s .inner))) may-lead)
 
--- ---- every name that can be typed
+  -- ---- for each row that passes document 01's tests, whatever the other rows are: if its name can be typed, there is a text that finds it
 
-typed-text : (s : Settings) → settings-check s ≡ got tt → (n : List ℕ) → (n ≡ [] → ⊥) → all (may-name s) n ≡ true → can-be-typed s n ≡ true → (table : List ℕ) (i : ℕ) → lookup table n ≡ Row i → Reads s table i (text-for s n)
-unfolding text-for joint can-be-typed e-may-lead empty ascii if_then_else_
-typed-text s good [] some may typed table i found = absurd (some refl)
-typed-text s good (b ∷ m) some may typed table i found = go (led-by-e (b ∷ m)) (s .exponents) refl refl typed
-  where
-    d : ℕ
-    d = first-held (s .inner) 0 256
+  module _ (i : ℕ) (below : i < rows table) (right : row-right s table i ≡ true) where
+    long : length (row table i) ≡ row-size
+    long = length-row table i below
 
-    go :
-        (led on : Bool) → led-by-e (b ∷ m) ≡ led → s .exponents ≡ on
-        → (not led || (on || s .«before_unit» && not (empty (s .inner)))) ≡ true
-        → Reads s table i (48 ∷ (if not led then [] else if on then ascii "e0" else d ∷ []) ++ b ∷ m)
-    go false on e f may-lead = plain s b m may table i found e
-    go true true e f may-lead = with-exponent s b m may table i found f
-    go true false e f may-lead =
-        let held = held-first (s .inner) 256 0 (not-true (empty (s .inner)) (and-right (s .«before_unit») (not (empty (s .inner))) may-lead)) in
-        with-delimiter s b m may table i found d (delimiter-class d (inner-delimits s good d (held .1) (held .0))) (held .1) (held .0) (and-left (s .«before_unit») (not (empty (s .inner))) may-lead)
+    padded-row : padded (row table i) ≡ true
+    padded-row = right-padded s table i right
 
--- ---- for each row that passes document 01's tests, whatever the other rows are: if its name can be typed, there is a text that finds it
+    pub row-typed : settings-check s ≡ got tt → can-be-typed s (name (row table i)) ≡ true → Reads card i (text-for s (name (row table i)))
+    row-typed good typed =
+        typed-text good (name (row table i)) (name-some (row table i) long padded-row) (right-name s table i right) typed i (own-name s table i below right)
 
-module _ (s : Settings) (table : List ℕ) (i : ℕ) (below : i < rows table) (right : row-right s table i ≡ true) where
-  long : length (row table i) ≡ row-size
-  long = length-row table i below
-
-  padded-row : padded (row table i) ≡ true
-  padded-row = right-padded s table i right
-
-  pub row-typed : settings-check s ≡ got tt → can-be-typed s (name (row table i)) ≡ true → Reads s table i (text-for s (name (row table i)))
-  row-typed good typed =
-      typed-text s good (name (row table i)) (name-some (row table i) long padded-row) (right-name s table i right) typed table i (own-name s table i below right)
-
-  -- at most 19 bytes
-  pub text-short : length (text-for s (name (row table i))) ≤ 19
-  unfolding text-for joint ascii
-  text-short =
-      let at-most = size-most (row table i) long padded-row in
-      if-either (λ l. suc (length (l ++ name (row table i))) ≤ 19) (not (led-by-e (name (row table i)))) {x = []} {y = _}
-      (λ _. omega (arith, at-most, name-bytes (row table i) long padded-row))
-      (λ _.
-      if-either (λ l. suc (length (l ++ name (row table i))) ≤ 19) (s .exponents) {x = 101 ∷ 48 ∷ []} {y = first-held (s .inner) 0 256 ∷ []}
-      (λ _. omega (arith, at-most, name-bytes (row table i) long padded-row)) (λ _. omega (arith, at-most, name-bytes (row table i) long padded-row)))
+    -- at most 19 bytes
+    pub text-short : length (text-for s (name (row table i))) ≤ 19
+    unfolding text-for joint ascii
+    text-short =
+        let at-most = size-most (row table i) long padded-row in
+        if-either (λ l. suc (length (l ++ name (row table i))) ≤ 19) (not (led-by-e (name (row table i)))) {x = []} {y = _}
+        (λ _. omega (arith, at-most, name-bytes (row table i) long padded-row))
+        (λ _.
+        if-either (λ l. suc (length (l ++ name (row table i))) ≤ 19) (s .exponents) {x = 101 ∷ 48 ∷ []} {y = first-held (s .inner) 0 256 ∷ []}
+        (λ _. omega (arith, at-most, name-bytes (row table i) long padded-row)) (λ _. omega (arith, at-most, name-bytes (row table i) long padded-row)))

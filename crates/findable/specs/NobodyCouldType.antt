@@ -1,4 +1,4 @@
--- Under no settings does a part find its unit at a row of which the name cannot be typed. Assumes nothing.
+-- Under no card does a part that is no spoken number find its unit at a row of which the name cannot be typed. Assumes nothing.
 use mathlib.Core.Path.{_≡_, refl, sym, ap, _∙_}
 use mathlib.Core.Bool.{Bool, true, false, not, _&&_, _||_, false≢true}
 use mathlib.Core.List.{List, [], _∷_}
@@ -12,10 +12,12 @@ use Rattle.rules.specs.declared.ByteSet.{ByteSet}
 use Rattle.rules.specs.declared.Settings.{Settings}
 use Rattle.rules.specs.declared.Found.{Found}
 use Rattle.rules.specs.declared.Found.the-variants.{Row, Nowhere}
+use Rattle.rules.specs.declared.Repr.{Repr}
+use Rattle.rules.specs.declared.Repr.the-variants.{Typed, Spoken}
 use Rattle.rules.specs.Common.{if_then_else_, between, starts, sees, run}
 use Rattle.rules.specs.NumbersHandedBack.{Outcome, got, refused}
-use Rattle.rules.specs.SettingsAndUnitTable.{lower, word, holds, empty, row, name, led-by-e, e-may-lead, can-be-typed, lookup}
-use Rattle.rules.specs.ReadingOnePart.{same-letter, gap, sign-step, number-step, exponent-step, in-stretch}
+use Rattle.rules.specs.SettingsAndUnitTable.{lower, word, holds, empty, row, name, led-by-e, e-may-lead, can-be-typed, Card, lookup}
+use Rattle.rules.specs.ReadingOnePart.{same-letter, gap, sign-step, number-step, exponent-step, in-stretch, find-unit, part}
 use Rattle.rules.specs.Evaluation.{part-reading}
 use Rattle.rules.specs.Laws.Choices.{or-neither}
 use Rattle.rules.specs.Laws.Tests.{or-true}
@@ -24,7 +26,7 @@ use Rattle.rules.specs.Laws.Outcomes.{All, all-got, all-refused, of-got, all-of
 use Rattle.rules.specs.Laws.Layout.{gap-none}
 use Rattle.card.specs.Laws.Accepted.{lookup-found}
 use Rattle.findable.specs.TheReadersOwn.{refused-among}
-use Rattle.findable.specs.WhereAPartFindsItsUnit.{number-unit, unsigned-unit, unit-of, units, among, among-got, finds}
+use Rattle.findable.specs.WhereAPartFindsItsUnit.{number-unit, unsigned-unit, unit-of, counted, units, among, among-got, finds}
 
 -- ---- an empty set holds nothing
 
@@ -103,7 +105,13 @@ got-among : (i : ℕ) (found : List Found) → among-got i (got found) ≡ true 
 unfolding among-got
 got-among i found e = e
 
-module _ (s : Settings) (table text : List ℕ) where
+module _ (card : Card) (text : List ℕ) where
+  abbrev s : Settings
+  s = card .settings
+
+  abbrev table : List ℕ
+  table = card .units
+
   -- whatever was found, an `e` does not lead its name
   abbrev Unled : Found → Type 0
   Unled found = (i : ℕ) → found ≡ Row i → led-by-e (name (row table i)) ≡ false
@@ -116,15 +124,15 @@ module _ (s : Settings) (table text : List ℕ) where
     looked-up : (place to : ℕ) → sees (same-letter 101) text place ≡ false → Unled (lookup table (slice place to text))
     looked-up place to none i e = ap led-by-e (lookup-found table (slice place to text) i e .1) ∙ not-led place to text none
 
-    number-unled : (place : ℕ) → All Unled (number-unit s table text place)
-    unfolding number-unit
+    number-unled : (place : ℕ) → All Unled (number-unit card text place)
+    unfolding number-unit find-unit
     number-unled place =
         all-bind (always (number-step s text place))
         (λ number _.
         all-bind (no-exponent s text (number .next) (off .0))
         (λ scaled none. rw (bind-got _ (no-delimiter s text (scaled .next) (off .1))) (all-got (looked-up (scaled .next) (run (in-stretch s) text (scaled .next)) none))))
 
-    unled : (place : ℕ) → All Unled (unit-of s table text place)
+    unled : (place : ℕ) → All Unled (unit-of card text place)
     unfolding unit-of unsigned-unit
     unled place = all-bind (always (sign-step s text place)) (λ signed _. all-if (λ _. number-unled (signed .next)) (λ _. all-got nowhere))
       where
@@ -132,23 +140,28 @@ module _ (s : Settings) (table text : List ℕ) where
         nowhere i e = absurd (not-a-row i e)
 
   -- a row at which a part finds its unit has a name that can be typed
-  abbrev Typed : Found → Type 0
-  Typed found = (i : ℕ) → found ≡ Row i → can-be-typed s (name (row table i)) ≡ true
+  abbrev Typable : Found → Type 0
+  Typable found = (i : ℕ) → found ≡ Row i → can-be-typed s (name (row table i)) ≡ true
 
-  typed : (place : ℕ) → All Typed (unit-of s table text place)
+  typable : (place : ℕ) → All Typable (unit-of card text place)
   unfolding can-be-typed
-  typed place = go (e-may-lead s) refl
+  typable place = go (e-may-lead s) refl
     where
-      go : (may : Bool) → e-may-lead s ≡ may → All Typed (unit-of s table text place)
-      go true e = all-map (always (unit-of s table text place)) (λ found _ i at. rw (e, or-true))
+      go : (may : Bool) → e-may-lead s ≡ may → All Typable (unit-of card text place)
+      go true e = all-map (always (unit-of card text place)) (λ found _ i at. rw (e, or-true))
       go false e = all-map (unled e place) (λ found unled i at. rw (unled i at))
 
-  pub part-typed : (place i : ℕ) → unit-of s table text place ≡ got (Row i) → can-be-typed s (name (row table i)) ≡ true
-  part-typed place i e = all-of (typed place) e i refl
+  pub part-typed : (place i : ℕ) → unit-of card text place ≡ got (Row i) → can-be-typed s (name (row table i)) ≡ true
+  part-typed place i e = all-of (typable place) e i refl
+
+  counted-typable : (place : ℕ) (d : Repr) → All Typable (counted card text place d)
+  unfolding counted
+  counted-typable place (Typed d) = typable place
+  counted-typable place (Spoken d) = all-refused
 
   -- ---- the parts of a text
 
-  one-more : (i : ℕ) (unit : Found) (more : List Found) → Typed unit → (among i more ≡ true → can-be-typed s (name (row table i)) ≡ true) → among i (unit ∷ more) ≡ true → can-be-typed s (name (row table i)) ≡ true
+  one-more : (i : ℕ) (unit : Found) (more : List Found) → Typable unit → (among i more ≡ true → can-be-typed s (name (row table i)) ≡ true) → among i (unit ∷ more) ≡ true → can-be-typed s (name (row table i)) ≡ true
   unfolding among
   one-more i (Row k) more here later e = go (eqb k i) refl e
     where
@@ -161,21 +174,23 @@ module _ (s : Settings) (table text : List ℕ) where
   unfolding among
   no-more i e = absurd (false≢true e)
 
-  units-typed : (i n place : ℕ) → All (λ found. among i found ≡ true → can-be-typed s (name (row table i)) ≡ true) (units s table text n place)
+  units-typed : (i n place : ℕ) → All (λ found. among i found ≡ true → can-be-typed s (name (row table i)) ≡ true) (units card text n place)
   unfolding units
   units-typed i zero place = all-refused
   units-typed i (suc n) place =
-      all-bind (always (part-reading s table text place))
+      all-bind (always (part card text place))
+      (λ p _.
+      all-bind (always (part-reading card text place))
       (λ r _.
-      all-bind (typed place)
+      all-bind (counted-typable place (p .repr))
       (λ unit here.
       all-if (λ _. all-got (one-more i unit [] here (no-more i)))
-      (λ _. all-bind (units-typed i n (r .next)) (λ more later. all-got (one-more i unit more here later)))))
+      (λ _. all-bind (units-typed i n (r .next)) (λ more later. all-got (one-more i unit more here later))))))
 
-  -- no part of any text finds its unit at a row of which the name cannot be typed
-  pub found-typed : (i : ℕ) → finds s table text i ≡ true → can-be-typed s (name (row table i)) ≡ true
+  -- no part of any text without a spoken number finds its unit at a row of which the name cannot be typed
+  pub found-typed : (i : ℕ) → finds card text i ≡ true → can-be-typed s (name (row table i)) ≡ true
   unfolding finds
-  found-typed i e = go (units s table text (suc (length text)) 0) (units-typed i (suc (length text)) 0) e
+  found-typed i e = go (units card text (suc (length text)) 0) (units-typed i (suc (length text)) 0) e
     where
       go : (m : Outcome (List Found)) → All (λ found. among i found ≡ true → can-be-typed s (name (row table i)) ≡ true) m → among-got i m ≡ true → can-be-typed s (name (row table i)) ≡ true
       go (got found) h e = of-got h (got-among i found e)

@@ -1,37 +1,51 @@
--- `unit-of` follows the reader: the part that is read is multiplied by the row at which it finds its unit, or by the default kind; and
--- the units of a text are those of the parts that its total reads. Assumes nothing.
-use mathlib.Core.Path.{_≡_, refl, ap, _∙_}
-use mathlib.Core.Bool.{Bool, true, false≢true}
+-- `unit-of` follows the reader: a typed part is multiplied by the row at which it finds its unit, or by the default kind; and the units of a
+-- text are those of the parts that its total reads, unless one of them is a spoken number. Assumes nothing.
+use mathlib.Core.Path.{_≡_, refl, sym, ap, _∙_}
+use mathlib.Core.Bool.{Bool, true, false, false≢true}
 use mathlib.Core.List.{List, [], _∷_}
-use mathlib.Core.Logic.{_⊎_, inl, inr}
+use mathlib.Core.Logic.{_⊎_, inl, inr, ⊎-elim}
 use Prim.Native.Nat.{ℕ, zero, suc}
+use native.Mathlib.Omega.{arith}
 use lib.ListN.{length}
-use lib.Seq.{slice}
 use Rattle.rules.specs.declared.Length.{Length}
 use Rattle.rules.specs.declared.Settings.{Settings}
 use Rattle.rules.specs.declared.Multiplier.{Multiplier}
 use Rattle.rules.specs.declared.Found.{Found}
 use Rattle.rules.specs.declared.Found.the-variants.{Row, Nowhere}
+use Rattle.rules.specs.declared.DurationRepr.{DurationRepr}
+use Rattle.rules.specs.declared.SpokenRepr.{SpokenRepr}
+use Rattle.rules.specs.declared.Repr.{Repr}
+use Rattle.rules.specs.declared.Repr.the-variants.{Typed, Spoken}
+use Rattle.rules.specs.declared.Part.{Part}
+use Rattle.rules.specs.declared.Reading.{Reading}
 use Rattle.rules.specs.declared.Refusal.{Refusal}
-use Rattle.rules.specs.Common.{run}
+use Rattle.rules.specs.Common.{run, ends}
 use Rattle.rules.specs.ThePartOfTheCrateWeTake.{zero-length}
 use Rattle.rules.specs.NumbersHandedBack.{Outcome, got, refused}
-use Rattle.rules.specs.SettingsAndUnitTable.{kind-multiplier, lookup, row, product}
-use Rattle.rules.specs.ReadingOnePart.{delimiters, gap, sign-step, number-step, exponent-step, in-stretch, negated, ago-step, unit-found, unit-step, connection, infinity-step, infinite-part, finite-part, unsigned-part, part}
-use Rattle.rules.specs.Evaluation.{allowed, part-reading, sum-all, parts, total}
+use Rattle.rules.specs.SettingsAndUnitTable.{kind-multiplier, Card, row, product}
+use Rattle.rules.specs.ReadingOnePart.{delimiters, gap, sign-step, number-step, exponent-step, in-stretch, negated, ago-step, find-unit, unit-found, unit-step, numeral-step, spoken-unit-step, connection, infinity-step, infinite-part, finite-part, spoken-part, unsigned-part, part}
+use Rattle.rules.specs.Evaluation.{evaluated, allowed, part-reading, sum-all, parts, total}
 use Rattle.rules.specs.Laws.Choices.{if-then, if-else}
 use Rattle.rules.specs.Laws.Outcomes.{itself, All, all-got, all-refused, of-got, all-of, all-if, all-bind, all-map, always, bind-got}
-use Rattle.findable.specs.WhereAPartFindsItsUnit.{number-unit, unsigned-unit, unit-of, units, among-got, finds}
+use Rattle.findable.specs.WhereAPartFindsItsUnit.{number-unit, unsigned-unit, unit-of, counted, units, among-got, finds}
 
 -- what was refused finds nothing
 pub refused-among : (i : ℕ) (cause : Refusal) → among-got i (refused cause) ≡ true → ⊥
 unfolding among-got
 refused-among i cause e = false≢true e
 
-module _ (s : Settings) (table text : List ℕ) where
+-- one of the parts that the total reads from the place on is a spoken number
+pub data HasSpoken (card : Card) (text : List ℕ) : ℕ → Type 0 where
+  spoken-here : {place next : ℕ} {d : SpokenRepr} → part card text place ≡ got (record { repr = Spoken d; next = next }) → HasSpoken card text place
+  spoken-later : {place : ℕ} {r : Reading} → part-reading card text place ≡ got r → ends text (r .next) ≡ false → HasSpoken card text (r .next) → HasSpoken card text place
+
+module _ (card : Card) (text : List ℕ) where
+  abbrev s : Settings
+  s = card .settings
+
   -- what a part is multiplied by, if its unit is found there: the row, or the row negated by `ago`; the default kind, if nowhere
   abbrev pub Taken : Found → Multiplier → Type 0
-  Taken (Row i) m = (m ≡ product (row table i)) ⊎ (m ≡ negated (product (row table i)))
+  Taken (Row i) m = (m ≡ product (row (card .units) i)) ⊎ (m ≡ negated (product (row (card .units) i)))
   Taken Nowhere m = m ≡ kind-multiplier (s .«default_kind»)
 
   ago-taken : (m : Multiplier) (place : ℕ) → All (λ unit. (unit .multiplier ≡ m) ⊎ (unit .multiplier ≡ negated m)) (ago-step s text m place)
@@ -40,14 +54,24 @@ module _ (s : Settings) (table text : List ℕ) where
       all-if (λ _. all-got (inl refl))
       (λ _. all-bind (always (delimiters (s .inner) text place)) (λ word _. all-if (λ _. all-got (inr refl)) (λ _. all-got (inl refl))))
 
-  found-taken : (place : ℕ) (found : Found) → All (λ unit. Taken found (unit .multiplier)) (unit-found s table text place found)
+  found-taken : (place : ℕ) (found : Found) → All (λ unit. Taken found (unit .multiplier)) (unit-found card text place found)
   unfolding unit-found
-  found-taken place (Row i) = ago-taken (product (row table i)) (run (in-stretch s) text place)
+  found-taken place (Row i) = ago-taken (product (row (card .units) i)) (run (in-stretch s) text place)
   found-taken place Nowhere = all-got refl
 
   -- ---- one part
 
-  finite-follows : (negative : Bool) (place : ℕ) → All (λ p. (found : Found) × (number-unit s table text place ≡ got found) × Taken found (p .repr .multiplier)) (finite-part s table text negative place)
+  -- a typed part finds its unit somewhere or nowhere, and is multiplied by what it finds; of a spoken number nothing is said
+  abbrev pub Follows : Outcome Found → Repr → Type 0
+  Follows unit (Typed d) = (found : Found) × (unit ≡ got found) × Taken found (d .multiplier)
+  Follows unit (Spoken d) = Unit {0}
+
+  -- however it is said which unit that is
+  follows-on : {unit other : Outcome Found} → other ≡ unit → (d : Repr) → Follows unit d → Follows other d
+  follows-on e (Typed d) (found, at, taken) = (found, e ∙ at, taken)
+  follows-on e (Spoken d) h = tt
+
+  finite-follows : (negative : Bool) (place : ℕ) → All (λ p. Follows (number-unit card text place) (p .repr)) (finite-part card text negative place)
   unfolding finite-part number-unit unit-step
   finite-follows negative place =
       all-bind (itself (number-step s text place))
@@ -56,62 +80,114 @@ module _ (s : Settings) (table text : List ℕ) where
       (λ scaled e₂.
       all-bind (itself (gap (s .«before_unit») s text (scaled .next)))
       (λ name e₃.
-      all-bind (found-taken name (lookup table (slice name (run (in-stretch s) text name) text)))
+      all-bind (found-taken name (find-unit card text name))
       (λ unit taken.
       all-bind (always (connection s text (unit .next)))
-      (λ next _. all-got (lookup table (slice name (run (in-stretch s) text name) text), bind-got _ e₁ ∙ bind-got _ e₂ ∙ bind-got _ e₃, taken))))))
+      (λ next _. all-got (find-unit card text name, bind-got _ e₁ ∙ bind-got _ e₂ ∙ bind-got _ e₃, taken))))))
 
-  unsigned-follows : (negative : Bool) (place : ℕ) → All (λ p. (found : Found) × (unsigned-unit s table text place ≡ got found) × Taken found (p .repr .multiplier)) (unsigned-part s table text negative place)
+  spoken-follows : (unit : Outcome Found) (negative : Bool) (place : ℕ) → All (λ p. Follows unit (p .repr)) (spoken-part card text negative place)
+  unfolding spoken-part
+  spoken-follows unit negative place =
+      all-bind (always (numeral-step card text place))
+      (λ numeral _.
+      all-bind (always (spoken-unit-step card text (numeral .next)))
+      (λ unit _. all-bind (always (connection s text (unit .next))) (λ next _. all-got tt)))
+
+  unsigned-follows : (negative : Bool) (place : ℕ) → All (λ p. Follows (unsigned-unit card text place) (p .repr)) (unsigned-part card text negative place)
   unfolding unsigned-part unsigned-unit infinite-part
   unsigned-follows negative place =
-      all-if (λ number. all-map (finite-follows negative place) (λ p h. (h .0, if-then _ _ number ∙ h .1, h .2)))
+      all-if (λ number. all-map (finite-follows negative place) (λ p h. follows-on (if-then _ _ number) (p .repr) h))
       (λ other.
       all-if (λ _. all-bind (always (infinity-step s text place)) (λ next _. all-got (Nowhere, if-else _ _ other, refl)))
-      (λ _. all-refused))
+      (λ _. spoken-follows _ negative place))
 
-  -- a part that is read finds its unit somewhere or nowhere, and is multiplied by what it finds
-  pub part-follows : (place : ℕ) → All (λ p. (found : Found) × (unit-of s table text place ≡ got found) × Taken found (p .repr .multiplier)) (part s table text place)
+  pub part-follows : (place : ℕ) → All (λ p. Follows (unit-of card text place) (p .repr)) (part card text place)
   unfolding part unit-of
   part-follows place =
       all-if (λ _. all-refused)
       (λ _.
       all-bind (itself (sign-step s text place))
-      (λ signed e. all-map (unsigned-follows (signed .negative) (signed .next)) (λ p h. (h .0, bind-got _ e ∙ h .1, h .2))))
+      (λ signed e. all-map (unsigned-follows (signed .negative) (signed .next)) (λ p h. follows-on (bind-got _ e) (p .repr) h)))
 
-  reading-follows : (place : ℕ) → All (λ r. (found : Found) × (unit-of s table text place ≡ got found)) (part-reading s table text place)
+  -- what is evaluated is a part that was read
+  reading-part : (place : ℕ) → All (λ r. (p : Part) × (part card text place ≡ got p)) (part-reading card text place)
   unfolding part-reading allowed
-  reading-follows place = all-bind (part-follows place) (λ p h. all-if (λ _. all-refused) (λ _. all-got (h .0, h .1)))
+  reading-part place =
+      all-bind (itself (part card text place))
+      (λ p e. all-bind (always (evaluated text (p .repr))) (λ l _. all-if (λ _. all-refused) (λ _. all-got (p, e))))
+
+  -- a part that is read counts, unless it is a spoken number
+  counts : {place : ℕ} {p : Part} → part card text place ≡ got p → HasSpoken card text place ⊎ ((found : Found) × (counted card text place (p .repr) ≡ got found))
+  unfolding counted
+  counts {place} {p} e = go (p .repr) (all-of (part-follows place) e) e
+    where
+      go : (d : Repr) → Follows (unit-of card text place) d → part card text place ≡ got (record { repr = d; next = p .next }) → HasSpoken card text place ⊎ ((found : Found) × (counted card text place d ≡ got found))
+      go (Typed d) (found, at, taken) e = inr (found, at)
+      go (Spoken d) h e = inl (spoken-here e)
 
   -- ---- the parts of a text
 
-  -- as many units as lengths
-  pub units-follow : (n place : ℕ) → All (λ lengths. (found : List Found) × (units s table text n place ≡ got found) × (length found ≡ length lengths)) (parts s table text n place)
+  -- as many units as lengths, unless one of the parts is a spoken number
+  pub units-follow : (n place : ℕ) → All (λ lengths. HasSpoken card text place ⊎ ((found : List Found) × (units card text n place ≡ got found) × (length found ≡ length lengths))) (parts card text n place)
   unfolding parts units
   units-follow zero place = all-refused
   units-follow (suc n) place =
-      all-bind (itself (part-reading s table text place))
-      (λ r e.
-      let here = all-of (reading-follows place) e in
-      all-if (λ end. all-got (here .0 ∷ [], bind-got _ e ∙ bind-got _ (here .1) ∙ if-then _ _ end, refl))
-      (λ on. all-bind (units-follow n (r .next)) (λ lengths later. all-got (here .0 ∷ later .0, bind-got _ e ∙ bind-got _ (here .1) ∙ if-else _ _ on ∙ bind-got _ (later .1), ap suc (later .2)))))
+      all-bind (itself (part-reading card text place))
+      (λ r read.
+      let (p, at) = all-of (reading-part place) read in
+      ⊎-elim (λ spoken. all-map (always _) (λ _ _. inl spoken))
+      (λ (unit, is).
+      all-if (λ end. all-got (inr (unit ∷ [], bind-got _ at ∙ bind-got _ read ∙ bind-got _ is ∙ if-then _ _ end, refl)))
+      (λ on.
+      all-bind (units-follow n (r .next))
+      (λ lengths later.
+      all-got
+      (⊎-elim (λ spoken. inl (spoken-later read on spoken))
+      (λ (found, at-later, many). inr (unit ∷ found, bind-got _ at ∙ bind-got _ read ∙ bind-got _ is ∙ if-else _ _ on ∙ bind-got _ at-later, ap suc many))
+      later))))
+      (counts at))
 
-  -- and where there are units the text can be read
-  pub parts-read : (n place : ℕ) → All (λ found. (lengths : List Length) × (parts s table text n place ≡ got lengths)) (units s table text n place)
+  -- what counts was typed
+  typed-only : (place : ℕ) (d : Repr) → All (λ _. (typed : DurationRepr) × (d ≡ Typed typed)) (counted card text place d)
+  unfolding counted
+  typed-only place (Typed d) = all-map (always (unit-of card text place)) (λ _ _. (d, refl))
+  typed-only place (Spoken d) = all-refused
+
+  not-spoken :
+      {place : ℕ} {p : Part} {d : DurationRepr} {r : Reading}
+      → part card text place ≡ got p → p .repr ≡ Typed d
+      → part-reading card text place ≡ got r → (ends text (r .next) ≡ false → HasSpoken card text (r .next) → ⊥)
+      → HasSpoken card text place → ⊥
+  not-spoken at typed read later (spoken-here e) = let never : _≡_ {A = ℕ} 0 1 = cc in omega arith
+  not-spoken {r = r} at typed read later (spoken-later {r = other} again on spoken) =
+      let same : other ≡ r = cc in
+      later (rw same at on) (rw same at spoken)
+
+  -- and where there are units the text can be read, and no part of it is a spoken number
+  pub parts-read : (n place : ℕ) → All (λ found. ((lengths : List Length) × (parts card text n place ≡ got lengths)) × (HasSpoken card text place → ⊥)) (units card text n place)
   unfolding parts units
   parts-read zero place = all-refused
   parts-read (suc n) place =
-      all-bind (itself (part-reading s table text place))
-      (λ r e.
-      all-bind (always (unit-of s table text place))
-      (λ unit _.
-      all-if (λ end. all-got (r .length ∷ [], bind-got _ e ∙ if-then _ _ end))
-      (λ on. all-bind (parts-read n (r .next)) (λ found later. all-got (r .length ∷ later .0, bind-got _ e ∙ if-else _ _ on ∙ bind-got _ (later .1))))))
+      all-bind (itself (part card text place))
+      (λ p at.
+      all-bind (itself (part-reading card text place))
+      (λ r read.
+      all-bind (typed-only place (p .repr))
+      (λ unit (d, typed).
+      all-if (λ end. all-got ((r .length ∷ [], bind-got _ read ∙ if-then _ _ end), not-spoken at typed read (λ on _. false≢true (sym on ∙ end))))
+      (λ on.
+      all-bind (parts-read n (r .next))
+      (λ found ((lengths, later), none). all-got ((r .length ∷ lengths, bind-got _ read ∙ if-else _ _ on ∙ bind-got _ later), not-spoken at typed read (λ _. none)))))))
 
-  -- a text of which a part finds its unit at a row can be read
-  pub finds-read : (i : ℕ) → finds s table text i ≡ true → (l : Length) × (total s table text ≡ got l)
+  -- a text of which a part finds its unit at a row can be read, and no part of it is a spoken number
+  pub finds-read : (i : ℕ) → finds card text i ≡ true → ((l : Length) × (total card text ≡ got l)) × (HasSpoken card text 0 → ⊥)
   unfolding finds total
-  finds-read i e = go (units s table text (suc (length text)) 0) (parts-read (suc (length text)) 0) e
+  finds-read i e = go (units card text (suc (length text)) 0) (parts-read (suc (length text)) 0) e
     where
-      go : (m : Outcome (List Found)) → All (λ found. (lengths : List Length) × (parts s table text (suc (length text)) 0 ≡ got lengths)) m → among-got i m ≡ true → (l : Length) × (total s table text ≡ got l)
-      go (got found) h e = let lengths = of-got h in (sum-all zero-length (lengths .0), bind-got _ (lengths .1))
+      go :
+          (m : Outcome (List Found))
+          → All (λ found. ((lengths : List Length) × (parts card text (suc (length text)) 0 ≡ got lengths)) × (HasSpoken card text 0 → ⊥)) m
+          → among-got i m ≡ true
+          → ((l : Length) × (total card text ≡ got l)) × (HasSpoken card text 0 → ⊥)
+      go (got found) h e = let ((lengths, read), none) = of-got h in ((sum-all zero-length lengths, bind-got _ read), none)
       go (refused cause) h e = absurd (refused-among i cause e)

@@ -10,16 +10,15 @@ use lib.Dec.{leb, ltb, eqb}
 use lib.ListN.{length, take, drop, length-append, length-drop}
 use Rattle.rules.specs.declared.Length.{Length}
 use Rattle.rules.specs.declared.Reading.{Reading}
-use Rattle.rules.specs.declared.Settings.{Settings}
 use Rattle.rules.specs.Common.{if_then_else_, all, ends, starts}
 use Rattle.rules.specs.NumbersHandedBack.{Outcome, got, refused, _>>=_, _>>_, unless, done, refusal, number}
 use Rattle.rules.specs.ThePartOfTheCrateWeTake.{longest-text, zero-length, well-formed}
-use Rattle.rules.specs.SettingsAndUnitTable.{card-check}
+use Rattle.rules.specs.SettingsAndUnitTable.{Card, card-check}
 use Rattle.rules.specs.Evaluation.{part-reading, sum, sum-all}
 use Rattle.rules.specs.WriterAndShiftTotal.{sign-byte, written}
 use Rattle.rules.specs.WhatEveryEntryOwes.{read-part, read-total, write-answer, written-buffer}
 use Rattle.rules.specs.Laws.Choices.{all-first, all-others}
-use Rattle.rules.specs.CardAAndItsReadings.{space, conjunction, card, card-A}
+use Rattle.rules.specs.CardAAndItsReadings.{space, conjunction, settings, settings-A, unspoken}
 use Rattle.rules.specs.Computing.{computing}
 use Rattle.rules.specs.Laws.Totals.{total-from, total-is, total-step}
 use Rattle.rules.specs.Laws.Written.{written-sign}
@@ -83,13 +82,13 @@ refused-if-it-does-not-fit l buffer place good within = go (leb (length (written
 -- ---- 2. reading back
 
 -- from the place on, read part by part, each at the place that was handed back, up to the end of the text
-pub data ReadsTo (s : Settings) (table text : List ℕ) : ℕ → List Length → Type 0 where
-  at-end : {place : ℕ} → place ≡ length text → ReadsTo s table text place []
+pub data ReadsTo (card : Card) (text : List ℕ) : ℕ → List Length → Type 0 where
+  at-end : {place : ℕ} → place ≡ length text → ReadsTo card text place []
   one-more :
       {place next : ℕ} {l : Length} {more : List Length}
-      → read-part s table text place ≡ got (record { length = l; next = next })
-      → ReadsTo s table text next more
-      → ReadsTo s table text place (l ∷ more)
+      → read-part card text place ≡ got (record { length = l; next = next })
+      → ReadsTo card text next more
+      → ReadsTo card text place (l ∷ more)
 
 first-byte : (l : Length) (more : List Length) → 0 < length (written-all (l ∷ more))
 unfolding written-all written
@@ -101,40 +100,40 @@ follows [] test fails = refl
 follows (l ∷ more) test fails = fails (sign-byte (l .negative)) (written-sign (l .negative))
 
 module _
-    (s : Settings) (table : List ℕ) (accepted : card-check s table ≡ got tt)
-    (default : s .«default_kind» ≡ 3) (fractions : s .fractions ≡ true) (negatives : s .negatives ≡ true) where
+    (card : Card) (accepted : card-check card ≡ got tt)
+    (default : card .settings .«default_kind» ≡ 3) (fractions : card .settings .fractions ≡ true) (negatives : card .settings .negatives ≡ true) where
   module _ (text : List ℕ) (short : length text ≤ longest-text) where
     reads-from :
         (lengths : List Length) (place : ℕ)
         → all well-formed lengths ≡ true
         → place ≤ length text
         → drop place text ≡ written-all lengths
-        → ReadsTo s table text place lengths
+        → ReadsTo card text place lengths
     unfolding written-all read-part unless _>>_
     reads-from [] place good within here = at-end {place = place} (omega (arith, sym (length-drop place text) ∙ ap length here))
     reads-from (l ∷ more) place good within here =
-        one-more (part (part-reads s table accepted default fractions negatives l (all-first well-formed l more good) (written-all more) (follows more) text place here))
+        one-more (part (part-reads card accepted default fractions negatives l (all-first well-formed l more good) (written-all more) (follows more) text place here))
         (reads-from more (place + length (written l)) (all-others well-formed l more good) next-within (behind text place (written l) (written-all more) here))
       where
         next-within : place + length (written l) ≤ length text
         next-within = omega (arith, sym (length-drop place text) ∙ ap length here ∙ length-append (written l) (written-all more))
 
-        part : {r : Reading} → part-reading s table text place ≡ got r → read-part s table text place ≡ got r
+        part : {r : Reading} → part-reading card text place ≡ got r → read-part card text place ≡ got r
         part e = rw (accepted, le-leb (length text) longest-text short, le-leb place (length text) within) e
 
-  -- under every accepted card with seconds as default, negatives and fractions on
+  -- under every accepted card with seconds as default, negatives and fractions on, whatever its units and numerals
   pub written-reads-back :
       (lengths : List Length)
       → all well-formed lengths ≡ true
       → length (written-all lengths) ≤ longest-text
-      → ReadsTo s table (written-all lengths) 0 lengths
+      → ReadsTo card (written-all lengths) 0 lengths
   written-reads-back lengths good short = reads-from (written-all lengths) short lengths 0 good (omega arith) refl
 
 -- ---- 3. no two lists share a line
 
--- under card A without a unit table
-plain-card : card-check card-A [] ≡ got tt
-unfolding computing space conjunction card card-A
+-- under card A without a table
+plain-card : card-check (unspoken settings-A []) ≡ got tt
+unfolding computing space conjunction settings settings-A unspoken
 plain-card = refl
 
 length-got : Outcome Reading → Length
@@ -142,14 +141,14 @@ length-got (got r) = r .length
 length-got (refused cause) = zero-length
 
 pub no-two-share-a-line : (ls ms : List Length) → all well-formed ls ≡ true → all well-formed ms ≡ true → written-all ls ≡ written-all ms → ls ≡ ms
-unfolding written-all written length-got card-A card
+unfolding written-all written length-got settings settings-A unspoken
 no-two-share-a-line [] [] good fine same = refl
 no-two-share-a-line [] (m ∷ ms) good fine same = absurd (omega (arith, ap length same))
 no-two-share-a-line (l ∷ ls) [] good fine same = absurd (omega (arith, ap length same))
 no-two-share-a-line (l ∷ ls) (m ∷ ms) good fine same =
     let text : List ℕ = written-all (l ∷ ls) in
-    let one = part-reads card-A [] plain-card refl refl refl l (all-first well-formed l ls good) (written-all ls) (follows ls) text 0 refl in
-    let other = part-reads card-A [] plain-card refl refl refl m (all-first well-formed m ms fine) (written-all ms) (follows ms) text 0 same in
+    let one = part-reads (unspoken settings-A []) plain-card refl refl refl l (all-first well-formed l ls good) (written-all ls) (follows ls) text 0 refl in
+    let other = part-reads (unspoken settings-A []) plain-card refl refl refl m (all-first well-formed m ms fine) (written-all ms) (follows ms) text 0 same in
     let first : l ≡ m = ap length-got (sym one ∙ other) in
     let rest : written-all ls ≡ written-all ms =
     append-cancel-left (written l) (written-all ls) (written-all ms) (same ∙ ap (λ x. written x ++ written-all ms) (sym first)) in
@@ -158,8 +157,8 @@ no-two-share-a-line (l ∷ ls) (m ∷ ms) good fine same =
 -- ---- 4. the total
 
 module _
-    (s : Settings) (table : List ℕ) (accepted : card-check s table ≡ got tt)
-    (default : s .«default_kind» ≡ 3) (fractions : s .fractions ≡ true) (negatives : s .negatives ≡ true) where
+    (card : Card) (accepted : card-check card ≡ got tt)
+    (default : card .settings .«default_kind» ≡ 3) (fractions : card .settings .fractions ≡ true) (negatives : card .settings .negatives ≡ true) where
   module _ (text : List ℕ) where
     -- the parts from the place on, added in order to what was summed up before it
     totals-from :
@@ -167,22 +166,22 @@ module _
         → all well-formed (l ∷ more) ≡ true
         → place ≤ length text
         → drop place text ≡ written-all (l ∷ more)
-        → total-from s table text so-far place ≡ got (sum-all so-far (l ∷ more))
+        → total-from card text so-far place ≡ got (sum-all so-far (l ∷ more))
     unfolding written-all sum-all if_then_else_ _>>=_ ends
     totals-from l [] so-far place good within here =
         let size : length text - place ≡ length (written l) + 0 = sym (length-drop place text) ∙ ap length here ∙ length-append (written l) [] in
-        total-step s table text so-far place
+        total-step card text so-far place
         ∙ rw (
-          part-reads s table accepted default fractions negatives l (all-first well-formed l [] good) [] (follows []) text place here,
+          part-reads card accepted default fractions negatives l (all-first well-formed l [] good) [] (follows []) text place here,
           le-leb (length text) (place + length (written l)) (omega (arith, size)),
         )
     totals-from l (m ∷ more) so-far place good within here =
         let rest : List ℕ = written-all (m ∷ more) in
         let size : length text - place ≡ length (written l) + length rest = sym (length-drop place text) ∙ ap length here ∙ length-append (written l) rest in
         let some : 0 < length rest = first-byte m more in
-        total-step s table text so-far place
+        total-step card text so-far place
         ∙ rw (
-          part-reads s table accepted default fractions negatives l (all-first well-formed l (m ∷ more) good) rest (follows (m ∷ more)) text place here,
+          part-reads card accepted default fractions negatives l (all-first well-formed l (m ∷ more) good) rest (follows (m ∷ more)) text place here,
           lt-leb (length text) (place + length (written l)) (omega (arith, size, some)),
         )
         (totals-from m more (sum so-far l) (place + length (written l)) (all-others well-formed l (m ∷ more) good) (omega (arith, size)) (behind text place (written l) rest here))
@@ -192,11 +191,11 @@ module _
       (l : Length) (more : List Length)
       → all well-formed (l ∷ more) ≡ true
       → length (written-all (l ∷ more)) ≤ longest-text
-      → read-total s table (written-all (l ∷ more)) ≡ got (sum-all zero-length (l ∷ more))
+      → read-total card (written-all (l ∷ more)) ≡ got (sum-all zero-length (l ∷ more))
   unfolding read-total unless _>>_
   written-totals l more good short =
       let text : List ℕ = written-all (l ∷ more) in
-      rw (accepted, le-leb (length text) longest-text short) (total-is s table text ∙ totals-from text l more zero-length 0 good (omega arith) refl)
+      rw (accepted, le-leb (length text) longest-text short) (total-is card text ∙ totals-from text l more zero-length 0 good (omega arith) refl)
 
   -- and where no sum on the way passes the largest length, it is their sum exactly: what has a plus less what has a minus
   pub written-sums :
@@ -204,6 +203,6 @@ module _
       → all well-formed (l ∷ more) ≡ true
       → length (written-all (l ∷ more)) ≤ longest-text
       → stays 0 0 (l ∷ more) ≡ true
-      → read-total s table (written-all (l ∷ more)) ≡ got (difference (all-plus 0 (l ∷ more)) (all-minus 0 (l ∷ more)))
+      → read-total card (written-all (l ∷ more)) ≡ got (difference (all-plus 0 (l ∷ more)) (all-minus 0 (l ∷ more)))
   unfolding difference zero-length
   written-sums l more good short within = written-totals l more good short ∙ ap got (sum-all-difference 0 0 (l ∷ more) within)

@@ -13,15 +13,16 @@ use lib.Seq.{slice, slice-empty}
 use Rattle.rules.specs.declared.ByteSet.{ByteSet}
 use Rattle.rules.specs.declared.DurationRepr.{DurationRepr}
 use Rattle.rules.specs.declared.Number.{Number}
+use Rattle.rules.specs.declared.Repr.the-variants.{Typed}
 use Rattle.rules.specs.declared.Length.{Length}
 use Rattle.rules.specs.declared.Settings.{Settings}
 use Rattle.rules.specs.declared.Whole.{Whole}
 use Rattle.rules.specs.Common.{if_then_else_, between, starts, sees, run, ends}
 use Rattle.rules.specs.NumbersHandedBack.{got, _>>=_}
 use Rattle.rules.specs.ThePartOfTheCrateWeTake.{size, well-formed}
-use Rattle.rules.specs.SettingsAndUnitTable.{DIGIT, SIGN, POINT, OTHER, class, is, is-next-duration, lower, holds, may-delimit, kind-multiplier, card-check, kind-coefficients, kind-downs}
-use Rattle.rules.specs.ReadingOnePart.{same-letter, gap, fraction-step, number-step, exponent-step, in-stretch, unit-found, unit-step, connection, finite-part, unsigned-part, part, sign-step}
-use Rattle.rules.specs.Evaluation.{spelled, attos, length-of, digits-of, up, down, nanos, evaluate, allowed, part-reading}
+use Rattle.rules.specs.SettingsAndUnitTable.{DIGIT, SIGN, POINT, OTHER, class, is, is-next-duration, lower, holds, may-delimit, kind-multiplier, Card, card-check, kind-coefficients, kind-downs}
+use Rattle.rules.specs.ReadingOnePart.{same-letter, gap, fraction-step, number-step, exponent-step, in-stretch, find-unit, unit-found, unit-step, connection, finite-part, unsigned-part, part, sign-step}
+use Rattle.rules.specs.Evaluation.{spelled, attos, length-of, digits-of, up, down, nanos, evaluate, evaluated, allowed, part-reading}
 use Rattle.rules.specs.WriterAndShiftTotal.{decimals, no-leading-zeros, second-digits, sign-byte, whole-digits, fraction-digits, written-fraction, written}
 use Rattle.rules.specs.Laws.Texts.{run-stop, sees-in, sees-or}
 use Rattle.rules.specs.Laws.Written.{Digits, decimals-digits, whole-digits-only, fraction-digits-only, written-sign}
@@ -112,7 +113,10 @@ either false = refl
 of-signs : (P : ℕ → Type 0) → P 43 → P 45 → (b : ℕ) → is SIGN b ≡ true → P b
 of-signs P plus minus b e = ⊎-elim (λ z. rw z plus) (λ z. rw z minus) (a-sign b e)
 
-module _ (s : Settings) (table : List ℕ) (good : card-check s table ≡ got tt) where
+module _ (card : Card) (good : card-check card ≡ got tt) where
+  abbrev s : Settings
+  s = card .settings
+
   -- no sign and no digit is a delimiter
   no-delimiter :
       (set : ByteSet)
@@ -134,13 +138,13 @@ module _ (s : Settings) (table : List ℕ) (good : card-check s table ≡ got tt
     sign-below e = of-signs (λ x. x < 256) (lit< tt) (lit< tt) b e
 
     sign-not-inner : is SIGN b ≡ true → holds (s .inner) b ≡ false
-    sign-not-inner e = no-delimiter (s .inner) (inner-delimits s (card-settings s table good)) SIGN b (λ z. omega (arith, z)) (sign-below e) e
+    sign-not-inner e = no-delimiter (s .inner) (inner-delimits s (card-settings card good)) SIGN b (λ z. omega (arith, z)) (sign-below e) e
 
     sign-not-outer : is SIGN b ≡ true → holds (s .outer) b ≡ false
-    sign-not-outer e = no-delimiter (s .outer) (outer-delimits s (card-settings s table good)) SIGN b (λ z. omega (arith, z)) (sign-below e) e
+    sign-not-outer e = no-delimiter (s .outer) (outer-delimits s (card-settings card good)) SIGN b (λ z. omega (arith, z)) (sign-below e) e
 
     digit-not-inner : is DIGIT b ≡ true → holds (s .inner) b ≡ false
-    digit-not-inner e = no-delimiter (s .inner) (inner-delimits s (card-settings s table good)) DIGIT b (λ z. omega (arith, z)) (omega (arith, digit-high b e)) e
+    digit-not-inner e = no-delimiter (s .inner) (inner-delimits s (card-settings card good)) DIGIT b (λ z. omega (arith, z)) (omega (arith, digit-high b e)) e
 
     sign-not-stretch : is SIGN b ≡ true → in-stretch s b ≡ false
     unfolding in-stretch is-next-duration
@@ -161,9 +165,9 @@ module _ (s : Settings) (table : List ℕ) (good : card-check s table ≡ got tt
       no-gap : (on : Bool) → gap on s text place ≡ got place
       no-gap on = gap-none s text place on (no (holds (s .inner)) sign-not-inner)
 
-      no-unit : unit-step s table text place ≡ got (record { multiplier = kind-multiplier (s .«default_kind»); next = place })
-      unfolding unit-step unit-found
-      no-unit = rw (run-stop (in-stretch s) text place (no (in-stretch s) sign-not-stretch), slice-empty place text, lookup-empty s table (card-table s table good))
+      no-unit : unit-step card text place ≡ got (record { multiplier = kind-multiplier (s .«default_kind»); next = place })
+      unfolding unit-step find-unit unit-found
+      no-unit = rw (run-stop (in-stretch s) text place (no (in-stretch s) sign-not-stretch), slice-empty place text, lookup-empty s (card .units) (card-table card good))
 
       no-connection : connection s text place ≡ got place
       no-connection = connection-none s text place (no (holds (s .outer)) sign-not-outer)
@@ -306,12 +310,12 @@ module _ (s : Settings) (table : List ℕ) (good : card-check s table ≡ got tt
                 multiplier = kind-multiplier (s .«default_kind»);
               }
 
-          evaluated : evaluate text repr ≡ l
+          read-back : evaluate text repr ≡ l
           unfolding evaluate if_then_else_ up down nanos kind-multiplier kind-coefficients kind-downs
-          evaluated = rw (default, typed-attos) (ap₂ length-of (xor-false (l .negative)) (omega arith) ∙ length-of-size l well)
+          read-back = rw (default, typed-attos) (ap₂ length-of (xor-false (l .negative)) (omega arith) ∙ length-of-size l well)
 
           module _ (read : number-step s text (place + 1) ≡ got number) (rest-there : drop (number .next) text ≡ rest) where
-            finite : finite-part s table text (l .negative) (place + 1) ≡ got (record { repr = repr; next = number .next })
+            finite : finite-part card text (l .negative) (place + 1) ≡ got (record { repr = Typed repr; next = number .next })
             unfolding finite-part _>>=_
             finite =
                 rw (
@@ -322,13 +326,13 @@ module _ (s : Settings) (table : List ℕ) (good : card-check s table ≡ got tt
                   no-connection text (number .next) rest-there follows,
                 )
 
-            one-part : part s table text place ≡ got (record { repr = repr; next = number .next })
+            one-part : part card text place ≡ got (record { repr = Typed repr; next = number .next })
             unfolding part unsigned-part if_then_else_ _>>=_
             one-part = rw (goes-on text place at-sign, signed, finite, sees-or (is DIGIT) (is POINT) text (place + 1), begins)
 
-            reads : part-reading s table text place ≡ got (record { length = l; next = place + length (written l) })
-            unfolding part-reading allowed if_then_else_ _>>=_
-            reads = rw (one-part, evaluated, negatives, at-end, and-false)
+            reads : part-reading card text place ≡ got (record { length = l; next = place + length (written l) })
+            unfolding part-reading evaluated allowed if_then_else_ _>>=_
+            reads = rw (one-part, read-back, negatives, at-end, and-false)
 
       -- ---- without decimals, and with some
 
@@ -336,7 +340,7 @@ module _ (s : Settings) (table : List ℕ) (good : card-check s table ≡ got tt
       unfolding written
       size-written = omega (arith, length-append whole fract)
 
-      reads-whole : l .nanoseconds ≡ 0 → part-reading s table text place ≡ got (record { length = l; next = place + length (written l) })
+      reads-whole : l .nanoseconds ≡ 0 → part-reading card text place ≡ got (record { length = l; next = place + length (written l) })
       unfolding digits-of
       reads-whole none =
           reads (record { whole = typed; fract = record { start = point; end = point }; next = point })
@@ -347,7 +351,7 @@ module _ (s : Settings) (table : List ℕ) (good : card-check s table ≡ got tt
           (number-none none)
           (rest-at-point none)
 
-      reads-decimals : (l .nanoseconds ≡ 0 → ⊥) → part-reading s table text place ≡ got (record { length = l; next = place + length (written l) })
+      reads-decimals : (l .nanoseconds ≡ 0 → ⊥) → part-reading card text place ≡ got (record { length = l; next = place + length (written l) })
       unfolding digits-of
       reads-decimals some =
           reads (record { whole = typed; fract = record { start = point + 1; end = last some }; next = last some })
@@ -358,9 +362,9 @@ module _ (s : Settings) (table : List ℕ) (good : card-check s table ≡ got tt
           (number-some some)
           (rest-at-last some)
 
-      pub part-reads : part-reading s table text place ≡ got (record { length = l; next = place + length (written l) })
+      pub part-reads : part-reading card text place ≡ got (record { length = l; next = place + length (written l) })
       part-reads = go (eqb (l .nanoseconds) 0) refl
         where
-          go : (b : Bool) → eqb (l .nanoseconds) 0 ≡ b → part-reading s table text place ≡ got (record { length = l; next = place + length (written l) })
+          go : (b : Bool) → eqb (l .nanoseconds) 0 ≡ b → part-reading card text place ≡ got (record { length = l; next = place + length (written l) })
           go true e = reads-whole (eqb-true (l .nanoseconds) 0 e)
           go false e = reads-decimals (eqb-false (l .nanoseconds) 0 e)

@@ -14,3 +14,4 @@ pub mod Lengths
 pub mod Apart
 pub mod Totals
 pub mod Written
+pub mod Refusals

@@ -5,7 +5,7 @@ use Prim.Native.Nat.{ℕ, _+_}
 use Rattle.rules.specs.declared.Refusal.{Refusal}
 use Rattle.rules.specs.declared.Refusal.the-variants.{Nothing, SignEnds, DelimiterEnds, FractionOff, FractionEmpty, ExponentOff, ExponentByte, ExponentEnds, ExponentAbove, ExponentBelow, InfinityByte, InfinityEnds, InfinityGoesOn, ConjunctionEnds, ConjunctionGoesOn, NegativeForbidden, NoNumber, NoUnit, OutOfRange, Delimiters, Conjunctions, DefaultKind, TableSize, BadRow, NumeralsSize, BadNumeral, TextTooLong, NoRoom, Beyond, Malformed, NotIso, YearOrMonth, TooLarge}
 use Rattle.rules.specs.Common.{if_then_else_}
-use Rattle.rules.specs.NumbersHandedBack.{Outcome, got, refused, _>>=_, _>>_}
+use Rattle.rules.specs.NumbersHandedBack.{Outcome, got, refused, _>>=_, _>>_, unless}
 
 -- ---- what holds of whatever is got
 
@@ -140,6 +140,26 @@ module _ {A : Type 0} {P : Refusal → Type 0} where
   unfolding _>>_
   refused-then (got b) h f = f
   refused-then (refused cause) (refused-by p) f = refused-by p
+
+-- a test that fails
+pub refused-unless : {P : Refusal → Type 0} (cause : Refusal) (test : Bool) → (test ≡ false → P cause) → Refused P (unless cause test)
+unfolding unless
+refused-unless cause true f = not-refused
+refused-unless cause false f = refused-by (f refl)
+
+-- ---- a check, and what follows it
+
+-- a test that has passed
+pub unless-got : (cause : Refusal) (test : Bool) → unless cause test ≡ got tt → test ≡ true
+unfolding unless
+unless-got cause true e = refl
+unless-got cause false e = absurd (not-got cause e)
+
+-- a refusal that is none of the check's comes behind it
+pub check-got : {A : Type 0} {P : Refusal → Type 0} {check : Outcome (Unit {0})} (next : Outcome A) {cause : Refusal} → Refused P check → (P cause → ⊥) → (check >> next) ≡ refused cause → (check ≡ got tt) × (next ≡ refused cause)
+unfolding _>>_ why
+check-got next (not-refused {a = tt}) other e = (refl, e)
+check-got next (refused-by {cause = first} p) other e = absurd (other (rw (ap (why first) e) at p))
 
 -- ---- moved by k places
 

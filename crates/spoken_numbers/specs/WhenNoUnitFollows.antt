@@ -1,0 +1,161 @@
+-- A part is refused by 15 exactly if the steps come to the numeral lookup, it finds a row, a run of inner delimiters that does not end the
+-- text follows, and the stretch of step 6 from the byte after it names no row; and 15 is at that byte. Assumes nothing.
+use mathlib.Core.Path.{_≡_, refl, ap, _∙_}
+use mathlib.Core.Bool.{true, false, _&&_, _||_}
+use mathlib.Core.List.{List}
+use mathlib.Core.Logic.{_↔_}
+use Prim.Native.Nat.{ℕ, _≤_}
+use native.Mathlib.Omega.{arith}
+use lib.Dec.{lit≤}
+use lib.Seq.{slice}
+use Rattle.rules.specs.declared.ByteSet.{ByteSet}
+use Rattle.rules.specs.declared.Found.{Found}
+use Rattle.rules.specs.declared.Found.the-variants.{Row, Nowhere}
+use Rattle.rules.specs.declared.Refusal.{Refusal}
+use Rattle.rules.specs.declared.Refusal.the-variants.{NoUnit}
+use Rattle.rules.specs.declared.Signed.{Signed}
+use Rattle.rules.specs.Common.{if_then_else_, ascii, ends, sees, run}
+use Rattle.rules.specs.NumbersHandedBack.{Outcome, got, refused, _>>=_, number, position}
+use Rattle.rules.specs.SettingsAndUnitTable.{DIGIT, POINT, is, holds, Card, lookup, row, row-multiplier}
+use Rattle.rules.specs.ReadingOnePart.{says, delimiters, sign-step, ago-step, find-unit, numeral-end, numeral-found, numeral-step, spoken-unit-found, spoken-unit-step, connection, spoken-part, unsigned-part, part}
+use Rattle.rules.specs.Evaluation.{evaluated, part-reading}
+use Rattle.rules.specs.Laws.Choices.{if-else}
+use Rattle.rules.specs.Laws.Outcomes.{All, all-got, all-refused, all-of, all-if, all-bind, bind-got, bind-refused, Refused, not-refused, refused-by, the-cause, refused-map, refused-if, refused-bind}
+use Rattle.rules.specs.Laws.Refusals.{By, UpTo, up-to, sign-by, ago-by, connection-by, numeral-by, infinite-by, finite-by, evaluated-by, allowed-by}
+
+-- ---- a numeral without a unit
+
+-- the steps come to the numeral lookup: behind the sign stands no digit, no point and no allowed infinity
+pub record NumeralAsked (card : Card) (text : List ℕ) (place : ℕ) (signed : Signed) : Type 0 where
+  pub not-at-end : ends text place ≡ false
+  pub sign : sign-step (card .settings) text place ≡ got signed
+  pub no-number : sees (λ b. is DIGIT b || is POINT b) text (signed .next) ≡ false
+  pub no-infinity : (card .settings .infinity && says (ascii "inf") text (signed .next)) ≡ false
+
+-- the stretch from a place on is the name of row i of the numerals; a run of inner delimiters follows, which does not end the text: q is
+-- the byte after it
+pub record NumeralAt (card : Card) (text : List ℕ) (place i q : ℕ) : Type 0 where
+  pub found : lookup (card .numerals) (slice place (numeral-end (card .settings) text place) text) ≡ Row i
+  pub followed : sees (holds (card .settings .inner)) text (numeral-end (card .settings) text place) ≡ true
+  pub behind : run (holds (card .settings .inner)) text (numeral-end (card .settings) text place) ≡ q
+  pub goes-on : ends text q ≡ false
+
+-- the part that begins at a place has a numeral and no unit at q
+pub record NoUnitAt (card : Card) (text : List ℕ) (place q : ℕ) : Type 0 where
+  pub signed : Signed
+  pub asked : NumeralAsked card text place signed
+  pub i : ℕ
+  pub numeral : NumeralAt card text (signed .next) i q
+  pub no-unit : find-unit card text q ≡ Nowhere
+
+-- ---- the steps
+
+-- a run of delimiters that stands there goes on to a byte behind it, or is refused
+delimiters-behind : (set : ByteSet) (text : List ℕ) (place : ℕ) → sees (holds set) text place ≡ true → All (λ q. (run (holds set) text place ≡ q) × (ends text q ≡ false)) (delimiters set text place)
+unfolding delimiters
+delimiters-behind set text place stands = all-if (λ _. all-refused) (λ e. all-got (refl, rw stands at e))
+
+module _ (card : Card) (text : List ℕ) where
+  -- what the numeral's step gets is a numeral, with its row
+  pub numeral-got : (place : ℕ) → All (λ n. (i : ℕ) × (n .multiplier ≡ row-multiplier (row (card .numerals) i)) × NumeralAt card text place i (n .next)) (numeral-step card text place)
+  unfolding numeral-step numeral-found
+  numeral-got place = go (lookup (card .numerals) (slice place (numeral-end (card .settings) text place) text)) refl
+    where
+      go : (f : Found) → lookup (card .numerals) (slice place (numeral-end (card .settings) text place) text) ≡ f → All (λ n. (i : ℕ) × (n .multiplier ≡ row-multiplier (row (card .numerals) i)) × NumeralAt card text place i (n .next)) (numeral-found card text place f)
+      go (Row i) found =
+          all-if
+          (λ followed.
+          all-bind (delimiters-behind (card .settings .inner) text (numeral-end (card .settings) text place) followed)
+          (λ q (behind, goes-on). all-got (i, refl, record { found = found; followed = followed; behind = behind; goes-on = goes-on })))
+          (λ _. all-refused)
+      go Nowhere found = all-refused
+
+  -- and it gets every numeral
+  numeral-gets : (place i q : ℕ) → NumeralAt card text place i q → numeral-step card text place ≡ got (record { multiplier = row-multiplier (row (card .numerals) i); next = q })
+  unfolding numeral-step numeral-found delimiters _>>=_ if_then_else_
+  numeral-gets place i q h = rw (h .found, h .followed, h .behind, h .goes-on)
+
+  -- without a unit the refusal is at the place
+  unit-refuses : (q : ℕ) → find-unit card text q ≡ Nowhere → spoken-unit-step card text q ≡ refused (NoUnit q)
+  unfolding spoken-unit-step spoken-unit-found
+  unit-refuses q none = rw none
+
+  module _ (place : ℕ) where
+    -- why the part is refused: by a number that document 01 has for it, or by 15
+    pub data Why : Refusal → Type 0 where
+      as-before : {cause : Refusal} → number cause ≤ 6 → Why cause
+      no-unit : {q : ℕ} → NoUnitAt card text place q → Why (NoUnit q)
+
+    early : {A : Type 0} {m : Outcome A} {n : ℕ} → n ≤ 6 → UpTo n m → Refused Why m
+    early h by = refused-map by (λ cause e. as-before (omega arith))
+
+    two : {A : Type 0} {m : Outcome A} → By 2 m → Refused Why m
+    two by = early (lit≤ tt) (up-to 2 (lit≤ tt) by)
+
+    unit-why : (q : ℕ) → (find-unit card text q ≡ Nowhere → NoUnitAt card text place q) → Refused Why (spoken-unit-step card text q)
+    unfolding spoken-unit-step spoken-unit-found
+    unit-why q missing = go (find-unit card text q) missing
+      where
+        go : (found : Found) → (found ≡ Nowhere → NoUnitAt card text place q) → Refused Why (spoken-unit-found card text q found)
+        go (Row i) missing = refused-bind (ago-step (card .settings) text _ _) (two (ago-by (card .settings) text _ _)) (λ unit _. not-refused)
+        go Nowhere missing = refused-by (no-unit (missing refl))
+
+    pub part-why : Refused Why (part card text place)
+    unfolding part unsigned-part spoken-part number
+    part-why =
+        refused-if (λ _. refused-by (as-before (lit≤ tt)))
+        (λ not-at-end.
+        refused-bind (sign-step (card .settings) text place) (two (sign-by (card .settings) text place))
+        (λ signed sign.
+        refused-if (λ _. early (lit≤ tt) (finite-by card text (signed .negative) (signed .next)))
+        (λ no-number.
+        refused-if (λ _. two (infinite-by card text (signed .negative) (signed .next)))
+        (λ no-infinity.
+        refused-bind (numeral-step card text (signed .next)) (early (lit≤ tt) (numeral-by card text (signed .next)))
+        (λ numeral read.
+        let (i, _, numeral-at) = all-of (numeral-got (signed .next)) read in
+        refused-bind (spoken-unit-step card text (numeral .next))
+        (unit-why (numeral .next)
+        (λ none.
+        record {
+          signed = signed;
+          asked = record { not-at-end = not-at-end; sign = sign; no-number = no-number; no-infinity = no-infinity };
+          i = i;
+          numeral = numeral-at;
+          no-unit = none;
+        }))
+        (λ unit _. refused-bind (connection (card .settings) text (unit .next)) (two (connection-by (card .settings) text (unit .next))) (λ next _. not-refused)))))))
+
+    -- ---- refused by 15
+
+    -- no other step refuses by it
+    pub reading-told : Refused (λ cause. number cause ≡ 15 → (q : ℕ) × (cause ≡ NoUnit q) × NoUnitAt card text place q) (part-reading card text place)
+    unfolding part-reading
+    reading-told =
+        refused-bind (part card text place) (refused-map part-why told)
+        (λ p _.
+        refused-bind (evaluated text (p .repr)) (refused-map (evaluated-by text (p .repr)) (λ cause e is. absurd (omega arith)))
+        (λ l _. refused-map (allowed-by (card .settings) place (p .next) l) (λ cause e is. absurd (omega arith))))
+      where
+        told : (cause : Refusal) → Why cause → number cause ≡ 15 → (q : ℕ) × (cause ≡ NoUnit q) × NoUnitAt card text place q
+        told cause (as-before h) is = absurd (omega arith)
+        told cause (no-unit {q = q} missing) is = (q, refl, missing)
+
+    -- and the steps do where it is due
+    reading-refuses : (q : ℕ) → NoUnitAt card text place q → part-reading card text place ≡ refused (NoUnit q)
+    unfolding part-reading part unsigned-part spoken-part
+    reading-refuses q h =
+        bind-refused _
+        (if-else _ _ (h .asked .not-at-end)
+        ∙ bind-got _ (h .asked .sign)
+        ∙ if-else _ _ (h .asked .no-number)
+        ∙ if-else _ _ (h .asked .no-infinity)
+        ∙ bind-got _ (numeral-gets (h .signed .next) (h .i) q (h .numeral))
+        ∙ bind-refused _ (unit-refuses q (h .no-unit)))
+
+    pub no-unit-exactly : (q : ℕ) → (part-reading card text place ≡ refused (NoUnit q)) ↔ NoUnitAt card text place q
+    unfolding number position
+    no-unit-exactly q = (there, reading-refuses q)
+      where
+        there : part-reading card text place ≡ refused (NoUnit q) → NoUnitAt card text place q
+        there e = let (at, same, missing) = the-cause reading-told e refl in rw (ap position same) missing
