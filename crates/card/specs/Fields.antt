@@ -1,13 +1,15 @@
 -- Parts of a row that the contracts name. Assumes nothing.
-use mathlib.Core.Bool.{Bool, not, _&&_, _||_}
+use mathlib.Core.Bool.{Bool, true, false, not, _&&_}
 use mathlib.Core.List.{List}
 use Prim.Native.Nat.{ℕ}
-use lib.Dec.{eqb}
+use lib.Dec.{eqb, leb}
 use Rattle.rules.specs.declared.ByteSet.{ByteSet}
 use Rattle.rules.specs.declared.Settings.{Settings}
 use Rattle.rules.specs.Common.{between, all}
-use Rattle.rules.specs.SettingsAndUnitTable.{name-room, row, name-size, name, after-name, led-by-e, row-formed}
+use Rattle.rules.specs.SettingsAndUnitTable.{second-kind, name-room, row, name-size, name, after-name, kind, led-by-e, row-formed}
 use Rattle.settings.specs.Sets.{bytes-of, either, passes}
+use Rattle.card.specs.declared.table.Further.{Further}
+use Rattle.card.specs.declared.table.Further.the-variants.{Nothing, NotLedByE, AsciiSeconds}
 use Rattle.card.specs.declared.table.RowRule.{RowRule}
 
 -- a name of 1 to 16 bytes, and zeros after it
@@ -24,13 +26,18 @@ number-set = record { word0 = 288063250384289792; word1 = 0; word2 = 0; word3 = 
 unfoldable pub unnameable : Settings → ByteSet
 unnameable s = either (either (s .inner) (s .outer)) number-set
 
--- the letters, as bits of a set's second word
-unfoldable pub letter-set : ByteSet
-letter-set = record { word0 = 0; word1 = 576460743847706622; word2 = 0; word3 = 0 }
+-- the bytes below 128 but the letters, as bits of a set's words
+unfoldable pub no-letters : ByteSet
+no-letters = record { word0 = 18446744073709551615; word1 = 17870283329861844993; word2 = 0; word3 = 0 }
 
 -- ---- what a rule asks of a row
 
+-- after its form
+unfoldable pub asked-further : Further → List ℕ → Bool
+asked-further Nothing r = true
+asked-further NotLedByE r = not (led-by-e (name r))
+asked-further AsciiSeconds r = leb second-kind (kind r) && all (between 0 127) (name r)
+
 unfoldable pub ruled : RowRule → List ℕ → ℕ → Bool
 ruled rule table i =
-    row-formed (between (rule .«first_kind») (rule .«last_kind»)) (passes (bytes-of (rule .set)) (rule .held)) table i
-    && (rule .leads || not (led-by-e (name (row table i))))
+    row-formed (between 0 (rule .«last_kind»)) (passes (bytes-of (rule .set)) false) table i && asked-further (rule .further) (row table i)

@@ -1,6 +1,6 @@
 // The check of a table of units and of numerals, by its first bad row; and the card's check, settings first.
 ghost use mathlib.Core.Path.{_≡_};
-ghost use mathlib.Core.Bool.{true};
+ghost use mathlib.Core.Bool.{true, false};
 ghost use Prim.Native.Nat.{ℕ, _<_, _≤_};
 ghost use lib.Dec.{eqb};
 ghost use lib.ListN.{length, drop};
@@ -12,7 +12,7 @@ ghost use Rattle.rules.specs.SettingsAndUnitTable.{settings-check, row-size, ro
 ghost use Rattle.settings.specs.Outcomes.{outcome};
 ghost use Rattle.rules.specs.Laws.Lists.{Bytes};
 ghost use Rattle.settings.specs.Sets.{bytes-of, passes};
-ghost use Rattle.card.specs.Fields.{padded, unnameable, ruled};
+ghost use Rattle.card.specs.Fields.{padded, unnameable, asked-further, ruled};
 ghost use Rattle.card.specs.Laws.Table.{first-bad};
 use rows::fields::KIND_AT;
 use rows::fields::NAME_AT;
@@ -45,17 +45,29 @@ const SECOND_WORD_AT: usize = 9;
 // `+`, `-`, `.` and the digits, as bits of a set's first word.
 const NUMBER_BYTES: u64 = 288_063_250_384_289_792;
 
-// The letters, as bits of a set's second word.
-const LETTERS: u64 = 576_460_743_847_706_622;
+// All bytes below 128 but the letters, as bits of a set's two words: the letters stand in the second.
+const BELOW_64: u64 = 18_446_744_073_709_551_615;
 
-// What is asked of the rows of a table: each byte of a name is in the set or, with held false, outside it; the kind lies between two; and whether
-// an `e` may lead a name. It depends on the settings alone, and is made once for a table.
+const NO_LETTERS_FROM_64: u64 = 17_870_283_329_861_844_993;
+
+// Kinds as a row has them: the last of the eight, and seconds.
+const LAST_KIND: u8 = 7;
+
+const SECONDS: u8 = 3;
+
+// What is asked of a row after its form. It stands last, so that it is asked once a row: within the form it would be asked once a byte of each name.
+pub enum Further {
+    Nothing,
+    NotLedByE,
+    AsciiSeconds,
+}
+
+// What is asked of the rows of a table: no byte of a name is in the set, no kind is above the last, and what is asked further. It depends on the
+// settings alone, and is made once for a table.
 pub struct RowRule {
     pub set: AsciiSet,
-    pub held: bool,
-    pub first_kind: u8,
     pub last_kind: u8,
-    pub leads: bool,
+    pub further: Further,
 }
 
 // Whether zeros stand after a row's fields. They are read as one number.
@@ -102,13 +114,13 @@ fn unnameable(settings: &[u64; 25]) -> AsciiSet
     )
 }
 
-// Whether each of the name's bytes is in the set or, with held false, outside it.
-fn name_accepted(set: AsciiSet, held: bool, name: &[u8]) -> bool
-    ensures { λ r. ⌜ r ≡ all (passes (bytes-of set) held) (now (name .entry)) ⌝ }
+// Whether the set holds none of the name's bytes.
+fn name_accepted(set: AsciiSet, name: &[u8]) -> bool
+    ensures { λ r. ⌜ r ≡ all (passes (bytes-of set) false) (now (name .entry)) ⌝ }
 {
     let mut i = 0;
     while i < name.len() {
-        if holds(set, name[i]) != held {
+        if holds(set, name[i]) {
             return false;
         }
         i += 1;
@@ -149,27 +161,23 @@ fn named_before(table: &[u8], i: usize) -> bool
     false
 }
 
-// The form of a row, without what leads its name.
+// The form of a row: what both tables ask.
 fn row_formed(rule: RowRule, table: &[u8], i: usize) -> bool
     requires { ⌜ i < rows (now table) ⌝ }
     requires { ⌜ ((j : ℕ) → j < i → padded (row (now table) j) ≡ true) ⌝ }
-    ensures { λ r. ⌜ r ≡ row-formed (between (rule .«first_kind») (rule .«last_kind»)) (passes (bytes-of (rule .set)) (rule .held)) (now (table .entry)) i ⌝ }
+    ensures { λ r. ⌜ r ≡ row-formed (between 0 (rule .«last_kind»)) (passes (bytes-of (rule .set)) false) (now (table .entry)) i ⌝ }
 {
     let own = row_at(table, i);
     if !padded(own) {
         return false;
     }
-    let kind = own[KIND_AT];
-    if kind < rule.first_kind {
-        return false;
-    }
-    if kind > rule.last_kind {
+    if own[KIND_AT] > rule.last_kind {
         return false;
     }
     if !zeros(own) {
         return false;
     }
-    if !name_accepted(rule.set, rule.held, name_of(own)) {
+    if !name_accepted(rule.set, name_of(own)) {
         return false;
     }
     if named_before(table, i) {
@@ -201,6 +209,31 @@ fn led_by_e(row: &[u8]) -> bool
     first == b'e' || first == b'E'
 }
 
+// Whether a name holds no byte from 128 on. A set of two words does not say so: it holds none of them.
+fn ascii_name(name: &[u8]) -> bool
+    ensures { λ r. ⌜ r ≡ all (between 0 127) (now (name .entry)) ⌝ }
+{
+    let mut i = 0;
+    while i < name.len() {
+        if name[i] > 127 {
+            return false;
+        }
+        i += 1;
+    }
+    true
+}
+
+// What a row of the form of a numeral needs to be one: seconds, which is the last kind of that form, and a name in ASCII.
+fn ascii_seconds(row: &[u8]) -> bool
+    requires { ⌜ length (now row) ≡ row-size ⌝ }
+    ensures { λ r. ⌜ r ≡ asked-further Further.AsciiSeconds (now (row .entry)) ⌝ }
+{
+    if row[KIND_AT] < SECONDS {
+        return false;
+    }
+    ascii_name(name_of(row))
+}
+
 fn row_accepted(rule: RowRule, table: &[u8], i: usize) -> bool
     requires { ⌜ i < rows (now table) ⌝ }
     requires { ⌜ ((j : ℕ) → j < i → padded (row (now table) j) ≡ true) ⌝ }
@@ -209,10 +242,12 @@ fn row_accepted(rule: RowRule, table: &[u8], i: usize) -> bool
     if !row_formed(rule, table, i) {
         return false;
     }
-    if rule.leads {
-        return true;
+    let further = rule.further;
+    match further {
+        Further::Nothing => true,
+        Further::NotLedByE => !led_by_e(row_at(table, i)),
+        Further::AsciiSeconds => ascii_seconds(row_at(table, i)),
     }
-    !led_by_e(row_at(table, i))
 }
 
 // The first row that is not accepted, or how many rows there are.
@@ -237,10 +272,12 @@ fn unit_rule(settings: &[u64; 25]) -> RowRule
 {
     RowRule {
         set: unnameable(settings),
-        held: false,
-        first_kind: 0,
-        last_kind: 7,
-        leads: e_may_lead(settings),
+        last_kind: LAST_KIND,
+        further: if e_may_lead(settings) {
+            Further::Nothing
+        } else {
+            Further::NotLedByE
+        },
     }
 }
 
@@ -269,19 +306,21 @@ fn numeral_rule() -> RowRule
 {
     RowRule {
         set: AsciiSet {
-            low: 0,
-            high: LETTERS,
+            low: BELOW_64,
+            high: NO_LETTERS_FROM_64,
         },
-        held: true,
-        first_kind: 3,
-        last_kind: 3,
-        leads: true,
+        last_kind: SECONDS,
+        further: Further::AsciiSeconds,
     }
 }
 
+// No numerals are accepted at once: most cards have none.
 pub fn numerals_check(numerals: &[u8]) -> Checked
     ensures { λ r. ⌜ outcome r ≡ numerals-check (now (numerals .entry)) ⌝ }
 {
+    if numerals.len() == 0 {
+        return Checked::Accepted;
+    }
     if numerals.len() % ROW_SIZE != 0 {
         return Checked::Refused(Refusal::NumeralsSize);
     }

@@ -14,14 +14,15 @@ use Rattle.rules.specs.Common.{if_then_else_}
 use Rattle.rules.specs.ThePartOfTheCrateWeTake.{zero-length}
 use Rattle.rules.specs.NumbersHandedBack.{Outcome, refused, number, position, refusal}
 use Rattle.rules.specs.SettingsAndUnitTable.{Card}
-use Rattle.rules.specs.ReadingOnePart.{gap, sign-step, number-step, exponent-passed, exponent-step, unit-step, connection, infinity-step, infinite-part, finite-part, unsigned-part, part}
-use Rattle.rules.specs.Evaluation.{evaluated, allowed, part-reading, sum, parts, total}
+use Rattle.rules.specs.ReadingOnePart.{gap, sign-step, number-step, exponent-passed, exponent-step, unit-step, connection, finite-part, unsigned-part, part}
+use Rattle.rules.specs.Evaluation.{evaluated, part-reading, sum, parts, total}
 use Rattle.rules.specs.Laws.Choices.{if-then, if-else}
 use Rattle.rules.specs.Laws.Outcomes.{All, all-got, all-refused, all-of, all-if, all-bind, itself, bind-got, bind-refused, Refused, not-refused, the-cause, refused-map, refused-if, refused-bind}
+use Rattle.rules.specs.Laws.Refusals.{sign-by, number-by, gap-by, unit-by, connection-by, infinite-by, evaluated-by, allowed-by}
 use Rattle.rules.specs.Laws.Totals.{total-from, total-is, total-step}
 use Rattle.exponent_place.specs.TheWrongDigit.{minus-behind, Passed, after-number, WrongDigit, Reached, at-first, behind, WrongInTotal, passed-at, out-of-range}
 use Rattle.exponent_place.specs.StepFour.{step-told, step-refuses}
-use Rattle.exponent_place.specs.NoOtherStep.{IfOutOfRange, by-other, sign-other, number-other, gap-other, unit-other, connection-other, infinity-other, spoken-other, evaluated-other}
+use Rattle.exponent_place.specs.NoOtherStep.{IfOutOfRange, other-number, by-other, spoken-other}
 
 -- ---- what an exponent out of range is refused with
 
@@ -77,16 +78,16 @@ module _ (card : Card) (text : List ℕ) where
   PartTold from = PassedWith (WrongDigit s text from)
 
   part-told : (from : ℕ) → Refused (IfOutOfRange (PartTold from)) (part-reading card text from)
-  unfolding part-reading part unsigned-part finite-part infinite-part allowed after-number out-of-range number
+  unfolding part-reading part unsigned-part finite-part after-number out-of-range number
   part-told from =
       refused-bind (part card text from)
-      (refused-if (λ _. by-other (PartTold from) _ refl)
+      (refused-if (λ _. by-other _ refl)
       (λ on.
-      refused-bind (sign-step s text from) (sign-other (PartTold from) s text from)
+      refused-bind (sign-step s text from) (other-number (sign-by s text from) refl)
       (λ signed sign-got.
       refused-if
       (λ starts.
-      refused-bind (number-step s text (signed .next)) (number-other (PartTold from) s text (signed .next))
+      refused-bind (number-step s text (signed .next)) (other-number (number-by s text (signed .next)) refl)
       (λ number number-got.
       refused-bind (exponent-step s text (number .next))
       (refused-map (step-told text (number .next) s)
@@ -104,18 +105,17 @@ module _ (card : Card) (text : List ℕ) where
         },
       )))
       (λ scaled _.
-      refused-bind (gap (s .«before_unit») s text (scaled .next)) (gap-other (PartTold from) s text (s .«before_unit») (scaled .next))
+      refused-bind (gap (s .«before_unit») s text (scaled .next)) (other-number (gap-by s text (s .«before_unit») (scaled .next)) refl)
       (λ name _.
-      refused-bind (unit-step card text name) (unit-other (PartTold from) card text name)
+      refused-bind (unit-step card text name) (other-number (unit-by card text name) refl)
       (λ unit _.
-      refused-bind (connection s text (unit .next)) (connection-other (PartTold from) s text (unit .next)) (λ next _. not-refused))))))
+      refused-bind (connection s text (unit .next)) (other-number (connection-by s text (unit .next)) refl) (λ next _. not-refused))))))
       (λ _.
-      refused-if
-      (λ _. refused-bind (infinity-step s text (signed .next)) (infinity-other (PartTold from) s text (signed .next)) (λ next _. not-refused))
-      (λ _. spoken-other (PartTold from) card text (signed .negative) (signed .next))))))
+      refused-if (λ _. other-number (infinite-by card text (signed .negative) (signed .next)) refl)
+      (λ _. spoken-other card text (signed .negative) (signed .next))))))
       (λ p _.
-      refused-bind (evaluated text (p .repr)) (evaluated-other (PartTold from) card text (p .repr))
-      (λ l _. refused-if (λ _. by-other (PartTold from) _ refl) (λ _. not-refused)))
+      refused-bind (evaluated text (p .repr)) (other-number (evaluated-by text (p .repr)) refl)
+      (λ l _. other-number (allowed-by s from (p .next) l) refl))
 
   part-refuses : (place : ℕ) → All (λ e. (q : ℕ) → s .exponents ≡ true → Passed text e q → part-reading card text place ≡ refused (exponent-passed (minus-behind text e) q)) (after-number s text place)
   unfolding after-number part-reading part unsigned-part finite-part
@@ -161,7 +161,7 @@ module _ (card : Card) (text : List ℕ) where
 
   parts-told : (n place : ℕ) → Reached card text place → Refused (IfOutOfRange TotalTold) (parts card text n place)
   unfolding parts out-of-range number
-  parts-told zero place h = by-other TotalTold _ refl
+  parts-told zero place h = by-other _ refl
   parts-told (suc n) place h =
       refused-bind (part-reading card text place) (refused-map (part-told place) (λ cause told wrong. let (negative, q, is, digit) = told wrong in (negative, q, is, (place, h, digit))))
       (λ r read.

@@ -109,13 +109,13 @@ module _ (text : List ℕ) (e : ℕ) where
   step-told s =
       refused-if (λ _. not-refused)
       (λ letter.
-      refused-if (λ _. by-other (Told s) _ refl)
+      refused-if (λ _. by-other _ refl)
       (λ on.
       refused-if
       (λ _.
       refused-map (digits-told (minus-behind text e) (drop (first-digit text e) text) 0 (first-digit text e) zero-le)
       (λ cause (k, is, passed) _. (not-false _ on, (first-digit text e + k, is, passed-in-text k (not-false _ letter) passed))))
-      (λ _. refused-if (λ _. by-other (Told s) _ refl) (λ _. by-other (Told s) _ refl))))
+      (λ _. refused-if (λ _. by-other _ refl) (λ _. by-other _ refl))))
 
   pub step-refuses : (s : Settings) (q : ℕ) → s .exponents ≡ true → Passed text e q → exponent-step s text e ≡ refused (exponent-passed (minus-behind text e) q)
   unfolding exponent-step exponent-number minus-behind first-digit

@@ -4,23 +4,24 @@ use mathlib.Core.Path.{_≡_, refl, sym, ap, _∙_}
 use mathlib.Core.Bool.{Bool, true, false, false≢true}
 use mathlib.Core.List.{List}
 use mathlib.Core.Logic.{_↔_}
-use Prim.Native.Nat.{ℕ, zero, suc, _≤_}
+use Prim.Native.Nat.{ℕ, _≤_}
 use borrow.Author.Tests.{leb-true, le-leb}
 use lib.Dec.{leb}
 use lib.ListN.{length}
 use Rattle.rules.specs.declared.Answer.{Answer}
 use Rattle.rules.specs.declared.Length.{Length}
 use Rattle.rules.specs.declared.Refusal.{Refusal}
-use Rattle.rules.specs.declared.Refusal.the-variants.{Delimiters, Conjunctions, DefaultKind, TableSize, BadRow, NumeralsSize, BadNumeral, TextTooLong, Beyond, Malformed}
+use Rattle.rules.specs.declared.Refusal.the-variants.{TextTooLong, Beyond, Malformed}
 use Rattle.rules.specs.ThePartOfTheCrateWeTake.{longest-text, well-formed}
 use Rattle.rules.specs.NumbersHandedBack.{_>>_, Outcome, got, refused, number, unless, done, refusal, answered}
-use Rattle.rules.specs.SettingsAndUnitTable.{settings-check, rows, rows-check, table-check, numerals-check, Card, card-check}
+use Rattle.rules.specs.SettingsAndUnitTable.{Card, card-check}
 use Rattle.rules.specs.Evaluation.{total}
 use Rattle.rules.specs.WriterAndShiftTotal.{shifting, record-after}
 use Rattle.rules.specs.WhatEveryEntryOwes.{read-part, part-answer, read-total, total-answer, add-total, shift-answer, shifted-record}
-use Rattle.rules.specs.Laws.Outcomes.{bind-refused, Refused, not-refused, refused-by, the-cause, refused-map, refused-if, refused-bind, refused-then}
+use Rattle.rules.specs.Laws.Outcomes.{bind-refused, Refused, not-refused, refused-by, the-cause, refused-map, refused-bind, refused-unless, unless-got}
+use Rattle.rules.specs.Laws.Refusals.{card-by}
 use Rattle.exponent_place.specs.TheWrongDigit.{WrongDigit, WrongInTotal, passed-at, out-of-range}
-use Rattle.exponent_place.specs.NoOtherStep.{IfOutOfRange, by-other, test-other}
+use Rattle.exponent_place.specs.NoOtherStep.{IfOutOfRange, other-number}
 use Rattle.exponent_place.specs.ExactlyThere.{passed-number, passed-answer, same-at, Exactly, part-found, total-found}
 
 -- ---- what comes before the text is read refuses by other numbers
@@ -28,22 +29,9 @@ use Rattle.exponent_place.specs.ExactlyThere.{passed-number, passed-answ
 abbrev Other : {A : Type 0} → Outcome A → Type 0
 Other m = Refused (IfOutOfRange (λ _. ⊥)) m
 
--- a test, and what comes behind it
-test-then : (cause : Refusal) (test : Bool) {next : Outcome (Unit {0})} → out-of-range (number cause) ≡ false → Other next → Other (unless cause test >> next)
-test-then cause test right other = refused-then (unless cause test) (test-other (λ _. ⊥) cause test right) other
-
-rows-other : (accepted : ℕ → Bool) (bad : ℕ → Refusal) → ((i : ℕ) → out-of-range (number (bad i)) ≡ false) → (i n : ℕ) → Other (rows-check accepted bad i n)
-unfolding rows-check
-rows-other accepted bad right i zero = not-refused
-rows-other accepted bad right i (suc n) = refused-if (λ _. rows-other accepted bad right (suc i) n) (λ _. by-other (λ _. ⊥) (bad i) (right i))
-
 card-other : (card : Card) → Other (card-check card)
-unfolding card-check settings-check table-check numerals-check out-of-range number
-card-other card =
-    refused-then (settings-check (card .settings)) (test-then Delimiters _ refl (test-then Conjunctions _ refl (test-other (λ _. ⊥) DefaultKind _ refl)))
-    (refused-then (table-check (card .settings) (card .units))
-    (test-then TableSize _ refl (rows-other _ BadRow (λ i. refl) 0 (rows (card .units))))
-    (test-then NumeralsSize _ refl (rows-other _ BadNumeral (λ i. refl) 0 (rows (card .numerals)))))
+unfolding out-of-range
+card-other card = other-number (card-by card) refl
 
 -- ---- behind a check 3 and 4 come as without it, if it has passed
 
@@ -61,11 +49,7 @@ module _ {A C : Type 0} {X : Bool → ℕ → Type 0} {next : Outcome A} (found 
 
   tested : (cause : Refusal) (test : Bool) → out-of-range (number cause) ≡ false → (test ≡ true → C) → (C → test ≡ true) → Exactly (λ negative q. C × X negative q) (unless cause test >> next)
   unfolding unless
-  tested cause test right there back = checked (unless cause test) (test-other (λ _. ⊥) cause test right) (λ e. there (passed test e)) (λ c. rw (back c))
-    where
-      passed : (test : Bool) → unless cause test ≡ got tt → test ≡ true
-      passed true e = refl
-      passed false e = cc
+  tested cause test right there back = checked (unless cause test) (other-number (refused-unless cause test (λ _. refl)) right) (λ e. there (unless-got cause test e)) (λ c. rw (back c))
 
 -- ---- however it is handed back
 

@@ -1,8 +1,9 @@
 -- What the contracts of reading need besides the definitions of document 01, and laws of those definitions.
 pub mod Outcomes
-pub mod Sums
 pub mod Typed
+pub mod Coded
 pub mod Spans
+pub mod Evaluated
 pub mod Allowed
 pub mod Totals
 pub mod Entries

@@ -2,27 +2,30 @@
 use mathlib.Core.Bool.{Bool}
 use mathlib.Core.List.{List}
 use Prim.Native.Nat.{ℕ, _+_, _≤_}
-use native.Mathlib.Nat.{le-refl}
 use native.Mathlib.Omega.{arith}
 use borrow.Author.Tests.{not-false}
 use lib.ListN.{length}
-use lib.Seq.{slice-empty}
 use Rattle.rules.specs.declared.Settings.{Settings}
-use Rattle.rules.specs.declared.Part.{Part}
-use Rattle.rules.specs.Common.{all, run}
-use Rattle.rules.specs.SettingsAndUnitTable.{DIGIT, POINT, is}
-use Rattle.rules.specs.ReadingOnePart.{fraction-step, number-step, infinite-part, finite-part, unsigned-part, part}
-use Rattle.rules.specs.Evaluation.{digits-of}
+use Rattle.rules.specs.declared.Repr.{Repr}
+use Rattle.rules.specs.declared.Repr.the-variants.{Typed, Spoken}
+use Rattle.rules.specs.Common.{run}
+use Rattle.rules.specs.SettingsAndUnitTable.{DIGIT, POINT, is, Card}
+use Rattle.rules.specs.ReadingOnePart.{fraction-step, number-step, infinite-part, finite-part, spoken-part, unsigned-part, part}
 use Rattle.rules.specs.Laws.Ahead.{sign-ahead}
 use Rattle.rules.specs.Laws.Outcomes.{All, all-got, all-refused, all-if, all-bind, always}
 use Rattle.rules.specs.Laws.Texts.{not-ends-lt, sees-in, run-within}
 use Rattle.value.specs.Numbers.{Spans}
-use Rattle.value.specs.Places.{spans-whole, spans-both}
+use Rattle.value.specs.Places.{spans-whole, spans-both, spans-none}
 
-abbrev PartSpans : List ℕ → Part → Type 0
-PartSpans text p = Spans text (p .repr .whole) (p .repr .fract)
+-- of what was typed; a spoken number has no digits
+abbrev pub PartSpans : List ℕ → Repr → Type 0
+PartSpans text (Typed d) = Spans text (d .whole) (d .fract)
+PartSpans text (Spoken d) = Unit {0}
 
-module _ (s : Settings) (table text : List ℕ) where
+module _ (card : Card) (text : List ℕ) where
+  abbrev s : Settings
+  s = card .settings
+
   number-spans : (place : ℕ) → place ≤ length text → All (λ n. Spans text (n .whole) (n .fract)) (number-step s text place)
   unfolding number-step fraction-step
   number-spans place h =
@@ -32,7 +35,7 @@ module _ (s : Settings) (table text : List ℕ) where
       (λ _. all-if (λ _. all-refused)
       (λ _. all-got (spans-both text place (end + 1) h (omega (arith, sees-in (is POINT) text end (not-false _ e)))))))
 
-  finite-spans : (negative : Bool) (place : ℕ) → place ≤ length text → All (PartSpans text) (finite-part s table text negative place)
+  finite-spans : (negative : Bool) (place : ℕ) → place ≤ length text → All (λ p. PartSpans text (p .repr)) (finite-part card text negative place)
   unfolding finite-part
   finite-spans negative place h =
       all-bind (number-spans place h)
@@ -42,20 +45,17 @@ module _ (s : Settings) (table text : List ℕ) where
       (λ unit _. all-bind (always _)
       (λ next _. all-got n)))))
 
-  no-digits : (place : ℕ) → place ≤ length text → Spans text (record { start = place; end = place }) (record { start = place; end = place })
-  unfolding digits-of all
-  no-digits place h = record {
-    whole-starts = le-refl place;
-    whole-ends = h;
-    fract-starts = le-refl place;
-    fract-ends = h;
-    digits = rw (slice-empty place text);
-  }
+  spoken-spans : (negative : Bool) (place : ℕ) → All (λ p. PartSpans text (p .repr)) (spoken-part card text negative place)
+  unfolding spoken-part
+  spoken-spans negative place =
+      all-bind (always _) (λ numeral _. all-bind (always _) (λ unit _. all-bind (always _) (λ next _. all-got tt)))
 
-  pub part-spans : (place : ℕ) → All (PartSpans text) (part s table text place)
+  pub part-spans : (place : ℕ) → All (λ p. PartSpans text (p .repr)) (part card text place)
   unfolding part unsigned-part infinite-part
   part-spans place =
       all-if (λ _. all-refused)
       (λ e. all-bind (sign-ahead s text place (not-ends-lt text place e))
       (λ signed a. all-if (λ _. finite-spans (signed .negative) (signed .next) (a .within))
-      (λ _. all-if (λ _. all-bind (always _) (λ next _. all-got (no-digits (signed .next) (a .within)))) (λ _. all-refused))))
+      (λ _. all-if
+      (λ _. all-bind (always _) (λ next _. all-got (spans-none text (signed .next) (a .within))))
+      (λ _. spoken-spans (signed .negative) (signed .next)))))

@@ -2,26 +2,21 @@
 ghost use mathlib.Core.Path.{_≡_};
 ghost use Rattle.rules.specs.SettingsAsWords.{settings-of, card-of};
 ghost use Rattle.rules.specs.ReadingOnePart.{part};
-ghost use Rattle.rules.specs.Evaluation.{evaluated, allowed, part-reading};
+ghost use Rattle.rules.specs.Evaluation.{allowed, part-reading};
 ghost use Rattle.steps.specs.Numerals.{CardReady};
-ghost use Rattle.answers.specs.Outcomes.{total};
 ghost use Rattle.reading.specs.Outcomes as outcomes;
-ghost use Rattle.reading.specs.Sums.{Summed, sums};
+ghost use Rattle.reading.specs.Coded.{codes};
 ghost use Rattle.reading.specs.Typed.{typed-part};
 use crate::start::StartRead;
 use crate::start::part_start;
 use crate::typed::PartRead;
 use crate::typed::SummedPart;
 use crate::typed::unsigned_part;
-use answers::TotalRead;
 use rules::Length;
-use rules::Part;
 use rules::Reading;
 use rules::Refusal;
-use rules::Repr;
 use settings::fields::negatives;
 use settings::sets::AsciiSet;
-use spoken::evaluate_spoken;
 use steps::Next;
 use steps::connection::try_consume_connection;
 use value::evaluation::evaluate;
@@ -41,7 +36,7 @@ fn typed_part(
     place: usize,
 ) -> PartRead
     requires { ⌜ CardReady (card-of (now settings) (now table) (now numerals)) stops ⌝ }
-    ensures { λ r. ⌜ outcomes.part r ≡ sums (now (text .entry)) (typed-part (card-of (now (settings .entry)) (now (table .entry)) (now (numerals .entry))) (now (text .entry)) place) ⌝ }
+    ensures { λ r. ⌜ outcomes.part r ≡ codes (now (text .entry)) (typed-part (card-of (now (settings .entry)) (now (table .entry)) (now (numerals .entry))) (now (text .entry)) place) ⌝ }
 {
     match part_start(settings, text, place) {
         StartRead::Refused(cause) => PartRead::Refused(cause),
@@ -67,31 +62,22 @@ fn connected_part(
     place: usize,
 ) -> PartRead
     requires { ⌜ CardReady (card-of (now settings) (now table) (now numerals)) stops ⌝ }
-    ensures { λ r. ⌜ outcomes.part r ≡ sums (now (text .entry)) (part (card-of (now (settings .entry)) (now (table .entry)) (now (numerals .entry))) (now (text .entry)) place) ⌝ }
+    ensures { λ r. ⌜ outcomes.part r ≡ codes (now (text .entry)) (part (card-of (now (settings .entry)) (now (table .entry)) (now (numerals .entry))) (now (text .entry)) place) ⌝ }
 {
     match typed_part(settings, stops, table, numerals, text, place) {
         PartRead::Refused(cause) => PartRead::Refused(cause),
-        PartRead::Got(typed) => match try_consume_connection(settings, text, typed.part.next) {
+        PartRead::Got(typed) => match try_consume_connection(settings, text, typed.next) {
             Next::Refused(cause) => PartRead::Refused(cause),
             Next::At(next) => {
-                let repr = typed.part.repr;
+                let repr = typed.repr;
                 PartRead::Got(SummedPart {
-                    part: Part { repr, next },
+                    repr,
                     number: typed.number,
+                    out_of_range: typed.out_of_range,
+                    next,
                 })
             }
         },
-    }
-}
-
-// What was typed comes to a length; a spoken number may be out of range.
-fn evaluated(text: &[u8], repr: Repr, number: u64) -> TotalRead
-    requires { ⌜ Summed (now text) repr number ⌝ }
-    ensures { λ r. ⌜ total r ≡ evaluated (now (text .entry)) repr ⌝ }
-{
-    match repr {
-        Repr::Typed(typed) => TotalRead::Got(evaluate(text, typed, number)),
-        Repr::Spoken(spoken) => evaluate_spoken(spoken),
     }
 }
 
@@ -121,11 +107,11 @@ pub fn parse_part(
     match connected_part(settings, stops, table, numerals, text, place) {
         PartRead::Refused(cause) => ReadingRead::Refused(cause),
         PartRead::Got(summed) => {
-            let part = summed.part;
-            match evaluated(text, part.repr, summed.number) {
-                TotalRead::Refused(cause) => ReadingRead::Refused(cause),
-                TotalRead::Got(length) => allowed(settings, place, part.next, length),
+            if summed.out_of_range {
+                return ReadingRead::Refused(Refusal::OutOfRange);
             }
+            let length = evaluate(text, summed.repr, summed.number);
+            allowed(settings, place, summed.next, length)
         }
     }
 }

@@ -1,28 +1,34 @@
 // What was typed of a part, up to the connection to the next.
 ghost use mathlib.Core.Path.{_≡_};
 ghost use mathlib.Core.List.{List};
-ghost use Prim.Native.Nat.{ℕ, _+_, _≤_};
+ghost use Prim.Native.Nat.{ℕ, _+_, _≤_, _<_};
 ghost use lib.ListN.{length};
 ghost use Rattle.rules.specs.NumbersHandedBack.{got};
 ghost use Rattle.rules.specs.SettingsAsWords.{settings-of, card-of};
-ghost use Rattle.rules.specs.SettingsAndUnitTable.{settings-check};
-ghost use Rattle.steps.specs.Units.{Ready};
-ghost use Rattle.steps.specs.Numerals.{CardReady};
-ghost use Rattle.reading.specs.Outcomes.{part};
-ghost use Rattle.reading.specs.Sums.{sums};
-ghost use Rattle.reading.specs.Typed.{class-at, typed-infinite, typed-finite, typed-spoken, typed-word, typed-unsigned};
+ghost use Rattle.rules.specs.SettingsAndUnitTable.{settings-check, rows};
+ghost use Rattle.steps.specs.declared.unit.UnitRead.the-variants as UnitRead;
+ghost use Rattle.steps.specs.Units.{Readable, negated-if};
+ghost use Rattle.steps.specs.Numerals.{Sayable, CardReady};
+ghost use Rattle.reading.specs.Outcomes.{count, part};
+ghost use Rattle.reading.specs.Typed.{class-at, typed-infinite, typed-unsigned};
+ghost use Rattle.reading.specs.Coded.{Numbered, codes, typed-count, spoken-count, multiplied-part, unit-coded, coded-part};
+use rows::fields::KIND_AT;
+use rows::fields::row_at;
+use rows::fields::row_multiplier;
+use rows::fields::row_product;
 use rules::DurationRepr;
 use rules::Exponent;
+use rules::Found;
 use rules::Fract;
-use rules::Part;
+use rules::Multiplier;
 use rules::Refusal;
-use rules::Repr;
 use rules::SpokenRepr;
 use rules::Whole;
 use settings::fields::before_unit;
 use settings::fields::default_kind;
 use settings::fields::infinity;
 use settings::sets::AsciiSet;
+use spoken::spoken_product;
 use steps::Next;
 use steps::delimiters::parse_number_delimiter;
 use steps::exponent::ScaledRead;
@@ -33,19 +39,36 @@ use steps::number::NumberRead;
 use steps::number::parse_number;
 use steps::numeral::NumeralRead;
 use steps::numeral::parse_numeral;
-use steps::unit::SpokenUnitRead;
+use steps::unit::FoundUnit;
 use steps::unit::UnitRead;
-use steps::unit::parse_spoken_unit;
 use steps::unit::parse_time_unit;
 use tables::DIGIT;
 use tables::LETTER;
 use tables::POINT;
 use tables::kind_multiplier;
 
-// What was typed of a part, and the sum of its digits.
-pub struct SummedPart {
-    pub part: Part,
+// What a part counts, before its unit: digits, with their sum and exponent; or a numeral, by its row, which counts 1 and has no digits. And
+// where the unit's name begins.
+pub struct Counted {
+    pub numeral: Found,
+    pub whole: Whole,
+    pub fract: Fract,
     pub number: u64,
+    pub exponent: Exponent,
+    pub next: usize,
+}
+
+pub enum CountRead {
+    Got(Counted),
+    Refused(Refusal),
+}
+
+// A part as it is evaluated: what was typed, with the sum of its digits; or 1 times the product of a spoken number, which may be out of range.
+pub struct SummedPart {
+    pub repr: DurationRepr,
+    pub number: u64,
+    pub out_of_range: bool,
+    pub next: usize,
 }
 
 pub enum PartRead {
@@ -57,145 +80,202 @@ pub enum PartRead {
 fn infinite_part(settings: &[u64; 25], text: &[u8], negative: bool, place: usize) -> PartRead
     requires { ⌜ settings-check (settings-of (now settings)) ≡ got tt ⌝ }
     requires { ⌜ place + 3 ≤ length (now text) ⌝ }
-    ensures { λ r. ⌜ part r ≡ sums (now (text .entry)) (typed-infinite (settings-of (now (settings .entry))) (now (text .entry)) negative place) ⌝ }
+    ensures { λ r. ⌜ part r ≡ codes (now (text .entry)) (typed-infinite (settings-of (now (settings .entry))) (now (text .entry)) negative place) ⌝ }
 {
     match parse_infinity_remainder(settings, text, place) {
         Next::Refused(cause) => PartRead::Refused(cause),
         Next::At(next) => PartRead::Got(SummedPart {
-            part: Part {
-                repr: Repr::Typed(DurationRepr {
-                    negative,
-                    infinite: true,
-                    whole: Whole {
-                        start: place,
-                        end: place,
-                    },
-                    fract: Fract {
-                        start: place,
-                        end: place,
-                    },
-                    exponent: Exponent {
-                        negative: false,
-                        power: 0,
-                    },
-                    multiplier: kind_multiplier(default_kind(settings)),
-                }),
-                next,
+            repr: DurationRepr {
+                negative,
+                infinite: true,
+                whole: Whole {
+                    start: place,
+                    end: place,
+                },
+                fract: Fract {
+                    start: place,
+                    end: place,
+                },
+                exponent: Exponent {
+                    negative: false,
+                    power: 0,
+                },
+                multiplier: kind_multiplier(default_kind(settings)),
             },
             number: 0,
+            out_of_range: false,
+            next,
         }),
     }
 }
 
-// Steps 2 to 6, one after another: the first refusal stands.
-fn finite_part(
-    settings: &[u64; 25],
-    stops: AsciiSet,
-    table: &[u8],
-    text: &[u8],
-    negative: bool,
-    place: usize,
-) -> PartRead
-    requires { ⌜ Ready (settings-of (now settings)) stops (now table) ⌝ }
-    ensures { λ r. ⌜ ((numerals : List ℕ) → part r ≡ sums (now (text .entry)) (typed-finite (card-of (now (settings .entry)) (now (table .entry)) numerals) (now (text .entry)) negative place)) ⌝ }
+// Steps 2 to 5, one after another: the first refusal stands.
+fn typed_count(settings: &[u64; 25], text: &[u8], place: usize) -> CountRead
+    requires { ⌜ settings-check (settings-of (now settings)) ≡ got tt ⌝ }
+    ensures { λ r. ⌜ count r ≡ typed-count (settings-of (now (settings .entry))) (now (text .entry)) place ⌝ }
 {
     let summed = match parse_number(settings, text, place) {
         NumberRead::Got(summed) => summed,
-        NumberRead::Refused(cause) => return PartRead::Refused(cause),
+        NumberRead::Refused(cause) => return CountRead::Refused(cause),
     };
     let typed = summed.typed;
     let scaled = match parse_number_exponent(settings, text, typed.next) {
         ScaledRead::Got(scaled) => scaled,
-        ScaledRead::Refused(cause) => return PartRead::Refused(cause),
+        ScaledRead::Refused(cause) => return CountRead::Refused(cause),
     };
     let name = match parse_number_delimiter(before_unit(settings), settings, text, scaled.next) {
         Next::At(name) => name,
-        Next::Refused(cause) => return PartRead::Refused(cause),
-    };
-    let unit = match parse_time_unit(settings, stops, table, text, name) {
-        UnitRead::Got(unit) => unit,
-        UnitRead::Refused(cause) => return PartRead::Refused(cause),
+        Next::Refused(cause) => return CountRead::Refused(cause),
     };
     let whole = typed.whole;
     let fract = typed.fract;
     let exponent = scaled.exponent;
-    let multiplier = unit.multiplier;
-    PartRead::Got(SummedPart {
-        part: Part {
-            repr: Repr::Typed(DurationRepr {
-                negative,
-                infinite: false,
-                whole,
-                fract,
-                exponent,
-                multiplier,
-            }),
-            next: unit.next,
-        },
+    CountRead::Got(Counted {
+        numeral: Found::Nowhere,
+        whole,
+        fract,
         number: summed.number,
+        exponent,
+        next: name,
     })
 }
 
-// A numeral and its unit, one after the other.
-fn spoken_part(
-    settings: &[u64; 25],
-    stops: AsciiSet,
-    table: &[u8],
-    numerals: &[u8],
-    text: &[u8],
-    negative: bool,
-    place: usize,
-) -> PartRead
-    requires { ⌜ CardReady (card-of (now settings) (now table) (now numerals)) stops ⌝ }
-    ensures { λ r. ⌜ part r ≡ sums (now (text .entry)) (typed-spoken (card-of (now (settings .entry)) (now (table .entry)) (now (numerals .entry))) (now (text .entry)) negative place) ⌝ }
+// A numeral and its delimiters.
+fn spoken_count(settings: &[u64; 25], numerals: &[u8], text: &[u8], place: usize) -> CountRead
+    requires { ⌜ settings-check (settings-of (now settings)) ≡ got tt ⌝ }
+    requires { ⌜ Sayable (now numerals) ⌝ }
+    ensures { λ r. ⌜ count r ≡ spoken-count (settings-of (now (settings .entry))) (now (numerals .entry)) (now (text .entry)) place ⌝ }
 {
-    let numeral = match parse_numeral(settings, numerals, text, place) {
-        NumeralRead::Got(numeral) => numeral,
-        NumeralRead::Refused(cause) => return PartRead::Refused(cause),
-    };
-    let unit = match parse_spoken_unit(settings, stops, table, text, numeral.next) {
-        SpokenUnitRead::Got(unit) => unit,
-        SpokenUnitRead::Refused(cause) => return PartRead::Refused(cause),
-    };
-    let multiplier = numeral.multiplier;
-    let kind = unit.kind;
-    let row = unit.row;
+    match parse_numeral(settings, numerals, text, place) {
+        NumeralRead::Refused(cause) => CountRead::Refused(cause),
+        NumeralRead::Got(found) => CountRead::Got(Counted {
+            numeral: Found::Row(found.row),
+            whole: Whole { start: 0, end: 0 },
+            fract: Fract { start: 0, end: 0 },
+            number: 1,
+            exponent: Exponent {
+                negative: false,
+                power: 0,
+            },
+            next: found.next,
+        }),
+    }
+}
+
+// What a part counts, times a multiplier.
+fn multiplied_part(
+    negative: bool,
+    counted: Counted,
+    multiplier: Multiplier,
+    out_of_range: bool,
+    next: usize,
+) -> PartRead
+    ensures { λ r. ⌜ part r ≡ got (multiplied-part negative counted multiplier «out_of_range» next) ⌝ }
+{
+    let whole = counted.whole;
+    let fract = counted.fract;
+    let exponent = counted.exponent;
     PartRead::Got(SummedPart {
-        part: Part {
-            repr: Repr::Spoken(SpokenRepr {
-                negative,
-                numeral: multiplier,
-                kind,
-                row,
-            }),
-            next: unit.next,
+        repr: DurationRepr {
+            negative,
+            infinite: false,
+            whole,
+            fract,
+            exponent,
+            multiplier,
         },
-        number: 0,
+        number: counted.number,
+        out_of_range,
+        next,
     })
 }
 
-// Infinity, if it is allowed; any other word may be a numeral.
-fn word_part(
-    settings: &[u64; 25],
-    stops: AsciiSet,
-    table: &[u8],
-    numerals: &[u8],
-    text: &[u8],
-    negative: bool,
-    place: usize,
-) -> PartRead
-    requires { ⌜ CardReady (card-of (now settings) (now table) (now numerals)) stops ⌝ }
-    ensures { λ r. ⌜ part r ≡ sums (now (text .entry)) (typed-word (card-of (now (settings .entry)) (now (table .entry)) (now (numerals .entry))) (now (text .entry)) negative place) ⌝ }
+// `ago` negates what a unit multiplies by.
+fn negated(negate: bool, m: Multiplier) -> Multiplier
+    ensures { λ r. ⌜ r ≡ negated-if negate m ⌝ }
 {
-    if infinity(settings) {
-        if next_is_ignore_ascii_case(b"inf", text, place) {
-            return infinite_part(settings, text, negative, place);
+    Multiplier {
+        negative: m.negative != negate,
+        coefficient: m.coefficient,
+        up: m.up,
+        down: m.down,
+    }
+}
+
+// A typed number goes on without a unit, from the place where its name would begin; a spoken one must have a unit.
+fn unitless_part(settings: &[u64; 25], negative: bool, counted: Counted) -> PartRead
+    ensures { λ r. ⌜ ((units numerals : List ℕ) → part r ≡ unit-coded (card-of (now (settings .entry)) units numerals) negative counted (counted .numeral) UnitRead.Nowhere) ⌝ }
+{
+    let numeral = counted.numeral;
+    match numeral {
+        Found::Row(_) => PartRead::Refused(Refusal::NoUnit(counted.next)),
+        Found::Nowhere => {
+            let multiplier = kind_multiplier(default_kind(settings));
+            multiplied_part(negative, counted, multiplier, false, counted.next)
         }
     }
-    spoken_part(settings, stops, table, numerals, text, negative, place)
 }
 
-// The class of the byte at the place decides: digits, a point, a word, or no number.
+// What the number is multiplied by: kind and row, or numeral, kind and row.
+fn with_unit(
+    table: &[u8],
+    numerals: &[u8],
+    negative: bool,
+    counted: Counted,
+    unit: FoundUnit,
+) -> PartRead
+    requires { ⌜ Readable (now table) × (unit .row < rows (now table)) ⌝ }
+    requires { ⌜ Numbered (now numerals) (counted .numeral) ⌝ }
+    ensures { λ r. ⌜ ((words : List ℕ) → part r ≡ unit-coded (card-of words (now (table .entry)) (now (numerals .entry))) negative counted (counted .numeral) (UnitRead.Got unit)) ⌝ }
+{
+    let numeral = counted.numeral;
+    match numeral {
+        Found::Nowhere => {
+            let multiplier = negated(unit.ago.negated, row_product(table, unit.row));
+            multiplied_part(negative, counted, multiplier, false, unit.ago.next)
+        }
+        Found::Row(i) => {
+            let row = row_at(table, unit.row);
+            let product = spoken_product(SpokenRepr {
+                negative,
+                numeral: row_multiplier(row_at(numerals, i)),
+                kind: kind_multiplier(row[KIND_AT]),
+                row: negated(unit.ago.negated, row_multiplier(row)),
+            });
+            let multiplier = product.multiplier;
+            multiplied_part(
+                negative,
+                counted,
+                multiplier,
+                product.out_of_range,
+                unit.ago.next,
+            )
+        }
+    }
+}
+
+// Step 6, for a typed number and a spoken one: one call of the step, so that what is read of most parts is one piece of code.
+fn unit_part(
+    settings: &[u64; 25],
+    stops: AsciiSet,
+    table: &[u8],
+    numerals: &[u8],
+    text: &[u8],
+    negative: bool,
+    counted: Counted,
+) -> PartRead
+    requires { ⌜ CardReady (card-of (now settings) (now table) (now numerals)) stops ⌝ }
+    requires { ⌜ Numbered (now numerals) (counted .numeral) ⌝ }
+    ensures { λ r. ⌜ part r ≡ coded-part (card-of (now (settings .entry)) (now (table .entry)) (now (numerals .entry))) (now (text .entry)) negative counted ⌝ }
+{
+    match parse_time_unit(settings, stops, table, text, counted.next) {
+        UnitRead::Refused(cause) => PartRead::Refused(cause),
+        UnitRead::Nowhere => unitless_part(settings, negative, counted),
+        UnitRead::Got(unit) => with_unit(table, numerals, negative, counted, unit),
+    }
+}
+
+// The class of the byte at the place decides: digits, a point, infinity, a numeral, or no number.
 pub fn unsigned_part(
     settings: &[u64; 25],
     stops: AsciiSet,
@@ -208,11 +288,25 @@ pub fn unsigned_part(
 ) -> PartRead
     requires { ⌜ CardReady (card-of (now settings) (now table) (now numerals)) stops ⌝ }
     requires { ⌜ class ≡ class-at (now text) place ⌝ }
-    ensures { λ r. ⌜ part r ≡ sums (now (text .entry)) (typed-unsigned (card-of (now (settings .entry)) (now (table .entry)) (now (numerals .entry))) (now (text .entry)) negative place) ⌝ }
+    ensures { λ r. ⌜ part r ≡ codes (now (text .entry)) (typed-unsigned (card-of (now (settings .entry)) (now (table .entry)) (now (numerals .entry))) (now (text .entry)) negative place) ⌝ }
 {
-    match class {
-        DIGIT | POINT => finite_part(settings, stops, table, text, negative, place),
-        LETTER => word_part(settings, stops, table, numerals, text, negative, place),
-        _ => PartRead::Refused(Refusal::NoNumber(place)),
-    }
+    let counted = match class {
+        DIGIT | POINT => match typed_count(settings, text, place) {
+            CountRead::Got(counted) => counted,
+            CountRead::Refused(cause) => return PartRead::Refused(cause),
+        },
+        LETTER => {
+            if infinity(settings) {
+                if next_is_ignore_ascii_case(b"inf", text, place) {
+                    return infinite_part(settings, text, negative, place);
+                }
+            }
+            match spoken_count(settings, numerals, text, place) {
+                CountRead::Got(counted) => counted,
+                CountRead::Refused(cause) => return PartRead::Refused(cause),
+            }
+        }
+        _ => return PartRead::Refused(Refusal::NoNumber(place)),
+    };
+    unit_part(settings, stops, table, numerals, text, negative, counted)
 }

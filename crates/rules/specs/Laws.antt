@@ -6,6 +6,7 @@ pub mod Outcomes
 pub mod SettingsAsWords
 pub mod Answers
 pub mod Tables
+pub mod Powers
 pub mod Texts
 pub mod Layout
 pub mod Ahead

@@ -1,93 +1,92 @@
-// What a spoken number is worth: numeral, kind and row multiplied from left to right, each product within its range.
+// What a spoken number is multiplied by: its numeral, its kind and its row, from left to right, each product tested for its range.
 ghost use mathlib.Core.Path.{_≡_};
-ghost use mathlib.Core.Bool.{_&&_};
-ghost use Prim.Native.Nat.{_+_, _≤_};
-ghost use lib.Dec.{leb};
-ghost use Rattle.rules.specs.Evaluation.{multiplied, worth, evaluate-spoken};
-ghost use Rattle.answers.specs.Outcomes.{total};
-ghost use Rattle.spoken.specs.Products.{multiplier-of, product, few};
-use answers::TotalRead;
-use lengths::duration::calculate_duration;
-use lengths::duration::largest;
-use lengths::duration::zero;
+ghost use mathlib.Core.Bool.{true};
+ghost use Prim.Native.Nat.{_+_, _-_, _≤_};
+ghost use Rattle.rules.specs.SettingsAndUnitTable.{times, in-range};
+ghost use Rattle.rules.specs.Evaluation.{multiplied};
+ghost use Rattle.rules.specs.Laws.Powers.{net};
+ghost use Rattle.spoken.specs.Products.{product, spoken-product};
 use rows::fields::within;
-use rules::Length;
 use rules::Multiplier;
-use rules::Refusal;
 use rules::SpokenRepr;
-use value::number::Shifted;
-use value::number::shift_word;
 
-// A product of multipliers. Its powers are sums that 16 bits need not hold: two of -32768 make 65536.
-struct Factors {
-    negative: bool,
-    coefficient: u64,
-    up: u32,
-    down: u32,
+// What a spoken number is multiplied by, its powers of ten taken off each other; or that a product is out of range.
+pub struct Product {
+    pub multiplier: Multiplier,
+    pub out_of_range: bool,
 }
 
-enum Product {
-    Got(Factors),
-    OutOfRange,
-}
-
-fn factors(m: Multiplier) -> Factors
-    ensures { λ r. ⌜ multiplier-of r ≡ m ⌝ }
+// Two powers together. 16 bits need not hold them: two of 32768 make 65536.
+fn together(a: u16, b: u16) -> u32
+    ensures { λ r. ⌜ r ≡ a + b ⌝ }
 {
-    Factors {
-        negative: m.negative,
-        coefficient: m.coefficient,
-        up: m.up as u32,
-        down: m.down as u32,
-    }
+    a as u32 + b as u32
 }
 
-// One more factor. The coefficient is tested before it is multiplied.
-fn multiplied(m: Factors, n: Multiplier) -> Product
-    requires { ⌜ few m ⌝ }
-    ensures { λ r. ⌜ product r ≡ multiplied (multiplier-of m) n ⌝ }
+// How far one power stands above the other. In range that is at most 32768, which 16 bits hold again.
+fn above(a: u32, b: u32) -> u16
+    requires { ⌜ a ≤ b + 32768 ⌝ }
+    ensures { λ r. ⌜ r ≡ a - b ⌝ }
+{
+    if a <= b {
+        return 0;
+    }
+    (a - b) as u16
+}
+
+// Whether a product lies in the range. The coefficient is not made, since 64 bits need not hold it.
+fn product_in_range(m: Multiplier, n: Multiplier) -> bool
+    ensures { λ r. ⌜ r ≡ in-range (times m n) ⌝ }
 {
     if !within(m.coefficient, n.coefficient) {
-        return Product::OutOfRange;
+        return false;
     }
-    let up = m.up + n.up as u32;
-    let down = m.down + n.down as u32;
-    if up > down + 32_767 {
-        return Product::OutOfRange;
-    }
-    if down > up + 32_768 {
-        return Product::OutOfRange;
-    }
-    Product::Got(Factors {
+    let up = together(m.up, n.up);
+    let down = together(m.down, n.down);
+    up <= down + 32_767 && down <= up + 32_768
+}
+
+// A product in range. Its powers are taken off each other, so that it can be multiplied once more.
+fn times(m: Multiplier, n: Multiplier) -> Multiplier
+    requires { ⌜ in-range (times m n) ≡ true ⌝ }
+    ensures { λ r. ⌜ r ≡ net (times m n) ⌝ }
+{
+    let up = together(m.up, n.up);
+    let down = together(m.down, n.down);
+    Multiplier {
         negative: m.negative != n.negative,
         coefficient: m.coefficient * n.coefficient,
-        up,
-        down,
-    })
-}
-
-// The number 1 times a product. A coefficient of zero makes it zero, also where the powers are too large.
-fn worth(negative: bool, m: Factors) -> Length
-    ensures { λ r. ⌜ r ≡ worth negative (multiplier-of m) ⌝ }
-{
-    if m.coefficient == 0 {
-        return zero();
+        up: above(up, down),
+        down: above(down, up),
     }
-    let sign = negative != m.negative;
-    let Shifted::Fits { seconds, attos } = shift_word(1, m.up as usize, m.down as usize) else {
-        return largest(sign);
-    };
-    calculate_duration(sign, seconds, attos, m.coefficient)
 }
 
-pub fn evaluate_spoken(d: SpokenRepr) -> TotalRead
-    ensures { λ r. ⌜ total r ≡ evaluate-spoken d ⌝ }
+fn multiplied(m: Multiplier, n: Multiplier) -> Product
+    ensures { λ r. ⌜ r ≡ product (multiplied m n) ⌝ }
 {
-    let Product::Got(first) = multiplied(factors(d.numeral), d.kind) else {
-        return TotalRead::Refused(Refusal::OutOfRange);
-    };
-    let Product::Got(both) = multiplied(first, d.row) else {
-        return TotalRead::Refused(Refusal::OutOfRange);
-    };
-    TotalRead::Got(worth(d.negative, both))
+    if product_in_range(m, n) {
+        return Product {
+            multiplier: times(m, n),
+            out_of_range: false,
+        };
+    }
+    Product {
+        multiplier: Multiplier {
+            negative: false,
+            coefficient: 0,
+            up: 0,
+            down: 0,
+        },
+        out_of_range: true,
+    }
+}
+
+pub fn spoken_product(d: SpokenRepr) -> Product
+    ensures { λ r. ⌜ r ≡ spoken-product d ⌝ }
+{
+    let first = multiplied(d.numeral, d.kind);
+    if first.out_of_range {
+        return first;
+    }
+    multiplied(first.multiplier, d.row)
 }

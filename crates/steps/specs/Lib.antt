@@ -12,3 +12,4 @@ pub mod Exponents
 pub mod Infinity
 pub mod Connections
 pub mod Units
+pub mod Numerals

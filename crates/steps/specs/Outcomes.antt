@@ -2,7 +2,6 @@
 use Prim.Native.Nat.{ℕ}
 use Rattle.rules.specs.declared.Signed.{Signed}
 use Rattle.rules.specs.declared.Scaled.{Scaled}
-use Rattle.rules.specs.declared.Unit as declared-unit
 use Rattle.rules.specs.NumbersHandedBack.{Outcome, got, refused}
 use Rattle.steps.specs.declared.Next.{Next}
 use Rattle.steps.specs.declared.Next.the-variants as Next
@@ -13,8 +12,9 @@ use Rattle.steps.specs.declared.number.NumberRead.{NumberRead}
 use Rattle.steps.specs.declared.number.NumberRead.the-variants as NumberRead
 use Rattle.steps.specs.declared.exponent.ScaledRead.{ScaledRead}
 use Rattle.steps.specs.declared.exponent.ScaledRead.the-variants as ScaledRead
-use Rattle.steps.specs.declared.unit.UnitRead.{UnitRead}
-use Rattle.steps.specs.declared.unit.UnitRead.the-variants as UnitRead
+use Rattle.steps.specs.declared.numeral.FoundNumeral.{FoundNumeral}
+use Rattle.steps.specs.declared.numeral.NumeralRead.{NumeralRead}
+use Rattle.steps.specs.declared.numeral.NumeralRead.the-variants as NumeralRead
 
 abbrev pub next : Next → Outcome ℕ
 next (Next.At place) = got place
@@ -32,6 +32,6 @@ abbrev pub scaled : ScaledRead → Outcome Scaled
 scaled (ScaledRead.Got found) = got found
 scaled (ScaledRead.Refused cause) = refused cause
 
-abbrev pub unit : UnitRead → Outcome declared-unit.Unit
-unit (UnitRead.Got found) = got found
-unit (UnitRead.Refused cause) = refused cause
+abbrev pub numeral : NumeralRead → Outcome FoundNumeral
+numeral (NumeralRead.Got found) = got found
+numeral (NumeralRead.Refused cause) = refused cause

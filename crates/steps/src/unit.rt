@@ -1,48 +1,50 @@
 // Step 6: the unit, and `ago`.
 ghost use mathlib.Core.Path.{_≡_};
-ghost use mathlib.Core.List.{List};
-ghost use Prim.Native.Nat.{ℕ, _≤_, _<_};
+ghost use Prim.Native.Nat.{_≤_, _<_};
 ghost use lib.ListN.{length};
 ghost use lib.Seq.{slice};
 ghost use Rattle.rules.specs.NumbersHandedBack.{got};
-ghost use Rattle.rules.specs.SettingsAsWords.{settings-of, card-of};
+ghost use Rattle.rules.specs.SettingsAsWords.{settings-of};
 ghost use Rattle.rules.specs.SettingsAndUnitTable.{settings-check, lookup};
-ghost use Rattle.rules.specs.ReadingOnePart.{closes-unit, negated, ago-step, unit-step, spoken-unit-step};
+ghost use Rattle.rules.specs.ReadingOnePart.{closes-unit};
 ghost use Rattle.settings.specs.Sets.{bytes-of};
-ghost use Rattle.steps.specs.Outcomes.{unit, spoken-unit};
-ghost use Rattle.steps.specs.Units.{Readable, Ready, stops-of};
+ghost use Rattle.steps.specs.Units.{Readable, Ready, stops-of, ago-read, unit-row};
 use crate::Next;
 use crate::bytes::is_next_duration;
 use crate::delimiters::is_delimiter;
 use crate::delimiters::past;
 use crate::delimiters::try_consume_delimiter;
 use crate::letters::next_is_ignore_ascii_case;
-use rows::fields::KIND_AT;
-use rows::fields::row_at;
-use rows::fields::row_multiplier;
-use rows::fields::row_product;
 use rows::lookup::find;
 use rules::Found;
-use rules::Multiplier;
 use rules::Refusal;
-use rules::SpokenUnit;
-use rules::Unit;
 use settings::fields::ago;
-use settings::fields::default_kind;
 use settings::sets::AsciiSet;
 use settings::sets::either;
 use settings::sets::holds;
 use settings::sets::inner_delimiters;
 use settings::sets::outer_delimiters;
-use tables::kind_multiplier;
 
-pub enum UnitRead {
-    Got(Unit),
+// What follows a unit's name: where the unit ends, and whether `ago` negates it.
+pub struct Ago {
+    pub negated: bool,
+    pub next: usize,
+}
+
+pub enum AgoRead {
+    Got(Ago),
     Refused(Refusal),
 }
 
-pub enum SpokenUnitRead {
-    Got(SpokenUnit),
+// The row that a unit's name finds, and what follows the name.
+pub struct FoundUnit {
+    pub row: usize,
+    pub ago: Ago,
+}
+
+pub enum UnitRead {
+    Got(FoundUnit),
+    Nowhere,
     Refused(Refusal),
 }
 
@@ -81,45 +83,34 @@ fn closes_unit(settings: &[u64; 25], text: &[u8], place: usize) -> bool
     holds(outer_delimiters(settings), byte) || is_next_duration(byte)
 }
 
-fn negated(m: Multiplier) -> Multiplier
-    ensures { λ r. ⌜ r ≡ negated m ⌝ }
-{
-    Multiplier {
-        negative: !m.negative,
-        coefficient: m.coefficient,
-        up: m.up,
-        down: m.down,
-    }
-}
-
 // With ago on, delimiters and `ago` after a unit negate it; otherwise the place goes back to before the delimiters.
-fn parse_ago(settings: &[u64; 25], text: &[u8], m: Multiplier, place: usize) -> UnitRead
+fn parse_ago(settings: &[u64; 25], text: &[u8], place: usize) -> AgoRead
     requires { ⌜ settings-check (settings-of (now settings)) ≡ got tt ⌝ }
-    ensures { λ r. ⌜ unit r ≡ ago-step (settings-of (now (settings .entry))) (now (text .entry)) m place ⌝ }
+    ensures { λ r. ⌜ r ≡ ago-read (settings-of (now (settings .entry))) (now (text .entry)) place ⌝ }
 {
-    let back = Unit {
-        multiplier: m,
+    let back = Ago {
+        negated: false,
         next: place,
     };
     if !ago(settings) {
-        return UnitRead::Got(back);
+        return AgoRead::Got(back);
     }
     let inner = inner_delimiters(settings);
     if !is_delimiter(inner, text, place) {
-        return UnitRead::Got(back);
+        return AgoRead::Got(back);
     }
     match try_consume_delimiter(inner, text, place) {
-        Next::Refused(cause) => UnitRead::Refused(cause),
+        Next::Refused(cause) => AgoRead::Refused(cause),
         Next::At(word) => {
             if !next_is_ignore_ascii_case(b"ago", text, word) {
-                return UnitRead::Got(back);
+                return AgoRead::Got(back);
             }
             let end = word + AGO;
             if !closes_unit(settings, text, end) {
-                return UnitRead::Got(back);
+                return AgoRead::Got(back);
             }
-            UnitRead::Got(Unit {
-                multiplier: negated(m),
+            AgoRead::Got(Ago {
+                negated: true,
                 next: end,
             })
         }
@@ -138,7 +129,8 @@ fn find_unit(table: &[u8], text: &[u8], place: usize, end: usize) -> Found
     find(table, &text[place..end])
 }
 
-// The stretch looked up. Where no row has it as its name, the place goes back and the part has no unit.
+// The stretch looked up, and what follows it. A typed number without a unit goes on as it is, a spoken one must have one, and of both only
+// one call is made: what is read of most parts is then one piece of code.
 pub fn parse_time_unit(
     settings: &[u64; 25],
     stops: AsciiSet,
@@ -147,43 +139,14 @@ pub fn parse_time_unit(
     place: usize,
 ) -> UnitRead
     requires { ⌜ Ready (settings-of (now settings)) stops (now table) ⌝ }
-    ensures { λ r. ⌜ ((numerals : List ℕ) → unit r ≡ unit-step (card-of (now (settings .entry)) (now (table .entry)) numerals) (now (text .entry)) place) ⌝ }
+    ensures { λ r. ⌜ r ≡ unit-row (settings-of (now (settings .entry))) (now (table .entry)) (now (text .entry)) place ⌝ }
 {
     let end = past(stops, false, text, place);
-    let Found::Row(i) = find_unit(table, text, place, end) else {
-        return UnitRead::Got(Unit {
-            multiplier: kind_multiplier(default_kind(settings)),
-            next: place,
-        });
+    let Found::Row(row) = find_unit(table, text, place, end) else {
+        return UnitRead::Nowhere;
     };
-    parse_ago(settings, text, row_product(table, i), end)
-}
-
-// The same after a spoken number, which must have a unit. Kind and row stay apart, and `ago` negates the row.
-pub fn parse_spoken_unit(
-    settings: &[u64; 25],
-    stops: AsciiSet,
-    table: &[u8],
-    text: &[u8],
-    place: usize,
-) -> SpokenUnitRead
-    requires { ⌜ Ready (settings-of (now settings)) stops (now table) ⌝ }
-    ensures { λ r. ⌜ ((numerals : List ℕ) → spoken-unit r ≡ spoken-unit-step (card-of (now (settings .entry)) (now (table .entry)) numerals) (now (text .entry)) place) ⌝ }
-{
-    let end = past(stops, false, text, place);
-    let Found::Row(i) = find_unit(table, text, place, end) else {
-        return SpokenUnitRead::Refused(Refusal::NoUnit(place));
-    };
-    let found = row_at(table, i);
-    match parse_ago(settings, text, row_multiplier(found), end) {
-        UnitRead::Refused(cause) => SpokenUnitRead::Refused(cause),
-        UnitRead::Got(unit) => {
-            let row = unit.multiplier;
-            SpokenUnitRead::Got(SpokenUnit {
-                kind: kind_multiplier(found[KIND_AT]),
-                row,
-                next: unit.next,
-            })
-        }
+    match parse_ago(settings, text, end) {
+        AgoRead::Refused(cause) => UnitRead::Refused(cause),
+        AgoRead::Got(ago) => UnitRead::Got(FoundUnit { row, ago }),
     }
 }

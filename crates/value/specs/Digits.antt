@@ -17,7 +17,7 @@ use Rattle.rules.specs.SettingsAndUnitTable.{DIGIT, class, is}
 use Rattle.rules.specs.Evaluation.{spelled}
 use Rattle.rules.specs.Laws.Choices.{and-left, and-right, and-both, if-either, all-first, all-others}
 use Rattle.rules.specs.Laws.Texts.{sees-here, sees-end, run-more, run-stop, run-from, run-within, slice-shift}
-use Rattle.value.specs.Numbers.{summed}
+use Rattle.value.specs.Numbers.{summed, Counts, typed, spoken, counted}
 
 -- ---- powers of ten
 
@@ -390,6 +390,32 @@ summed-many (d ∷ ds) e h some =
   where
     large : 10 ^ 18 ≤ spelled 0 (take 19 (d ∷ ds))
     large = rw (spelled-from (0 * 10 + (d - 48)) (take 18 ds), length-take-le 18 ds (omega arith)) (omega (arith, digit-low d (all-first (is DIGIT) d ds e)))
+
+-- ---- the number that counts
+
+-- beside a sum it is what the digits spell
+pub counted-summed : {number : ℕ} (ds : List ℕ) → number ≡ summed 0 ds → counted number ds ≡ spelled 0 ds
+unfolding counted summed spelled
+counted-summed [] e = e
+counted-summed (d ∷ ds) e = refl
+
+-- a spoken number has no digits, and beside some stands their sum
+pub counts-summed : {number : ℕ} {ds : List ℕ} → Counts number ds → 0 < length ds → number ≡ summed 0 ds
+counts-summed (typed e) some = e
+counts-summed (spoken none one) some = absurd (omega (arith, ap length none))
+
+-- it has at most nineteen places, and beside at most nineteen digits it is the number that counts
+module _ {number : ℕ} {ds : List ℕ} (e : all (is DIGIT) ds ≡ true) where
+  pub counts-below : Counts number ds → number < 10 ^ 19
+  counts-below (typed sum) = rw sum (summed-below 0 ds e (lit< tt))
+  counts-below (spoken none one) = rw one (lit< tt)
+
+  pub counts-few : Counts number ds → length ds ≤ 19 → number ≡ counted number ds
+  unfolding counted
+  counts-few (typed sum) h = sum ∙ summed-few ds e h ∙ sym (counted-summed ds sum)
+  counts-few (spoken none one) h = rw none
+
+-- ---- a run summed up
 
 -- what is left to sum of a run of digits, which after the number so far comes to the whole sum
 pub record Unsummed (text : List ℕ) (end whole number place : ℕ) : Type 0 where

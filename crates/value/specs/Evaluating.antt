@@ -2,52 +2,56 @@
 use mathlib.Core.Path.{_≡_, refl, sym, _∙_, ap}
 use mathlib.Core.Bool.{Bool, true, false, xor}
 use mathlib.Core.List.{List}
-use Prim.Native.Nat.{ℕ, _+_, _*_, _/_, _%_, _^_, _≤_, _<_}
+use Prim.Native.Nat.{ℕ, _+_, _*_, _/_, _%_, _^_, _≤_, _<_, zero-le}
 use native.Mathlib.Nat.{add-zero, one-mul, mul-le-mul-right, le-trans, le-of-eq, pos-of-ne-zero, le-div-iff-mul-le, div-add-mod', mod-lt}
 use native.Mathlib.Omega.{arith}
 use borrow.Author.Tests.{ltb-false}
 use lib.Dec.{ltb, lit<}
+use Rattle.rules.specs.declared.Multiplier.{Multiplier}
 use Rattle.rules.specs.declared.DurationRepr.{DurationRepr}
 use Rattle.rules.specs.Common.{if_then_else_}
 use Rattle.rules.specs.ThePartOfTheCrateWeTake.{zero-length, largest}
-use Rattle.rules.specs.Evaluation.{up, down, attos, nanos, length-of, evaluate}
+use Rattle.rules.specs.Evaluation.{digits-of, up, down, attos, nanos, length-of, evaluate, worth}
 use Rattle.rules.specs.Laws.Apart.{none, nanos-none}
 use Rattle.rules.specs.Laws.Lengths.{limit, size-clamped}
 use Rattle.value.specs.declared.number.Shifted.the-variants as shifted
-use Rattle.value.specs.Numbers.{typed-attos, attos-of, shifted-of}
+use Rattle.value.specs.Numbers.{summed, Spans, counted, counted-attos, attos-of, evaluate-counted, shifted-of}
+use Rattle.value.specs.Digits.{counted-summed}
+use Rattle.value.specs.Sums.{digits-none}
+use Rattle.value.specs.Places.{spans-none}
 
 -- ---- the typed exponent goes to the powers of its sign
 
-module _ (text : List ℕ) (d : DurationRepr) where
-  pub typed-down : d .exponent .negative ≡ true → {above below : ℕ} → above ≡ d .multiplier .up → below ≡ d .multiplier .down + d .exponent .power → typed-attos text (d .whole) (d .fract) above below ≡ attos-of text d
+module _ (text : List ℕ) (d : DurationRepr) (number : ℕ) where
+  pub typed-down : d .exponent .negative ≡ true → {above below : ℕ} → above ≡ d .multiplier .up → below ≡ d .multiplier .down + d .exponent .power → counted-attos number text (d .whole) (d .fract) above below ≡ attos-of text d number
   unfolding attos-of up down if_then_else_
   typed-down e f g = rw (f, g, e, add-zero)
 
-  pub typed-up : d .exponent .negative ≡ false → {above below : ℕ} → above ≡ d .multiplier .up + d .exponent .power → below ≡ d .multiplier .down → typed-attos text (d .whole) (d .fract) above below ≡ attos-of text d
+  pub typed-up : d .exponent .negative ≡ false → {above below : ℕ} → above ≡ d .multiplier .up + d .exponent .power → below ≡ d .multiplier .down → counted-attos number text (d .whole) (d .fract) above below ≡ attos-of text d number
   unfolding attos-of up down if_then_else_
   typed-up e f g = rw (f, g, e, add-zero)
 
   -- one of zero changes neither
-  pub typed-none : d .exponent .power ≤ 0 → {above below : ℕ} → above ≡ d .multiplier .up → below ≡ d .multiplier .down → typed-attos text (d .whole) (d .fract) above below ≡ attos-of text d
+  pub typed-none : d .exponent .power ≤ 0 → {above below : ℕ} → above ≡ d .multiplier .up → below ≡ d .multiplier .down → counted-attos number text (d .whole) (d .fract) above below ≡ attos-of text d number
   typed-none z {above} {below} f g = go (d .exponent .negative) refl
     where
-      go : (b : Bool) → d .exponent .negative ≡ b → typed-attos text (d .whole) (d .fract) above below ≡ attos-of text d
+      go : (b : Bool) → d .exponent .negative ≡ b → counted-attos number text (d .whole) (d .fract) above below ≡ attos-of text d number
       go true e = typed-down e f (omega arith)
       go false e = typed-up e (omega arith) g
 
   -- ---- what the length is, case by case
 
-  pub evaluate-infinite : d .infinite ≡ true → evaluate text d ≡ largest (d .negative)
-  unfolding evaluate if_then_else_
+  pub evaluate-infinite : d .infinite ≡ true → evaluate-counted text d number ≡ largest (d .negative)
+  unfolding evaluate-counted if_then_else_
   evaluate-infinite e = rw e
 
-  pub evaluate-finite : d .infinite ≡ false → evaluate text d ≡ length-of (xor (d .negative) (d .multiplier .negative)) (nanos (d .multiplier .coefficient) (attos-of text d))
-  unfolding evaluate if_then_else_ attos-of
+  pub evaluate-finite : d .infinite ≡ false → evaluate-counted text d number ≡ length-of (xor (d .negative) (d .multiplier .negative)) (nanos (d .multiplier .coefficient) (attos-of text d number))
+  unfolding evaluate-counted if_then_else_
   evaluate-finite e = rw e
 
-  pub evaluate-nothing : d .infinite ≡ false → d .multiplier .coefficient ≡ 0 → evaluate text d ≡ zero-length
+  pub evaluate-nothing : d .infinite ≡ false → d .multiplier .coefficient ≡ 0 → evaluate-counted text d number ≡ zero-length
   evaluate-nothing e z =
-      evaluate-finite e ∙ ap (length-of (xor (d .negative) (d .multiplier .negative))) (ap (λ c. nanos c (attos-of text d)) z ∙ nanos-none (attos-of text d)) ∙ none _
+      evaluate-finite e ∙ ap (length-of (xor (d .negative) (d .multiplier .negative))) (ap (λ c. nanos c (attos-of text d number)) z ∙ nanos-none (attos-of text d number)) ∙ none _
 
 -- ---- too large, or seconds and attoseconds
 
@@ -91,12 +95,39 @@ unfolding nanos
 large-passes c a some h =
     le-div-iff-mul-le {k = 10 ^ 9} {x = limit} {y = c * a} (lit< tt) .1 (le-trans h (le-trans (le-of-eq (sym (one-mul a))) (mul-le-mul-right a (pos-of-ne-zero some))))
 
-module _ (text : List ℕ) (d : DurationRepr) (finite : d .infinite ≡ false) where
-  pub evaluate-large : (d .multiplier .coefficient ≡ 0 → ⊥) → shifted-of (attos-of text d) ≡ shifted.TooLarge → evaluate text d ≡ largest (xor (d .negative) (d .multiplier .negative))
+module _ (text : List ℕ) (d : DurationRepr) (number : ℕ) (finite : d .infinite ≡ false) where
+  pub evaluate-large : (d .multiplier .coefficient ≡ 0 → ⊥) → shifted-of (attos-of text d number) ≡ shifted.TooLarge → evaluate-counted text d number ≡ largest (xor (d .negative) (d .multiplier .negative))
   evaluate-large some e =
-      evaluate-finite text d finite ∙ size-clamped _ _ (large-passes (d .multiplier .coefficient) (attos-of text d) some (too-many (attos-of text d) e))
+      evaluate-finite text d number finite ∙ size-clamped _ _ (large-passes (d .multiplier .coefficient) (attos-of text d number) some (too-many (attos-of text d number) e))
 
-  pub evaluate-fits : (seconds attos : ℕ) → shifted-of (attos-of text d) ≡ shifted.Fits seconds attos → evaluate text d ≡ length-of (xor (d .negative) (d .multiplier .negative)) (nanos (d .multiplier .coefficient) (seconds * 10 ^ 18 + attos))
+  pub evaluate-fits : (seconds attos : ℕ) → shifted-of (attos-of text d number) ≡ shifted.Fits seconds attos → evaluate-counted text d number ≡ length-of (xor (d .negative) (d .multiplier .negative)) (nanos (d .multiplier .coefficient) (seconds * 10 ^ 18 + attos))
   evaluate-fits seconds attos e =
-      evaluate-finite text d finite
-      ∙ ap (λ a. length-of (xor (d .negative) (d .multiplier .negative)) (nanos (d .multiplier .coefficient) a)) (sym ((fits-parts (attos-of text d) seconds attos e) .whole))
+      evaluate-finite text d number finite
+      ∙ ap (λ a. length-of (xor (d .negative) (d .multiplier .negative)) (nanos (d .multiplier .coefficient) a)) (sym ((fits-parts (attos-of text d number) seconds attos e) .whole))
+
+-- ---- a typed number, and a spoken one
+
+-- beside the sum of its digits a number is evaluated as document 01 says
+pub evaluate-summed : (text : List ℕ) (d : DurationRepr) {number : ℕ} → number ≡ summed 0 (digits-of text (d .whole) (d .fract)) → evaluate-counted text d number ≡ evaluate text d
+unfolding evaluate-counted evaluate attos-of
+evaluate-summed text d sum = rw (counted-summed (digits-of text (d .whole) (d .fract)) sum)
+
+-- a multiplier alone: no digits, and no exponent
+abbrev pub one : Bool → Multiplier → DurationRepr
+one negative m = record {
+  negative = negative;
+  infinite = false;
+  whole = record { start = 0; end = 0 };
+  fract = record { start = 0; end = 0 };
+  exponent = record { negative = false; power = 0 };
+  multiplier = m;
+}
+
+-- its spans lie in every text
+pub no-digits : (text : List ℕ) → Spans text (record { start = 0; end = 0 }) (record { start = 0; end = 0 })
+no-digits text = spans-none text 0 zero-le
+
+-- 1 times a multiplier is what that is worth
+pub evaluate-one : (text : List ℕ) (negative : Bool) (m : Multiplier) → evaluate-counted text (one negative m) 1 ≡ worth negative m
+unfolding evaluate-counted attos-of counted up down worth if_then_else_
+evaluate-one text negative m = rw (digits-none text 0, add-zero (m .up), add-zero (m .down))

@@ -4,3 +4,4 @@ pub mod Digits
 pub mod Sums
 pub mod Places
 pub mod Evaluating
+pub mod Net

@@ -1,16 +1,18 @@
 -- What the numbers of a text come to in words of 64 bits. Assumes nothing.
 use mathlib.Core.Path.{_≡_}
-use mathlib.Core.Bool.{true}
+use mathlib.Core.Bool.{true, xor}
 use mathlib.Core.List.{List, [], _∷_}
 use Prim.Native.Nat.{ℕ, _+_, _*_, _-_, _/_, _%_, _^_, _≤_, min}
 use lib.Dec.{ltb}
 use lib.ListN.{length, take}
+use Rattle.rules.specs.declared.Length.{Length}
 use Rattle.rules.specs.declared.Whole.{Whole}
 use Rattle.rules.specs.declared.Fract.{Fract}
 use Rattle.rules.specs.declared.DurationRepr.{DurationRepr}
 use Rattle.rules.specs.Common.{if_then_else_, all}
+use Rattle.rules.specs.ThePartOfTheCrateWeTake.{largest}
 use Rattle.rules.specs.SettingsAndUnitTable.{DIGIT, is}
-use Rattle.rules.specs.Evaluation.{spelled, digits-of, up, down, attos}
+use Rattle.rules.specs.Evaluation.{spelled, digits-of, up, down, attos, nanos, length-of}
 use Rattle.value.specs.declared.digits.Word.{Word}
 use Rattle.value.specs.declared.digits.Word.the-variants.{Fits, TooLarge}
 use Rattle.value.specs.declared.digits.Taken.{Taken}
@@ -26,6 +28,16 @@ as-word n = if ltb n (2 ^ 64) then Fits n else TooLarge
 unfoldable pub summed : ℕ → List ℕ → ℕ
 summed n [] = n
 summed n (d ∷ digits) = if ltb n (10 ^ 18) then summed (n * 10 + (d - 48)) digits else n
+
+-- the number that goes beside digits: their sum, where it was typed; 1, and no digits, where it was spoken
+pub data Counts (number : ℕ) (digits : List ℕ) : Type 0 where
+  typed : number ≡ summed 0 digits → Counts number digits
+  spoken : digits ≡ [] → number ≡ 1 → Counts number digits
+
+-- what the digits spell; where there are none, the number beside them
+unfoldable pub counted : ℕ → List ℕ → ℕ
+counted number [] = number
+counted number (d ∷ digits) = spelled 0 (d ∷ digits)
 
 -- the first digits that there is room for, after those that spelled so-far, and the room left
 unfoldable pub taken : ℕ → ℕ → List ℕ → Taken
@@ -58,13 +70,21 @@ pub record Spans (text : List ℕ) (whole : Whole) (fract : Fract) : Type 0 wher
   pub fract-ends : fract .end ≤ length text
   pub digits : all (is DIGIT) (digits-of text whole fract) ≡ true
 
--- A of document 01, for typed digits and these powers of ten
-abbrev pub typed-attos : List ℕ → Whole → Fract → ℕ → ℕ → ℕ
-typed-attos text whole fract up down = attos (spelled 0 (digits-of text whole fract)) (fract-size fract) up down
+-- A of document 01, for the number that counts and these powers of ten
+abbrev pub counted-attos : ℕ → List ℕ → Whole → Fract → ℕ → ℕ → ℕ
+counted-attos number text whole fract up down = attos (counted number (digits-of text whole fract)) (fract-size fract) up down
 
--- those of what was typed, before it is multiplied
-unfoldable pub attos-of : List ℕ → DurationRepr → ℕ
-attos-of text d = typed-attos text (d .whole) (d .fract) (up (d .exponent) (d .multiplier)) (down (d .exponent) (d .multiplier))
+-- that of a part, before it is multiplied
+unfoldable pub attos-of : List ℕ → DurationRepr → ℕ → ℕ
+attos-of text d number =
+    counted-attos number text (d .whole) (d .fract) (up (d .exponent) (d .multiplier)) (down (d .exponent) (d .multiplier))
+
+-- document 01's evaluation, of the number that counts
+unfoldable pub evaluate-counted : List ℕ → DurationRepr → ℕ → Length
+evaluate-counted text d number =
+    if d .infinite
+    then largest (d .negative)
+    else length-of (xor (d .negative) (d .multiplier .negative)) (nanos (d .multiplier .coefficient) (attos-of text d number))
 
 -- so many attoseconds, if 64 bits hold their seconds
 unfoldable pub shifted-of : ℕ → Shifted

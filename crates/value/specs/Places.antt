@@ -8,7 +8,7 @@ use native.Mathlib.Nat.{zero-add, mul-assoc, mul-one, zero-mul, add-mul, le-refl
 use native.Mathlib.Omega.{arith}
 use borrow.Author.Tests.{ltb-true, ltb-false, lt-ltb, le-ltb, leb-true, leb-false}
 use lib.Arith.{digits-div, digits-mod}
-use lib.Dec.{leb, ltb, eqb, lit<}
+use lib.Dec.{leb, ltb, eqb}
 use lib.ListN.{length, getD, take, drop, length-append, length-take, length-drop, take-append-drop, drop-of-length-le}
 use lib.Pow.{pow-add}
 use lib.Seq.{slice, slice-empty, slice-cons, length-slice, take-add, take-all, take-append-le, take-nil}
@@ -24,8 +24,9 @@ use Rattle.value.specs.declared.digits.Word.the-variants.{Fits, TooLarge
 use Rattle.value.specs.declared.digits.Taken.{Taken}
 use Rattle.value.specs.declared.number.Cut.{Cut}
 use Rattle.value.specs.declared.number.Shifted.the-variants as shifted
-use Rattle.value.specs.Numbers.{as-word, summed, taken, places, whole-size, fract-size, cut-at, Spans, shifted-of, with-attos, typed-attos}
-use Rattle.value.specs.Digits.{ten-pos, ten-grows, ten-sum, run-passes, run-after-zeros, zeros-first, all-take, all-drop, all-left, all-right, take-both, drop-both, slice-before, slice-after, passes-before, passes-after, cut-within, cut-left, spelled-append, spelled-from, spelled-grows, spelled-below, spelled-in-room, summed-below, summed-few, summed-many}
+use Rattle.value.specs.Numbers.{as-word, summed, Counts, counted, taken, places, whole-size, fract-size, cut-at, Spans, counted-attos, shifted-of, with-attos}
+use Rattle.value.specs.Sums.{digits-none}
+use Rattle.value.specs.Digits.{ten-pos, ten-grows, ten-sum, run-passes, run-after-zeros, zeros-first, all-take, all-drop, all-left, all-right, take-both, drop-both, slice-before, slice-after, passes-before, passes-after, cut-within, cut-left, spelled-append, spelled-from, spelled-grows, spelled-below, spelled-in-room, summed-many, counted-summed, counts-summed, counts-few}
 
 -- ---- a number as a word of 64 bits
 
@@ -270,7 +271,7 @@ shifted-is seconds {a} {attos} sum below e f =
     sym (ap shifted-of sum ∙ shifted-word (seconds * 10 ^ 18 + attos) ∙ ap₂ with-attos (ap as-word (digits-div seconds below) ∙ sym e ∙ f) (digits-mod seconds below))
 
 -- powers of ten that stand on both sides fall away, and if they are all of the lower ones nothing is cut off
-powers-both : (n u d k above below : ℕ) → above ≡ u + k → below ≡ d + k → n * 10 ^ u / 10 ^ d ≡ n * 10 ^ above / 10 ^ below
+pub powers-both : (n u d k above below : ℕ) → above ≡ u + k → below ≡ d + k → n * 10 ^ u / 10 ^ d ≡ n * 10 ^ above / 10 ^ below
 powers-both n u d k above below e f = sym (rw (ten-sum u k above e, ten-sum d k below f, ← (mul-assoc n (10 ^ u) (10 ^ k))) (mul-div-mul-right (n * 10 ^ u) (10 ^ d) (ten-pos k)))
 
 powers-exact : (n u d above : ℕ) → above ≡ u + d → n * 10 ^ u ≡ n * 10 ^ above / 10 ^ d
@@ -320,24 +321,33 @@ module _ (n decimals : ℕ) where
     pub more-none : n < 10 ^ 19 → 36 < decimals → n / power ≡ 0
     more-none h most = rw e (div-eq-of-lt (lt-of-lt-of-le h (ten-grows {i = 19} {j = decimals - 18} (omega arith))))
 
+-- A of document 01, for typed digits and these powers of ten
+abbrev typed-attos : List ℕ → Whole → Fract → ℕ → ℕ → ℕ
+typed-attos text whole fract up down = attos (spelled 0 (digits-of text whole fract)) (fract-size fract) up down
+
 module _ {text : List ℕ} {whole : Whole} {fract : Fract} (s : Spans text whole fract) where
-  module _ {number : ℕ} (sum : number ≡ summed 0 (digits-of text whole fract)) where
-    pub sum-below : number < 10 ^ 19
-    sum-below = rw sum (summed-below 0 (digits-of text whole fract) (s .digits) (lit< tt))
-
-    -- the sum is all digits of few, and the first nineteen of many that start with no `0`
-    pub sum-moved : whole-size whole + fract-size fract ≤ 19 → (up down : ℕ) → number * 10 ^ (18 + up) / 10 ^ (fract-size fract + down) ≡ typed-attos text whole fract up down
+  module _ {number : ℕ} (counts : Counts number (digits-of text whole fract)) where
+    -- beside few digits the number is what counts, and beside many it is their sum, and what counts is what they spell
+    pub few-moved : whole-size whole + fract-size fract ≤ 19 → (up down : ℕ) → number * 10 ^ (18 + up) / 10 ^ (fract-size fract + down) ≡ counted-attos number text whole fract up down
     unfolding attos
-    sum-moved few up down = rw (sum ∙ summed-few (digits-of text whole fract) (s .digits) (omega (arith, digits-length s)))
+    few-moved few up down = rw (← (counts-few (s .digits) counts (omega (arith, digits-length s))))
 
-    pub sum-first : 19 ≤ whole-size whole → (getD text (whole .start) 0 ≡ 48 → ⊥) → number ≡ spelled 0 (take 19 (whole-of text whole))
-    unfolding digits-of
-    sum-first many some =
-        let size = whole-length s in
-        let here : getD (digits-of text whole fract) 0 0 ≡ getD text (whole .start) 0 = rw (slice-cons (whole .start) (whole .end) text 0 (omega arith) (s .whole-ends)) in
-        sum
-        ∙ summed-many (digits-of text whole fract) (s .digits) (omega (arith, digits-length s)) (λ e. some (sym here ∙ e))
-        ∙ rw (take-append-le 19 (whole-of text whole) (fract-of text fract) (omega arith))
+    module _ (many : 19 < whole-size whole + fract-size fract) where
+      pub many-summed : number ≡ summed 0 (digits-of text whole fract)
+      many-summed = counts-summed counts (omega (arith, digits-length s))
+
+      pub many-counted : counted number (digits-of text whole fract) ≡ spelled 0 (digits-of text whole fract)
+      many-counted = counted-summed (digits-of text whole fract) many-summed
+
+  -- the sum of many digits that start with no `0` is the first nineteen
+  pub sum-first : {number : ℕ} → number ≡ summed 0 (digits-of text whole fract) → 19 ≤ whole-size whole → (getD text (whole .start) 0 ≡ 48 → ⊥) → number ≡ spelled 0 (take 19 (whole-of text whole))
+  unfolding digits-of
+  sum-first sum many some =
+      let size = whole-length s in
+      let here : getD (digits-of text whole fract) 0 0 ≡ getD text (whole .start) 0 = rw (slice-cons (whole .start) (whole .end) text 0 (omega arith) (s .whole-ends)) in
+      sum
+      ∙ summed-many (digits-of text whole fract) (s .digits) (omega (arith, digits-length s)) (λ e. some (sym here ∙ e))
+      ∙ rw (take-append-le 19 (whole-of text whole) (fract-of text fract) (omega arith))
 
   module _ (up down : ℕ) {point room : ℕ} (here : point ≡ whole-size whole + up - down) (left : room ≡ 18 - (down - (whole-size whole + up))) where
     -- A of document 01, for a typed number: its places before the point, and eighteen after it, less the zeros that come first
@@ -391,3 +401,14 @@ module _ (text : List ℕ) (place next : ℕ) (h : place ≤ length text) (k : n
     fract-ends = run-within (is DIGIT) text next k;
     digits = all-append (is DIGIT) _ _ read-digits (run-passes (is DIGIT) text next);
   }
+
+-- and with no digits at all
+pub spans-none : (text : List ℕ) (place : ℕ) → place ≤ length text → Spans text (record { start = place; end = place }) (record { start = place; end = place })
+unfolding all
+spans-none text place h = record {
+  whole-starts = le-refl place;
+  whole-ends = h;
+  fract-starts = le-refl place;
+  fract-ends = h;
+  digits = rw (digits-none text place);
+}

@@ -1,6 +1,6 @@
 -- The sum of a typed number's digits: it goes on over the point. Assumes nothing.
-use mathlib.Core.Path.{_≡_, refl, _∙_}
-use mathlib.Core.List.{List}
+use mathlib.Core.Path.{_≡_, _∙_}
+use mathlib.Core.List.{List, []}
 use Prim.Native.Nat.{ℕ}
 use lib.Seq.{slice, slice-empty}
 use Rattle.rules.specs.declared.Whole.{Whole}
@@ -24,7 +24,13 @@ module _ (text : List ℕ) (whole : Whole) {number : ℕ} (w : number ≡ summed
   unfolding summed
   sum-whole place = sum-both (record { start = place; end = place }) (rw (slice-empty place text))
 
--- and no digits at all sum up to nothing
-pub sum-none : (text : List ℕ) (place : ℕ) → 0 ≡ sum-of text (record { start = place; end = place }) (record { start = place; end = place })
-unfolding summed
-sum-none text place = sum-whole text (record { start = place; end = place }) (rw (slice-empty place text)) place
+-- ---- no digits at all, which sum up to nothing
+
+module _ (text : List ℕ) (place : ℕ) where
+  pub digits-none : digits-of text (record { start = place; end = place }) (record { start = place; end = place }) ≡ []
+  unfolding digits-of
+  digits-none = rw (slice-empty place text)
+
+  pub sum-none : 0 ≡ sum-of text (record { start = place; end = place }) (record { start = place; end = place })
+  unfolding summed
+  sum-none = rw digits-none

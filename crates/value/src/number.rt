@@ -1,9 +1,9 @@
-// A typed number moved by a power of ten, as seconds and attoseconds. Digits move across the point and zeros are put in or
+// A number moved by a power of ten, as seconds and attoseconds. Digits move across the point and zeros are put in or
 // cut off, so that no number on the way is wider than 64 bits.
 ghost use mathlib.Core.Path.{_≡_};
 ghost use Prim.Native.Nat.{_+_, _-_, _*_, _/_, _≤_, _<_, _^_};
 ghost use Rattle.rules.specs.Evaluation.{spelled, digits-of, attos};
-ghost use Rattle.value.specs.Numbers.{Spans, as-word, cut-at, places, shifted-of, summed, with-attos};
+ghost use Rattle.value.specs.Numbers.{Counts, Spans, as-word, counted, cut-at, places, shifted-of, summed, with-attos};
 use crate::digits::Word;
 use crate::digits::append_digits;
 use crate::digits::place_within;
@@ -229,7 +229,7 @@ fn lower(number: u64, decimals: usize) -> Shifted
 }
 
 // A number that fits moves by word arithmetic, either way.
-pub fn shift_word(number: u64, before: usize, after: usize) -> Shifted
+fn shift_word(number: u64, before: usize, after: usize) -> Shifted
     requires { ⌜ number < 10 ^ 19 ⌝ }
     ensures { λ r. ⌜ r ≡ shifted-of (number * 10 ^ (18 + before) / 10 ^ after) ⌝ }
 {
@@ -239,7 +239,8 @@ pub fn shift_word(number: u64, before: usize, after: usize) -> Shifted
     raise(number, before - after)
 }
 
-// The typed number times ten to the power up - down. Most numbers have few digits, and then their sum is all of them.
+// The number times ten to the power up - down. Most numbers have few digits, and then their sum is all of them. A spoken one
+// has none, and is 1.
 pub fn shift_number(
     text: &[u8],
     whole: Whole,
@@ -249,8 +250,8 @@ pub fn shift_number(
     down: u32,
 ) -> Shifted
     requires { ⌜ Spans (now text) whole fract ⌝ }
-    requires { ⌜ number ≡ summed 0 (digits-of (now text) whole fract) ⌝ }
-    ensures { λ r. ⌜ r ≡ shifted-of (attos (spelled 0 (digits-of (now (text .entry)) whole fract)) (fract .end - fract .start) up down) ⌝ }
+    requires { ⌜ Counts number (digits-of (now text) whole fract) ⌝ }
+    ensures { λ r. ⌜ r ≡ shifted-of (attos (counted number (digits-of (now (text .entry)) whole fract)) (fract .end - fract .start) up down) ⌝ }
 {
     let behind = fract.end - fract.start;
     let before = up as usize;

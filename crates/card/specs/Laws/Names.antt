@@ -11,9 +11,8 @@ use lib.ListN.{length, getD, take, drop, replicate, length-take, length-drop}
 use lib.Seq.{take-add, take-take, drop-drop, take-at, drop-at, drop-append-le, drop-append-add}
 use lib.Pow.{shr-shr}
 use borrow.Author.Tests.{eq-eqb, eqb-true, leb-true}
-use Rattle.rules.specs.declared.Settings.{Settings}
 use Rattle.rules.specs.Common.{all, between, same, starts, if_then_else_}
-use Rattle.rules.specs.SettingsAndUnitTable.{row-size, name-room, name-at, name-size, name, after-name, may-name, led-by-e, lower, low-first}
+use Rattle.rules.specs.SettingsAndUnitTable.{row-size, name-room, name-at, name-size, name, after-name, led-by-e, lower, low-first}
 use Rattle.rules.specs.Laws.Choices.{and-left, and-right, and-both}
 use Rattle.rules.specs.Laws.Texts.{slice-shift}
 use Rattle.card.specs.Fields.{padded}

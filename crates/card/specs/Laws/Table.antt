@@ -1,8 +1,8 @@
 -- Laws of the table check: row by row, and the tests that a right row and an accepted one passed. Assumes nothing.
-use mathlib.Core.Path.{_≡_, refl, sym, ap, _∙_}
-use mathlib.Core.Bool.{Bool, true, false, not, _&&_, _||_}
-use mathlib.Core.List.{List}
-use Prim.Native.Nat.{ℕ, zero, suc, _+_, _*_, _-_, _/_, _%_, _≤_, _<_}
+use mathlib.Core.Path.{_≡_, refl, sym, ap, ap₂, _∙_}
+use mathlib.Core.Bool.{Bool, true, false, not, _&&_, _||_, and-comm}
+use mathlib.Core.List.{List, [], _∷_}
+use Prim.Native.Nat.{ℕ, zero, suc, _+_, _*_, _-_, _/_, _%_, _≤_, _<_, zero-le}
 use native.Mathlib.Nat.{add-zero, add-suc, suc-add, sub-zero, sub-eq-zero-of-le}
 use native.Mathlib.Numerals.{sub-one, add-one}
 use native.Mathlib.Omega.{arith}
@@ -13,16 +13,17 @@ use Rattle.rules.specs.declared.Settings.{Settings}
 use Rattle.rules.specs.declared.Refusal.{Refusal}
 use Rattle.rules.specs.Common.{if_then_else_, all, between, same}
 use Rattle.rules.specs.NumbersHandedBack.{Outcome, got, refused, _>>_, unless}
-use Rattle.rules.specs.SettingsAndUnitTable.{LETTER, is, last-kind, second-kind, zeros-at, row-size, rows, row, name, kind, may-name, named, product, in-range, led-by-e, e-may-lead, can-be-typed, row-formed, row-right, row-accepted, numeral-accepted, whole-rows, rows-check}
+use Rattle.rules.specs.SettingsAndUnitTable.{last-kind, second-kind, zeros-at, row-size, rows, row, name, kind, may-name, named, product, in-range, led-by-e, e-may-lead, can-be-typed, row-formed, row-right, row-accepted, numeral-accepted, whole-rows, rows-check}
 use Rattle.rules.specs.Laws.Choices.{and-left, and-right}
 use Rattle.rules.specs.Laws.Lists.{Bytes}
-use Rattle.rules.specs.Laws.Tests.{and-assoc, and-true, and-false}
+use Rattle.rules.specs.Laws.Tests.{and-assoc, and-false, or-true, or-false}
 use Rattle.words.specs.LowFirst.{bytes-part}
-use Rattle.settings.specs.Sets.{bytes-of, passes}
+use Rattle.settings.specs.Sets.{bytes-of}
+use Rattle.card.specs.declared.table.Further.the-variants.{Nothing, NotLedByE, AsciiSeconds}
 use Rattle.card.specs.declared.table.RowRule.{RowRule}
-use Rattle.card.specs.Fields.{padded, unnameable, letter-set, ruled}
+use Rattle.card.specs.Fields.{padded, unnameable, no-letters, asked-further, ruled}
 use Rattle.card.specs.Laws.Names.{names-alike}
-use Rattle.card.specs.Laws.Unnameable.{outside-names, held-letters}
+use Rattle.card.specs.Laws.Unnameable.{outside-names, outside-letters}
 
 -- ---- names before a row: one of the first n rows
 
@@ -141,9 +142,6 @@ module _ (of-kind of-name : ℕ → Bool) (table : List ℕ) (i : ℕ) where
     pub formed-padded : padded (row table i) ≡ true
     formed-padded = and-left _ _ (sym formed-parts ∙ good)
 
-    pub formed-kind : of-kind (kind (row table i)) ≡ true
-    formed-kind = and-left _ _ (and-right (padded (row table i)) _ (sym formed-parts ∙ good))
-
     formed-rest : (all of-name (name (row table i)) && (not (named table (name (row table i)) i) && in-range (product (row table i)))) ≡ true
     formed-rest =
         and-right (all (eqb 0) (drop zeros-at (row table i))) _
@@ -161,16 +159,46 @@ module _ (of-kind of-name : ℕ → Bool) (table : List ℕ) (i : ℕ) where
     formed-in-range =
         and-right (not (named table (name (row table i)) i)) _ (and-right (all of-name (name (row table i))) _ formed-rest)
 
--- tests of a name that agree at each byte say the same of a row
+-- tests of a kind that agree, and tests of a name that agree at each byte, say the same of a row
 formed-alike :
-    (of-kind test other : ℕ → Bool)
-    → ((b : ℕ) → b < 256 → test b ≡ other b)
+    {of-kind kind-too : ℕ → Bool} (of-name name-too : ℕ → Bool)
+    → ((k : ℕ) → of-kind k ≡ kind-too k)
+    → ((b : ℕ) → b < 256 → of-name b ≡ name-too b)
     → (table : List ℕ) → Bytes table
-    → (i : ℕ) → row-formed of-kind test table i ≡ row-formed of-kind other table i
+    → (i : ℕ) → row-formed of-kind of-name table i ≡ row-formed kind-too name-too table i
 unfolding row
-formed-alike of-kind test other alike table bytes i =
-    formed-parts of-kind test table i
-    ∙ rw (names-alike test other alike (row table i) (bytes-part table row-size (row-size * i) bytes)) (sym (formed-parts of-kind other table i))
+formed-alike {of-kind} {kind-too} of-name name-too kinds names table bytes i =
+    formed-parts of-kind of-name table i
+    ∙ rw (kinds _, names-alike of-name name-too names (row table i) (bytes-part table row-size (row-size * i) bytes)) (sym (formed-parts kind-too name-too table i))
+
+-- two tests of each element, or one of both
+all-also : (test also : ℕ → Bool) (l : List ℕ) → (all test l && all also l) ≡ all (λ b. test b && also b) l
+unfolding all
+all-also test also [] = refl
+all-also test also (b ∷ l) = rw (← (all-also test also l)) (go (test b) (all test l) (also b) (all also l))
+  where
+    go : (a more b others : Bool) → ((a && more) && (b && others)) ≡ ((a && b) && (more && others))
+    go false more b others = refl
+    go true more true others = refl
+    go true more false others = and-false more
+
+-- more tests of a kind and of a name, after the form or within it
+formed-also :
+    (of-kind kind-also of-name name-also : ℕ → Bool) (table : List ℕ) (i : ℕ)
+    → (row-formed of-kind of-name table i && (kind-also (kind (row table i)) && all name-also (name (row table i))))
+    ≡ row-formed (λ k. of-kind k && kind-also k) (λ b. of-name b && name-also b) table i
+formed-also of-kind kind-also of-name name-also table i =
+    let r : List ℕ = row table i in
+    rw (formed-parts of-kind of-name table i, formed-parts (λ k. of-kind k && kind-also k) (λ b. of-name b && name-also b) table i, ← (all-also of-name name-also (name r)))
+    (go (padded r) (of-kind (kind r)) (kind-also (kind r)) (all (eqb 0) (drop zeros-at r)) (all of-name (name r)) (all name-also (name r)) (not (named table (name r) i) && in-range (product r)))
+  where
+    go : (p k also z n too u : Bool) → ((p && (k && (z && (n && u)))) && (also && too)) ≡ (p && ((k && also) && (z && ((n && too) && u))))
+    go false k also z n too u = refl
+    go true false also z n too u = refl
+    go true true false z n too u = and-false (z && (n && u))
+    go true true true false n too u = refl
+    go true true true true false too u = refl
+    go true true true true true too u = and-comm u too
 
 -- ---- a row of units
 
@@ -197,37 +225,37 @@ module _ (s : Settings) (table : List ℕ) (i : ℕ) (good : row-right s table i
 
 -- ---- rules
 
-or-swap : (a b : Bool) → (a || b) ≡ (b || a)
-or-swap true true = refl
-or-swap true false = refl
-or-swap false true = refl
-or-swap false false = refl
-
 pub ruled-padded : (rule : RowRule) (table : List ℕ) (i : ℕ) → ruled rule table i ≡ true → padded (row table i) ≡ true
 unfolding ruled
 ruled-padded rule table i good = formed-padded _ _ table i (and-left _ _ good)
 
-module _ (rule : RowRule) (table : List ℕ) (bytes : Bytes table) (i : ℕ) where
-  -- names outside the set of bytes that no name holds, and each of the eight kinds: a row of units
-  pub unit-ruled :
-      (s : Settings)
-      → bytes-of (rule .set) ≡ unnameable s
-      → rule .held ≡ false
-      → (rule .«first_kind» ≡ 0) × (rule .«last_kind» ≡ last-kind)
-      → rule .leads ≡ e-may-lead s
-      → ruled rule table i ≡ row-accepted s table i
-  unfolding ruled row-accepted row-right can-be-typed
-  unit-ruled s set held kinds leads =
-      rw (set, held, kinds .0, kinds .1, leads, formed-alike (between 0 last-kind) _ _ (outside-names s) table bytes i)
-      (ap (λ t. row-formed (between 0 last-kind) (may-name s) table i && t) (or-swap (e-may-lead s) (not (led-by-e (name (row table i))))))
+-- names outside the set of bytes that no name holds, and each of the eight kinds: a row of units
+pub unit-ruled :
+    (rule : RowRule) (s : Settings)
+    → bytes-of (rule .set) ≡ unnameable s
+    → rule .«last_kind» ≡ last-kind
+    → rule .further ≡ (if e-may-lead s then Nothing else NotLedByE)
+    → (table : List ℕ) → Bytes table
+    → (i : ℕ) → ruled rule table i ≡ row-accepted s table i
+unfolding ruled row-accepted row-right can-be-typed asked-further if_then_else_
+unit-ruled rule s set kinds further table bytes i =
+    rw (set, kinds, further) (ap₂ _&&_ (formed-alike _ _ (λ k. refl) (outside-names s) table bytes i) (go (e-may-lead s)))
+  where
+    go : (leads : Bool) → asked-further (if leads then Nothing else NotLedByE) (row table i) ≡ (not (led-by-e (name (row table i))) || leads)
+    go true = sym (or-true (not (led-by-e (name (row table i)))))
+    go false = sym (or-false (not (led-by-e (name (row table i)))))
 
-  -- letters, and seconds alone: a numeral
-  pub numeral-ruled :
-      bytes-of (rule .set) ≡ letter-set
-      → rule .held ≡ true
-      → (rule .«first_kind» ≡ second-kind) × (rule .«last_kind» ≡ second-kind)
-      → rule .leads ≡ true
-      → ruled rule table i ≡ numeral-accepted table i
-  unfolding ruled numeral-accepted
-  numeral-ruled set held kinds leads =
-      rw (set, held, kinds .0, kinds .1, leads, formed-alike (between second-kind second-kind) _ _ held-letters table bytes i) (and-true _)
+-- letters, and seconds alone: a numeral
+pub numeral-ruled :
+    (rule : RowRule)
+    → bytes-of (rule .set) ≡ no-letters
+    → rule .«last_kind» ≡ second-kind
+    → rule .further ≡ AsciiSeconds
+    → (table : List ℕ) → Bytes table
+    → (i : ℕ) → ruled rule table i ≡ numeral-accepted table i
+unfolding ruled numeral-accepted asked-further between
+numeral-ruled rule set kinds further table bytes i =
+    rw (set, kinds, further) (formed-also _ _ _ _ table i ∙ formed-alike _ _ seconds outside-letters table bytes i)
+  where
+    seconds : (k : ℕ) → (between 0 second-kind k && leb second-kind k) ≡ between second-kind second-kind k
+    seconds k = rw (le-leb 0 k zero-le) (and-comm (leb k second-kind) (leb second-kind k))

@@ -2,6 +2,7 @@
 use Prim.Native.Nat.{zero-le}
 use native.Mathlib.Omega.{arith}
 use borrow.Author.Needs.{needs}
+use Rattle.value.specs.Numbers.{typed}
 use Rattle.value.specs.Places.{spans-both}
 use Rattle.value.specs.Sums.{sum-both}
 use Rattle.evaluations.proofs.agrees.Statement.{statement}
@@ -13,7 +14,7 @@ evaluate-requires c κs =
     let whole = fract .before .before .before in
     let digits = whole .parse-digits-strip-zeros .ensures in (
       rw (fract .sum-digits .ensures .0, digits .0) (spans-both _ 0 _ zero-le (omega (arith, rw (digits .0) at (fract .before .if1 .left)))),
-      sum-both _ _ (digits .1) _ (fract .sum-digits .ensures .1),
+      typed (sum-both _ _ (digits .1) _ (fract .sum-digits .ensures .1)),
     )
 
 pub agrees-spec : {M : Type 1} → statement M

@@ -86,6 +86,20 @@ run-within test text place h = omega (arith, front-within test (drop place text)
 pub run-past : (test : ℕ → Bool) (text : List ℕ) (place : ℕ) → sees test text place ≡ true → place < run test text place
 run-past test text place e = rw (run-more test text place e) (omega (arith, run-from test text (place + 1)))
 
+front-ends : (test : ℕ → Bool) (rest : List ℕ) → starts test (drop (front test rest) rest) ≡ false
+unfolding front starts if_then_else_
+front-ends test [] = refl
+front-ends test (b ∷ rest) = go (test b) refl (front-ends test rest)
+  where
+    go : (c : Bool) → test b ≡ c → starts test (drop (front test rest) rest) ≡ false → starts test (drop (if c then suc (front test rest) else 0) (b ∷ rest)) ≡ false
+    go true e more = more
+    go false e more = e
+
+-- where a run ends, no byte passes
+pub run-ends : (test : ℕ → Bool) (text : List ℕ) (place : ℕ) → sees test text (run test text place) ≡ false
+unfolding run sees
+run-ends test text place = ap (starts test) (sym (drop-drop (front test (drop place text)) place text)) ∙ front-ends test (drop place text)
+
 -- ---- counted from k on: the text from there, and the places from there
 
 leb-shift : (n k p : ℕ) → leb n (k + p) ≡ leb (n - k) p

@@ -7,7 +7,8 @@ use lib.ListN.{length}
 use Rattle.rules.specs.Common.{run}
 use Rattle.value.specs.Digits.{run-end}
 use Rattle.settings.specs.Sets.{bytes-of}
-use Rattle.steps.specs.Sets.{passes, passes-on, passes-off}
+use Rattle.settings.specs.Sets.{passes}
+use Rattle.steps.specs.Sets.{passes-on, passes-off}
 use Rattle.steps.proofs.delimiters.past.Statement.{statement}
 use Rattle.steps.proofs.delimiters.past.Tie as tie
 

@@ -45,12 +45,12 @@ ago-said c = sym (c .before .next-is-ignore-ascii-case .ensures) ∙ not-false _
 -- ---- the needs
 
 returns : tie.Need-returns
-returns c = ago-off (settings-of (c .before .before .before .args .settings .now)) _ _ _ (sym (c .before .ago .ensures) ∙ not-true _ (c .if1 .taken))
+returns c = ago-off (settings-of (c .before .before .before .args .settings .now)) _ _ (sym (c .before .ago .ensures) ∙ not-true _ (c .if1 .taken))
 
 returns-2 : tie.Need-returns-2
 returns-2 c =
     let inner = c .before .before in
-    ago-none (settings-of (inner .before .before .before .before .args .settings .now)) (sym (inner .inner-delimiters .ensures)) _ _ _ (on (inner .before))
+    ago-none (settings-of (inner .before .before .before .before .args .settings .now)) (sym (inner .inner-delimiters .ensures)) _ _ (on (inner .before))
     (sym (c .before .is-delimiter .ensures) ∙ not-true _ (c .if2 .taken))
 
 next-is-ignore-ascii-case-requires : tie.Need-next-is-ignore-ascii-case-requires
@@ -63,7 +63,7 @@ returns-3 c =
     let found = c .before .before .before .before in
     let run = found .before .before .before in
     let inner = run .before .before in
-    ago-other (settings-of (inner .before .before .before .before .args .settings .now)) (sym (inner .inner-delimiters .ensures)) _ _ _ (on (inner .before))
+    ago-other (settings-of (inner .before .before .before .before .args .settings .now)) (sym (inner .inner-delimiters .ensures)) _ _ (on (inner .before))
     (there run) (got-word found) (sym (c .before .next-is-ignore-ascii-case .ensures) ∙ not-true _ (c .if3 .taken))
 
 add-end : tie.Need-add-end
@@ -77,24 +77,24 @@ returns-4 c =
     let found = said .before .before .before .before in
     let run = found .before .before .before in
     let inner = run .before .before in
-    ago-open (settings-of (inner .before .before .before .before .args .settings .now)) (sym (inner .inner-delimiters .ensures)) _ _ _ (on (inner .before))
+    ago-open (settings-of (inner .before .before .before .before .args .settings .now)) (sym (inner .inner-delimiters .ensures)) _ _ (on (inner .before))
     (there run) (got-word found) (ago-said said) (sym (c .before .closes-unit .ensures) ∙ not-true _ (c .if4 .taken))
 
 returns-5 : tie.Need-returns-5
 returns-5 c =
     let run = c .before .before .before .before in
     let inner = run .before .before in
-    ago-refused (settings-of (inner .before .before .before .before .args .settings .now)) (sym (inner .inner-delimiters .ensures)) _ _ _ (on (inner .before))
+    ago-refused (settings-of (inner .before .before .before .before .args .settings .now)) (sym (inner .inner-delimiters .ensures)) _ _ (on (inner .before))
     (there run) (sym (c .before .before .before .try-consume-delimiter .ensures) ∙ ap next (c .before .cause .given .1))
 
 returns-6 : tie.Need-returns-6
 returns-6 c =
-    let said = c .before .before .before in
+    let said = c .before .before in
     let found = said .before .before .before .before in
     let run = found .before .before .before in
     let inner = run .before .before in
-    ago-there (settings-of (inner .before .before .before .before .args .settings .now)) (sym (inner .inner-delimiters .ensures)) _ _ _ (on (inner .before))
-    (there run) (got-word found) (ago-said said) (sym (c .before .before .closes-unit .ensures) ∙ not-false _ (c .before .if4 .left)) (c .negated .ensures)
+    ago-there (settings-of (inner .before .before .before .before .args .settings .now)) (sym (inner .inner-delimiters .ensures)) _ _ (on (inner .before))
+    (there run) (got-word found) (ago-said said) (sym (c .before .closes-unit .ensures) ∙ not-false _ (c .if4 .left))
 
 pub parse-ago-spec : {M : Type 1} → statement M
 parse-ago-spec =
@@ -114,6 +114,5 @@ parse-ago-spec =
     add-end
     (λ c κs. c .before .before .before .before .before .before .before .before .before .before .before .before .before .pre)
     returns-4
-    (λ c κs. tt)
     returns-5
     returns-6)

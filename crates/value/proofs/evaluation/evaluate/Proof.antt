@@ -11,13 +11,13 @@ largest-requires : tie.Need-largest-requires
 largest-requires c κs = search needs
 
 returns : tie.Need-returns
-returns c = c .largest .ensures ∙ sym (evaluate-infinite _ (c .before .before .before .args .d) (c .before .if1 .taken))
+returns c = c .largest .ensures ∙ sym (evaluate-infinite _ (c .before .before .before .args .d) _ (c .before .if1 .taken))
 
 zero-requires : tie.Need-zero-requires
 zero-requires c κs = search needs
 
 returns-2 : tie.Need-returns-2
-returns-2 c = c .zero .ensures ∙ sym (evaluate-nothing _ (c .before .before .before .before .args .d) (c .before .before .if1 .left) (c .before .if2 .taken))
+returns-2 c = c .zero .ensures ∙ sym (evaluate-nothing _ (c .before .before .before .before .args .d) _ (c .before .before .if1 .left) (c .before .if2 .taken))
 
 shift-typed-requires : tie.Need-shift-typed-requires
 shift-typed-requires c κs = search needs
@@ -37,7 +37,7 @@ returns-3 c =
     let shifted = c .before .before .before in
     let some = shifted .before .before in
     c .largest2 .ensures
-    ∙ sym (evaluate-large _ (some .before .before .before .args .d) (some .before .if1 .left) (some .if2 .left)
+    ∙ sym (evaluate-large _ (some .before .before .before .args .d) _ (some .before .if1 .left) (some .if2 .left)
     (sym (shifted .shift-typed .ensures) ∙ c .before .enum-told .given .1))
 
 calculate-duration-requires : tie.Need-calculate-duration-requires
@@ -51,7 +51,7 @@ returns-4 c =
     let shifted = parts .before .before in
     let some = shifted .before .before in
     c .calculate-duration .ensures
-    ∙ sym (evaluate-fits _ (some .before .before .before .args .d) (some .before .if1 .left) _ _
+    ∙ sym (evaluate-fits _ (some .before .before .before .args .d) _ (some .before .if1 .left) _ _
     (sym (shifted .shift-typed .ensures) ∙ parts .seconds .given .1))
 
 pub evaluate-spec : {M : Type 1} → statement M

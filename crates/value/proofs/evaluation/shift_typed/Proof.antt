@@ -29,8 +29,8 @@ shift-number-requires c κs = search needs
 returns : tie.Need-returns
 returns c =
     c .shift-number .ensures ∙ ap shifted-of
-    (⊎-elim (λ w. typed-down _ _ (w .1 .taken) (w .2) (w .3))
-    (⊎-elim (λ w. typed-up _ _ (w .1 .left) (w .2) (w .3)) (λ w. typed-none _ _ (w .0 .left) (w .1) (w .2)))
+    (⊎-elim (λ w. typed-down _ _ _ (w .1 .taken) (w .2) (w .3))
+    (⊎-elim (λ w. typed-up _ _ _ (w .1 .left) (w .2) (w .3)) (λ w. typed-none _ _ _ (w .0 .left) (w .1) (w .2)))
     (c .before .if1 .came))
 
 pub shift-typed-spec : {M : Type 1} → statement M

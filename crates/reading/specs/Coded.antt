@@ -1,0 +1,231 @@
+-- A part as it is evaluated, and how it is put together: what it counts, and then its unit. Assumes nothing.
+use mathlib.Core.Path.{_≡_, refl, sym, ap, _∙_}
+use mathlib.Core.Bool.{Bool, true, false}
+use mathlib.Core.List.{List}
+use Prim.Native.Nat.{ℕ, _<_}
+use Rattle.rules.specs.declared.Settings.{Settings}
+use Rattle.rules.specs.declared.Multiplier.{Multiplier}
+use Rattle.rules.specs.declared.Found.{Found}
+use Rattle.rules.specs.declared.Found.the-variants.{Row, Nowhere}
+use Rattle.rules.specs.declared.Number.{Number}
+use Rattle.rules.specs.declared.Scaled.{Scaled}
+use Rattle.rules.specs.declared.Numeral.{Numeral}
+use Rattle.rules.specs.declared.Unit as declared-unit
+use Rattle.rules.specs.declared.SpokenUnit.{SpokenUnit}
+use Rattle.rules.specs.declared.SpokenRepr.{SpokenRepr}
+use Rattle.rules.specs.declared.Repr.{Repr}
+use Rattle.rules.specs.declared.Repr.the-variants.{Typed, Spoken}
+use Rattle.rules.specs.declared.Part.{Part}
+use Rattle.rules.specs.declared.Refusal.{Refusal}
+use Rattle.rules.specs.declared.Refusal.the-variants.{NoUnit}
+use Rattle.rules.specs.NumbersHandedBack.{Outcome, got, refused, _>>=_}
+use Rattle.rules.specs.SettingsAndUnitTable.{Card, kind-multiplier, rows, row, kind, row-multiplier, product}
+use Rattle.rules.specs.ReadingOnePart.{gap, number-step, exponent-step, unit-step, numeral-step, spoken-unit-step, finite, spoken}
+use Rattle.rules.specs.Laws.Outcomes.{All, all-got, all-bind, always, bind-got, bind-refused, bind-assoc, not-got}
+use Rattle.value.specs.Sums.{sum-of}
+use Rattle.value.specs.Evaluating.{one}
+use Rattle.spoken.specs.Products.{spoken-product}
+use Rattle.steps.specs.declared.numeral.FoundNumeral.{FoundNumeral}
+use Rattle.steps.specs.declared.unit.FoundUnit.{FoundUnit}
+use Rattle.steps.specs.declared.unit.UnitRead.{UnitRead}
+use Rattle.steps.specs.declared.unit.UnitRead.the-variants as UnitRead
+use Rattle.steps.specs.Units.{negated-if, unit-row, typed-unit, typed-is, spoken-unit, spoken-is}
+use Rattle.steps.specs.Numerals.{numeral-row, numeral-within, numeral-of, numeral-is}
+use Rattle.reading.specs.declared.typed.Counted.{Counted}
+use Rattle.reading.specs.declared.typed.SummedPart.{SummedPart}
+use Rattle.reading.specs.Typed.{typed-finite, typed-spoken}
+
+-- ---- as it is evaluated
+
+-- what was typed, beside the sum of its digits; 1 times the product of what was spoken, or that this is out of range
+abbrev pub coded : List ℕ → Repr → ℕ → SummedPart
+coded text (Typed d) next = record { repr = d; number = sum-of text (d .whole) (d .fract); «out_of_range» = false; next = next }
+coded text (Spoken d) next = record {
+  repr = one (d .negative) (spoken-product d .multiplier);
+  number = 1;
+  «out_of_range» = spoken-product d .«out_of_range»;
+  next = next;
+}
+
+unfoldable pub codes : List ℕ → Outcome Part → Outcome SummedPart
+codes text step = step >>= λ p. got (coded text (p .repr) (p .next))
+
+module _ (text : List ℕ) {step : Outcome Part} where
+  pub codes-got : {p : Part} → got p ≡ step → got (coded text (p .repr) (p .next)) ≡ codes text step
+  unfolding codes
+  codes-got e = sym (bind-got _ (sym e))
+
+  pub codes-refused : {cause : Refusal} → refused cause ≡ step → refused cause ≡ codes text step
+  unfolding codes
+  codes-refused e = sym (bind-refused _ (sym e))
+
+-- and back
+what : SummedPart → Outcome SummedPart → SummedPart
+what other (got found) = found
+what other (refused cause) = other
+
+why : Refusal → Outcome SummedPart → Refusal
+why other (got found) = other
+why other (refused cause) = cause
+
+pub coded-got : (text : List ℕ) (step : Outcome Part) {found : SummedPart} → codes text step ≡ got found → (p : Part) × (step ≡ got p) × (coded text (p .repr) (p .next) ≡ found)
+unfolding codes what _>>=_
+coded-got text (got p) {found} e = (p, refl, ap (what found) e)
+coded-got text (refused cause) e = absurd (not-got cause e)
+
+pub coded-refused : (text : List ℕ) (step : Outcome Part) {cause : Refusal} → codes text step ≡ refused cause → step ≡ refused cause
+unfolding codes why _>>=_
+coded-refused text (got p) {cause} e = absurd (not-got cause (sym e))
+coded-refused text (refused first) e = ap refused (ap (why first) e)
+
+-- where the part ends is said beside the rest
+pub coded-next : (text : List ℕ) (d : Repr) (next after : ℕ) → coded text d after ≡ record { repr = coded text d next .repr; number = coded text d next .number; «out_of_range» = coded text d next .«out_of_range»; next = after }
+coded-next text (Typed d) next after = refl
+coded-next text (Spoken d) next after = refl
+
+-- ---- what a part counts
+
+abbrev pub typed-counted : List ℕ → Number → Scaled → ℕ → Counted
+typed-counted text number scaled name = record {
+  numeral = Nowhere;
+  whole = number .whole;
+  fract = number .fract;
+  number = sum-of text (number .whole) (number .fract);
+  exponent = scaled .exponent;
+  next = name;
+}
+
+unfoldable pub typed-count : Settings → List ℕ → ℕ → Outcome Counted
+typed-count s text place = do
+  number ← number-step s text place
+  scaled ← exponent-step s text (number .next)
+  name ← gap (s .«before_unit») s text (scaled .next)
+  got (typed-counted text number scaled name)
+
+abbrev pub spoken-counted : FoundNumeral → Counted
+spoken-counted found = record {
+  numeral = Row (found .row);
+  whole = record { start = 0; end = 0 };
+  fract = record { start = 0; end = 0 };
+  number = 1;
+  exponent = record { negative = false; power = 0 };
+  next = found .next;
+}
+
+unfoldable pub spoken-count : Settings → List ℕ → List ℕ → ℕ → Outcome Counted
+spoken-count s numerals text place = numeral-row s numerals text place >>= λ found. got (spoken-counted found)
+
+-- a numeral is one of the table's
+abbrev pub Numbered : List ℕ → Found → Type 0
+Numbered numerals (Row i) = i < rows numerals
+Numbered numerals Nowhere = Unit {0}
+
+pub spoken-numbered : (s : Settings) (numerals text : List ℕ) (place : ℕ) → All (λ counted. Numbered numerals (counted .numeral)) (spoken-count s numerals text place)
+unfolding spoken-count
+spoken-numbered s numerals text place = all-bind (numeral-within s numerals text place) (λ found below. all-got below)
+
+pub typed-numbered : (numerals : List ℕ) (s : Settings) (text : List ℕ) (place : ℕ) → All (λ counted. Numbered numerals (counted .numeral)) (typed-count s text place)
+unfolding typed-count
+typed-numbered numerals s text place =
+    all-bind (always _) (λ number _. all-bind (always _) (λ scaled _. all-bind (always _) (λ name _. all-got tt)))
+
+-- ---- and its unit
+
+abbrev pub multiplied-part : Bool → Counted → Multiplier → Bool → ℕ → SummedPart
+multiplied-part negative counted m out next = record {
+  repr =
+      record {
+        negative = negative;
+        infinite = false;
+        whole = counted .whole;
+        fract = counted .fract;
+        exponent = counted .exponent;
+        multiplier = m;
+      };
+  number = counted .number;
+  «out_of_range» = out;
+  next = next;
+}
+
+-- numeral, kind and row of a spoken number
+abbrev pub spoken-of : Card → Bool → ℕ → FoundUnit → SpokenRepr
+spoken-of card negative i unit = record {
+  negative = negative;
+  numeral = row-multiplier (row (card .numerals) i);
+  kind = kind-multiplier (kind (row (card .units) (unit .row)));
+  row = negated-if (unit .ago .negated) (row-multiplier (row (card .units) (unit .row)));
+}
+
+-- what comes of the unit that was found, or of none
+unfoldable pub unit-coded : Card → Bool → Counted → Found → UnitRead → Outcome SummedPart
+unit-coded card negative counted numeral (UnitRead.Refused cause) = refused cause
+unit-coded card negative counted Nowhere UnitRead.Nowhere =
+    got (multiplied-part negative counted (kind-multiplier (card .settings .«default_kind»)) false (counted .next))
+unit-coded card negative counted (Row i) UnitRead.Nowhere = refused (NoUnit (counted .next))
+unit-coded card negative counted Nowhere (UnitRead.Got unit) =
+    got (multiplied-part negative counted (negated-if (unit .ago .negated) (product (row (card .units) (unit .row)))) false (unit .ago .next))
+unit-coded card negative counted (Row i) (UnitRead.Got unit) =
+    got
+    (multiplied-part negative counted (spoken-product (spoken-of card negative i unit) .multiplier)
+    (spoken-product (spoken-of card negative i unit) .«out_of_range») (unit .ago .next))
+
+unfoldable pub coded-part : Card → List ℕ → Bool → Counted → Outcome SummedPart
+coded-part card text negative counted =
+    unit-coded card negative counted (counted .numeral) (unit-row (card .settings) (card .units) text (counted .next))
+
+-- ---- together they are the part
+
+-- one step, and then in two ways what comes to the same
+both-joined :
+    {A B C D : Type 0} (m : Outcome A) (f : A → Outcome B) (g : A → Outcome C) (more : B → Outcome D) (other : C → Outcome D)
+    → ((a : A) → (f a >>= more) ≡ (g a >>= other))
+    → (m >>= f >>= more) ≡ (m >>= g >>= other)
+unfolding _>>=_
+both-joined (got a) f g more other h = h a
+both-joined (refused cause) f g more other h = refl
+
+module _ (card : Card) (text : List ℕ) (negative : Bool) (place : ℕ) where
+  abbrev s : Settings
+  s = card .settings
+
+  pub finite-coded : codes text (typed-finite card text negative place) ≡ (typed-count s text place >>= coded-part card text negative)
+  unfolding codes typed-finite typed-count coded-part unit-coded _>>=_
+  finite-coded =
+      both-joined (number-step s text place) _ _ _ _
+      (λ number. both-joined (exponent-step s text (number .next)) _ _ _ _
+      (λ scaled. both-joined (gap (s .«before_unit») s text (scaled .next)) _ _ _ _
+      (λ name.
+      ap (λ unit. unit >>= (λ unit. got (finite negative number scaled unit (unit .next))) >>= λ p. got (coded text (p .repr) (p .next))) (typed-is card text name)
+      ∙ told number scaled name (unit-row s (card .units) text name))))
+    where
+      told :
+          (number : Number) (scaled : Scaled) (name : ℕ) (unit : UnitRead)
+          → (typed-unit card text name unit >>= (λ unit. got (finite negative number scaled unit (unit .next))) >>= λ p. got (coded text (p .repr) (p .next)))
+          ≡ unit-coded card negative (typed-counted text number scaled name) Nowhere unit
+      told number scaled name (UnitRead.Got unit) = refl
+      told number scaled name UnitRead.Nowhere = refl
+      told number scaled name (UnitRead.Refused cause) = refl
+
+  pub spoken-coded : codes text (typed-spoken card text negative place) ≡ (spoken-count s (card .numerals) text place >>= coded-part card text negative)
+  unfolding codes typed-spoken spoken-count coded-part unit-coded _>>=_
+  spoken-coded =
+      ap
+      (λ m. m >>= (λ numeral. spoken-unit-step card text (numeral .next) >>= λ unit. got (spoken negative numeral unit (unit .next))) >>= λ p. got (coded text (p .repr) (p .next)))
+      (numeral-is card text place)
+      ∙ ap (λ m. m >>= λ p. got (coded text (p .repr) (p .next))) (bind-assoc (numeral-row s (card .numerals) text place) _ _)
+      ∙ both-joined (numeral-row s (card .numerals) text place) _ _ _ _
+      (λ found.
+      ap
+      (λ unit. unit >>= (λ unit. got (spoken negative (numeral-of (card .numerals) found) unit (unit .next))) >>= λ p. got (coded text (p .repr) (p .next)))
+      (spoken-is card text (found .next))
+      ∙ told found (unit-row s (card .units) text (found .next)))
+    where
+      told :
+          (found : FoundNumeral) (unit : UnitRead)
+          → (spoken-unit card text (found .next) unit
+          >>= (λ unit. got (spoken negative (numeral-of (card .numerals) found) unit (unit .next)))
+          >>= λ p. got (coded text (p .repr) (p .next)))
+          ≡ unit-coded card negative (spoken-counted found) (Row (found .row)) unit
+      told found (UnitRead.Got unit) = refl
+      told found UnitRead.Nowhere = refl
+      told found (UnitRead.Refused cause) = refl

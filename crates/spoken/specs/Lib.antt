@@ -1,0 +1,3 @@
+-- What the contracts of this crate cite beside the definitions, and laws of both.
+pub mod Products
+pub mod Laws

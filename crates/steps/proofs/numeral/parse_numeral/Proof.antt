@@ -1,0 +1,111 @@
+-- `steps::numeral::parse_numeral` meets its contract: no numerals, a stretch that ends the text, none that has it as its name, and one with the
+-- delimiters behind it. Assumes nothing.
+use mathlib.Core.Path.{_≡_, sym, ap, _∙_}
+use Prim.Native.Nat.{_≤_}
+use native.Mathlib.Omega.{arith}
+use borrow.Author.Needs.{needs}
+use lib.Seq.{slice}
+use Rattle.rules.specs.SettingsAsWords.{settings-of}
+use Rattle.rules.specs.SettingsAndUnitTable.{lookup}
+use Rattle.steps.specs.Outcomes.{next}
+use Rattle.steps.specs.Units.{stretch-part}
+use Rattle.steps.specs.Numerals.{numerals-none, numeral-from, numeral-ends, numeral-nowhere, delimiter-behind, numeral-refused, numeral-got}
+use Rattle.steps.proofs.numeral.parse_numeral.Statement.{statement}
+use Rattle.steps.proofs.numeral.parse_numeral.Tie as tie
+
+start : tie.After-past → tie.Start
+start c = c .before .before .before .before .before
+
+from : (c : tie.After-past) → start c .args .place ≤ c .past .result
+unfolding start
+from c = numeral-from (settings-of (start c .args .settings .now)) (start c .args .numerals .now) _ _ (c .before .inner-delimiters .ensures) (c .past .ensures)
+
+-- what was looked up is the stretch
+looked-up :
+    (c : tie.After-find)
+    → let args = start (c .before .before .before) .args in
+    c .find .result ≡ lookup (args .numerals .now) (slice (args .place) (c .before .before .before .past .result) (args .text .now))
+unfolding start
+looked-up c = c .find .ensures ∙ ap (lookup _) (stretch-part _ _ _ (from (c .before .before .before)))
+
+returns : tie.Need-returns
+returns c = numerals-none (settings-of (c .before .before .before .args .settings .now)) _ _ _ (c .if1 .taken)
+
+returns-2 : tie.Need-returns-2
+unfolding start
+returns-2 c =
+    numeral-ends (settings-of (start (c .before) .args .settings .now)) _ _ _ (c .before .before .inner-delimiters .ensures) (c .before .past .ensures) (c .if2 .taken)
+
+sub-find : tie.Need-sub-find
+unfolding start
+sub-find c = omega (arith, from (c .before))
+
+part-find-start : tie.Need-part-find-start
+unfolding start
+part-find-start c = omega (arith, from (c .before))
+
+part-find-end : tie.Need-part-find-end
+unfolding start
+part-find-end c = omega (arith, from (c .before))
+
+find-requires : tie.Need-find-requires
+find-requires c κs = c .before .before .before .before .before .before .before .pre .1 .sizes
+
+returns-3 : tie.Need-returns-3
+unfolding start
+returns-3 c =
+    let found = c .before .before in
+    let ended = found .before .before .before in
+    numeral-nowhere (settings-of (start ended .args .settings .now)) _ _ _ (ended .before .inner-delimiters .ensures) (ended .past .ensures)
+    (looked-up found) (c .enum-told .given .1)
+
+try-consume-delimiter-requires : tie.Need-try-consume-delimiter-requires
+unfolding start
+try-consume-delimiter-requires c κs =
+    let found = c .before .before .before in
+    let ended = found .before .before .before in
+    delimiter-behind (settings-of (start ended .args .settings .now)) _ _ _ (ended .before .inner-delimiters .ensures) (ended .past .ensures)
+    (looked-up found) (found .before .before .if2 .left)
+
+returns-4 : tie.Need-returns-4
+unfolding start
+returns-4 c =
+    let asked = c .before .before .before in
+    let row = asked .before .before in
+    let found = row .before .before in
+    let ended = found .before .before .before in
+    numeral-refused (settings-of (start ended .args .settings .now)) _ _ _ (ended .before .inner-delimiters .ensures) (ended .past .ensures)
+    (looked-up found) (found .before .before .if2 .left) (row .row .given .1)
+    (sym (asked .try-consume-delimiter .ensures) ∙ ap next (c .before .cause .given .1))
+
+returns-5 : tie.Need-returns-5
+unfolding start
+returns-5 c =
+    let asked = c .before .before .before in
+    let row = asked .before .before in
+    let found = row .before .before in
+    let ended = found .before .before .before in
+    numeral-got (settings-of (start ended .args .settings .now)) _ _ _ (ended .before .inner-delimiters .ensures) (ended .past .ensures)
+    (looked-up found) (found .before .before .if2 .left) (row .row .given .1)
+    (sym (asked .try-consume-delimiter .ensures) ∙ ap next (c .before .next .given .1))
+
+pub parse-numeral-spec : {M : Type 1} → statement M
+parse-numeral-spec =
+    tie.close
+    (tie.spec
+    returns
+    (λ c κs. c .before .before .before .pre .0)
+    (λ c κs. tt)
+    returns-2
+    sub-find
+    part-find-start
+    part-find-end
+    find-requires
+    (λ c. search needs)
+    (λ c. search needs)
+    returns-3
+    try-consume-delimiter-requires
+    (λ c. search needs)
+    (λ c. search needs)
+    returns-4
+    returns-5)
