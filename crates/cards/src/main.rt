@@ -19,13 +19,13 @@ const ROUNDS: usize = 9;
 // More cards than any list has, since a proved loop has to end.
 const MOST_CARDS: u64 = 1_000_000;
 
-fn check_often(settings: &[u64; 25], table: &[u8], rounds: u32) -> Checked {
+fn check_often(settings: &[u64; 25], table: &[u8], numerals: &[u8], rounds: u32) -> Checked {
     let mut left = rounds;
     while left > 1 {
-        card_check(settings, table);
+        card_check(settings, table, numerals);
         left -= 1;
     }
-    card_check(settings, table)
+    card_check(settings, table, numerals)
 }
 
 fn print(checked: Checked) {
@@ -46,12 +46,14 @@ fn print(checked: Checked) {
 // One card read, checked and printed; false where the list ends.
 fn check_next(rounds: u32) -> bool {
     let mut table = [0u8; MOST_BYTES];
-    let Next::Card(card) = next_card(&mut table) else {
+    let mut numerals = [0u8; MOST_BYTES];
+    let Next::Card(card) = next_card(&mut table, &mut numerals) else {
         return false;
     };
     print(check_often(
         &words_of(card.settings),
-        first_bytes(&table, card.size),
+        first_bytes(&table, card.table_size),
+        first_bytes(&numerals, card.numerals_size),
         rounds,
     ));
     true

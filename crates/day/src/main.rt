@@ -64,11 +64,12 @@ fn add_text(
     total: Length,
     settings: &[u64; 25],
     table: &[u8],
+    numerals: &[u8],
     buffer: &[u8],
     size: usize,
     rounds: u32,
 ) -> Length {
-    let shifted = shifted_total(total, settings, table, first_bytes(buffer, size));
+    let shifted = shifted_total(total, settings, table, numerals, first_bytes(buffer, size));
     print_added(shifted.answer, shifted.total, rounds);
     shifted.total
 }
@@ -78,6 +79,7 @@ fn add_next(
     total: Length,
     settings: &[u64; 25],
     table: &[u8],
+    numerals: &[u8],
     buffer: &mut [u8],
     rounds: u32,
 ) -> Added {
@@ -87,17 +89,17 @@ fn add_next(
     };
     Added {
         more: true,
-        total: add_text(total, settings, table, buffer, size, rounds),
+        total: add_text(total, settings, table, numerals, buffer, size, rounds),
     }
 }
 
 // Every text of the list.
-fn add_all(settings: &[u64; 25], table: &[u8], rounds: u32) {
+fn add_all(settings: &[u64; 25], table: &[u8], numerals: &[u8], rounds: u32) {
     let mut buffer = [0u8; ROOM];
     let mut total = zero();
     let mut left = MOST_TEXTS;
     while left > 0 {
-        let added = add_next(total, settings, table, &mut buffer, rounds);
+        let added = add_next(total, settings, table, numerals, &mut buffer, rounds);
         if !added.more {
             return;
         }
@@ -112,12 +114,14 @@ fn main() {
         return;
     }
     let mut table = [0u8; MOST_BYTES];
-    let Next::Card(card) = next_card(&mut table) else {
+    let mut numerals = [0u8; MOST_BYTES];
+    let Next::Card(card) = next_card(&mut table, &mut numerals) else {
         return;
     };
     add_all(
         &words_of(card.settings),
-        first_bytes(&table, card.size),
+        first_bytes(&table, card.table_size),
+        first_bytes(&numerals, card.numerals_size),
         half_at(&line, 0),
     );
 }

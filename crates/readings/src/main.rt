@@ -5,7 +5,7 @@
 // is read.
 ghost use mathlib.Core.Path.{_≡_};
 ghost use Rattle.rules.specs.NumbersHandedBack.{got};
-ghost use Rattle.rules.specs.SettingsAsWords.{settings-of};
+ghost use Rattle.rules.specs.SettingsAsWords.{card-of};
 ghost use Rattle.rules.specs.SettingsAndUnitTable.{card-check};
 use answers::refusal;
 use card::table::card_check;
@@ -42,16 +42,28 @@ struct Often {
     in_each_call: bool,
 }
 
-// The first bytes of a buffer, read so often. The number of an answer is below 12, so 0 is added to the size each time; but the
+// The first bytes of a buffer, read so often. The number of an answer is below 17, so 0 is added to the size each time; but the
 // compiler does not know that, and so a round waits for the answer of the one before it and none can be left out.
-fn read_often(settings: &[u64; 25], table: &[u8], buffer: &[u8], size: usize, rounds: u32) -> Answer
-    requires { ⌜ card-check (settings-of (now settings)) (now table) ≡ got tt ⌝ }
+fn read_often(
+    settings: &[u64; 25],
+    table: &[u8],
+    numerals: &[u8],
+    buffer: &[u8],
+    size: usize,
+    rounds: u32,
+) -> Answer
+    requires { ⌜ card-check (card-of (now settings) (now table) (now numerals)) ≡ got tt ⌝ }
 {
-    let mut answer = read_total_checked(settings, table, first_bytes(buffer, size));
+    let mut answer = read_total_checked(settings, table, numerals, first_bytes(buffer, size));
     let mut left = rounds;
     while left > 1 {
         let more = (answer.number / 200) as usize;
-        answer = read_total_checked(settings, table, first_bytes(buffer, further(size, more)));
+        answer = read_total_checked(
+            settings,
+            table,
+            numerals,
+            first_bytes(buffer, further(size, more)),
+        );
         left -= 1;
     }
     answer
@@ -61,15 +73,21 @@ fn read_often(settings: &[u64; 25], table: &[u8], buffer: &[u8], size: usize, ro
 fn check_often(
     settings: &[u64; 25],
     table: &[u8],
+    numerals: &[u8],
     buffer: &[u8],
     size: usize,
     rounds: u32,
 ) -> Answer {
-    let mut answer = read_total(settings, table, first_bytes(buffer, size));
+    let mut answer = read_total(settings, table, numerals, first_bytes(buffer, size));
     let mut left = rounds;
     while left > 1 {
         let more = (answer.number / 200) as usize;
-        answer = read_total(settings, table, first_bytes(buffer, further(size, more)));
+        answer = read_total(
+            settings,
+            table,
+            numerals,
+            first_bytes(buffer, further(size, more)),
+        );
         left -= 1;
     }
     answer
@@ -78,48 +96,55 @@ fn check_often(
 fn read_text_often(
     settings: &[u64; 25],
     table: &[u8],
+    numerals: &[u8],
     buffer: &[u8],
     size: usize,
     often: Often,
 ) -> Answer
-    requires { ⌜ card-check (settings-of (now settings)) (now table) ≡ got tt ⌝ }
+    requires { ⌜ card-check (card-of (now settings) (now table) (now numerals)) ≡ got tt ⌝ }
 {
     if often.in_each_call {
-        return check_often(settings, table, buffer, size, often.rounds);
+        return check_often(settings, table, numerals, buffer, size, often.rounds);
     }
-    read_often(settings, table, buffer, size, often.rounds)
+    read_often(settings, table, numerals, buffer, size, often.rounds)
 }
 
 // One text put into the buffer, read and printed; false where the list ends.
-fn read_next(settings: &[u64; 25], table: &[u8], buffer: &mut [u8], often: Often) -> bool
-    requires { ⌜ card-check (settings-of (now settings)) (now table) ≡ got tt ⌝ }
+fn read_next(
+    settings: &[u64; 25],
+    table: &[u8],
+    numerals: &[u8],
+    buffer: &mut [u8],
+    often: Often,
+) -> bool
+    requires { ⌜ card-check (card-of (now settings) (now table) (now numerals)) ≡ got tt ⌝ }
 {
     let mut line = [0u8; TEXT];
     let Text::Bytes(size) = next_text(&mut line, 0, buffer) else {
         return false;
     };
-    print_answer(read_text_often(settings, table, buffer, size, often));
+    print_answer(read_text_often(settings, table, numerals, buffer, size, often));
     true
 }
 
 // Every text of the list.
-fn read_all(settings: &[u64; 25], table: &[u8], often: Often)
-    requires { ⌜ card-check (settings-of (now settings)) (now table) ≡ got tt ⌝ }
+fn read_all(settings: &[u64; 25], table: &[u8], numerals: &[u8], often: Often)
+    requires { ⌜ card-check (card-of (now settings) (now table) (now numerals)) ≡ got tt ⌝ }
 {
     let mut buffer = [0u8; ROOM];
     let mut left = MOST_TEXTS;
     while left > 0 {
-        if !read_next(settings, table, &mut buffer, often) {
+        if !read_next(settings, table, numerals, &mut buffer, often) {
             return;
         }
         left -= 1;
     }
 }
 
-fn read_under(settings: &[u64; 25], table: &[u8], often: Often) {
-    match card_check(settings, table) {
+fn read_under(settings: &[u64; 25], table: &[u8], numerals: &[u8], often: Often) {
+    match card_check(settings, table, numerals) {
         Checked::Refused(cause) => print_answer(refusal(cause)),
-        Checked::Accepted => read_all(settings, table, often),
+        Checked::Accepted => read_all(settings, table, numerals, often),
     }
 }
 
@@ -129,7 +154,8 @@ fn main() {
         return;
     }
     let mut table = [0u8; MOST_BYTES];
-    let Next::Card(card) = next_card(&mut table) else {
+    let mut numerals = [0u8; MOST_BYTES];
+    let Next::Card(card) = next_card(&mut table, &mut numerals) else {
         return;
     };
     let often = Often {
@@ -138,7 +164,8 @@ fn main() {
     };
     read_under(
         &words_of(card.settings),
-        first_bytes(&table, card.size),
+        first_bytes(&table, card.table_size),
+        first_bytes(&numerals, card.numerals_size),
         often,
     );
 }

@@ -13,6 +13,7 @@ use lists::counts::COUNTS;
 use lists::counts::DIFFERENCE;
 use lists::counts::ENTRY;
 use lists::counts::MOST;
+use lists::counts::NUMBERS;
 use lists::counts::count;
 use lists::counts::count_answer;
 use lists::counts::print_counts;
@@ -51,9 +52,6 @@ const REQUEST: usize = 75;
 // Room for the longest run of a list and the line behind it.
 const ROOM: usize = 81_920;
 
-// Document 01's numbers are 0 to 11. The two entries give all but 9 and 11.
-const EXPECTED: usize = 12;
-
 // So many differing requests are shown.
 const SHOWN: u64 = 10;
 
@@ -67,11 +65,17 @@ fn stored_answer(line: &[u8]) -> Answer {
 }
 
 // The request of a line, made again under a card.
-fn ask(settings: &[u64; 25], table: &[u8], text: &[u8], line: &[u8]) -> Answer {
+fn ask(settings: &[u64; 25], table: &[u8], numerals: &[u8], text: &[u8], line: &[u8]) -> Answer {
     if flag_at(line, ENTRY_AT) {
-        read_part(settings, table, text, word_at(line, PLACE_AT) as usize)
+        read_part(
+            settings,
+            table,
+            numerals,
+            text,
+            word_at(line, PLACE_AT) as usize,
+        )
     } else {
-        read_total(settings, table, text)
+        read_total(settings, table, numerals, text)
     }
 }
 
@@ -98,6 +102,7 @@ fn compare(answer: Answer, stored: Answer, counts: &mut [u64; COUNTS]) {
 fn replay_next(
     settings: &[u64; 25],
     table: &[u8],
+    numerals: &[u8],
     text: &mut [u8],
     counts: &mut [u64; COUNTS],
 ) -> bool {
@@ -105,7 +110,7 @@ fn replay_next(
     let Text::Bytes(size) = next_text(&mut line, TEXT_AT, text) else {
         return false;
     };
-    let answer = ask(settings, table, first_bytes(text, size), &line);
+    let answer = ask(settings, table, numerals, first_bytes(text, size), &line);
     compare(answer, stored_answer(&line), counts);
     true
 }
@@ -114,6 +119,7 @@ fn replay_next(
 fn replay_requests(
     settings: &[u64; 25],
     table: &[u8],
+    numerals: &[u8],
     text: &mut [u8],
     counts: &mut [u64; COUNTS],
 ) -> bool {
@@ -124,7 +130,7 @@ fn replay_requests(
     count(CARD, counts);
     let mut left = half_at(&line, 0);
     while left > 0 {
-        if !replay_next(settings, table, text, counts) {
+        if !replay_next(settings, table, numerals, text, counts) {
             return false;
         }
         left -= 1;
@@ -133,13 +139,19 @@ fn replay_requests(
 }
 
 // The next card of the list, and the requests under it. False where the list ends.
-fn replay_card(table: &mut [u8], text: &mut [u8], counts: &mut [u64; COUNTS]) -> bool {
-    let Next::Card(card) = next_card(table) else {
+fn replay_card(
+    table: &mut [u8],
+    numerals: &mut [u8],
+    text: &mut [u8],
+    counts: &mut [u64; COUNTS],
+) -> bool {
+    let Next::Card(card) = next_card(table, numerals) else {
         return false;
     };
     replay_requests(
         &words_of(card.settings),
-        first_bytes(table, card.size),
+        first_bytes(table, card.table_size),
+        first_bytes(numerals, card.numerals_size),
         text,
         counts,
     )
@@ -148,9 +160,10 @@ fn replay_card(table: &mut [u8], text: &mut [u8], counts: &mut [u64; COUNTS]) ->
 // Every card of the list.
 fn replay_all(text: &mut [u8], counts: &mut [u64; COUNTS]) {
     let mut table = [0u8; MOST_BYTES];
+    let mut numerals = [0u8; MOST_BYTES];
     let mut left = MOST;
     while left > 0 {
-        if !replay_card(&mut table, text, counts) {
+        if !replay_card(&mut table, &mut numerals, text, counts) {
             return;
         }
         left -= 1;
@@ -164,7 +177,7 @@ fn print_all(counts: &[u64; COUNTS]) {
     io::write_all(STDOUT_FILENO, b" cards, ");
     io::print_decimal(STDOUT_FILENO, counts[DIFFERENCE]);
     io::write_all(STDOUT_FILENO, b" differ\n");
-    print_counts(b": ", counts, EXPECTED);
+    print_counts(b": ", counts, NUMBERS);
 }
 
 fn main() {

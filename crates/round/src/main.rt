@@ -131,12 +131,19 @@ fn agrees(answer: Answer, length: Length) -> bool {
 }
 
 // How many parts of a line differ from the lengths that were written, and whether the last one ends elsewhere.
-fn read_list(settings: &[u64; 25], table: &[u8], text: &[u8], first: u64, lengths: u64) -> u64 {
+fn read_list(
+    settings: &[u64; 25],
+    table: &[u8],
+    numerals: &[u8],
+    text: &[u8],
+    first: u64,
+    lengths: u64,
+) -> u64 {
     let mut place = 0;
     let mut read = 0;
     let mut differ = 0;
     while read < lengths {
-        let answer = read_part(settings, table, text, place);
+        let answer = read_part(settings, table, numerals, text, place);
         differ = unless(agrees(answer, nth(added(first, read))), differ);
         place = answer.position;
         read += 1;
@@ -188,12 +195,19 @@ fn print_list(line: Line, total: Length) {
 }
 
 // A list written, read part by part and in total, and printed.
-fn round(settings: &[u64; 25], table: &[u8], first: u64, most: u64, before: Tally) -> Tally {
+fn round(
+    settings: &[u64; 25],
+    table: &[u8],
+    numerals: &[u8],
+    first: u64,
+    most: u64,
+    before: Tally,
+) -> Tally {
     let mut buffer = [0u8; LONGEST_TEXT];
     let line = write_list(&mut buffer, first, most);
     let text = first_bytes(&buffer, line.size);
-    let parts = read_list(settings, table, text, first, line.lengths);
-    let total = read_total(settings, table, text);
+    let parts = read_list(settings, table, numerals, text, first, line.lengths);
+    let total = read_total(settings, table, numerals, text);
     print_list(line, total.length);
     Tally {
         cards: before.cards,
@@ -203,11 +217,18 @@ fn round(settings: &[u64; 25], table: &[u8], first: u64, most: u64, before: Tall
 }
 
 // Lists of one length, of two and so on under a card, each beginning where the one before it ended.
-fn round_card(settings: &[u64; 25], table: &[u8], before: Tally) -> Tally {
+fn round_card(settings: &[u64; 25], table: &[u8], numerals: &[u8], before: Tally) -> Tally {
     let mut tally = before;
     let mut lists = 0;
     while lists < LISTS {
-        tally = round(settings, table, tally.lengths, 2 * lists + 1, tally);
+        tally = round(
+            settings,
+            table,
+            numerals,
+            tally.lengths,
+            2 * lists + 1,
+            tally,
+        );
         lists += 1;
     }
     tally
@@ -216,6 +237,7 @@ fn round_card(settings: &[u64; 25], table: &[u8], before: Tally) -> Tally {
 // Every card of the list of cards.
 fn round_all() -> Tally {
     let mut table = [0u8; MOST_BYTES];
+    let mut numerals = [0u8; MOST_BYTES];
     let mut tally = Tally {
         cards: 0,
         lengths: 0,
@@ -223,13 +245,14 @@ fn round_all() -> Tally {
     };
     let mut left = MOST;
     while left > 0 {
-        let Next::Card(card) = next_card(&mut table) else {
+        let Next::Card(card) = next_card(&mut table, &mut numerals) else {
             return tally;
         };
         tally.cards = one_more(tally.cards);
         tally = round_card(
             &words_of(card.settings),
-            first_bytes(&table, card.size),
+            first_bytes(&table, card.table_size),
+            first_bytes(&numerals, card.numerals_size),
             tally,
         );
         left -= 1;

@@ -3,7 +3,7 @@ ghost use mathlib.Core.Path.{_≡_};
 ghost use Prim.Native.Nat.{_≤_};
 ghost use lib.ListN.{length, take};
 ghost use Rattle.rules.specs.NumbersHandedBack.{got};
-ghost use Rattle.rules.specs.SettingsAsWords.{settings-of};
+ghost use Rattle.rules.specs.SettingsAsWords.{card-of};
 ghost use Rattle.rules.specs.SettingsAndUnitTable.{card-check};
 ghost use Rattle.writing.specs.Laid.{laid};
 ghost use Rattle.printing.specs.Printed.{sheet-printed};
@@ -20,10 +20,16 @@ pub struct Progress {
 
 // The lines that have their newline, as far as the buffer has room for what is printed for them, which is put at its start. As for
 // every reading under a checked card, the card has been accepted.
-pub fn answer_lines(settings: &[u64; 25], table: &[u8], sheet: &[u8], out: &mut [u8]) -> Progress
-    requires { ⌜ card-check (settings-of (now settings)) (now table) ≡ got tt ⌝ }
-    ensures { λ r. ⌜ r ≡ answered-to (settings-of (now (settings .entry))) (now (table .entry)) (now (sheet .entry)) (length (now (out .entry))) ⌝ }
-    ensures { λ r. ⌜ now (out .exit) ≡ laid (now (out .entry)) 0 (sheet-printed (settings-of (now (settings .entry))) (now (table .entry)) (take (r .read) (now (sheet .entry)))) ⌝ }
+pub fn answer_lines(
+    settings: &[u64; 25],
+    table: &[u8],
+    numerals: &[u8],
+    sheet: &[u8],
+    out: &mut [u8],
+) -> Progress
+    requires { ⌜ card-check (card-of (now settings) (now table) (now numerals)) ≡ got tt ⌝ }
+    ensures { λ r. ⌜ r ≡ answered-to (card-of (now (settings .entry)) (now (table .entry)) (now (numerals .entry))) (now (sheet .entry)) (length (now (out .entry))) ⌝ }
+    ensures { λ r. ⌜ now (out .exit) ≡ laid (now (out .entry)) 0 (sheet-printed (card-of (now (settings .entry)) (now (table .entry)) (now (numerals .entry))) (take (r .read) (now (sheet .entry)))) ⌝ }
     ensures { λ r. ⌜ (r .read ≤ length (now (sheet .entry))) × (r .printed ≤ length (now (out .exit))) ⌝ }
 {
     let mut read = 0;
@@ -33,7 +39,7 @@ pub fn answer_lines(settings: &[u64; 25], table: &[u8], sheet: &[u8], out: &mut 
         if sheet.len() <= end {
             return Progress { read, printed };
         }
-        let answer = read_total_checked(settings, table, &sheet[read..end]);
+        let answer = read_total_checked(settings, table, numerals, &sheet[read..end]);
         let next = put_answer(answer, out, printed);
         if next == printed {
             return Progress { read, printed };

@@ -7,13 +7,16 @@ use Rattle.lines.proofs.answer_chunk.Statement.{statement}
 use Rattle.lines.proofs.answer_chunk.Tie as tie
 
 abbrev Inv-loop : tie.InvT-loop
-Inv-loop settings table chunk out₀ answered₀ out answered = length out ≡ length out₀
+Inv-loop settings table chunk out₀ answered₀ none out answered = length out ≡ length out₀
 
 abbrev μ-loop : tie.MeasureT-loop
-μ-loop settings table chunk out₀ answered₀ out answered = length chunk - answered
+μ-loop settings table chunk out₀ answered₀ none out answered = length chunk - answered
 
 loop-holds : tie.Need-loop-holds Inv-loop μ-loop
 loop-holds c = search needs
+
+slice-aggregate-answer-lines : tie.Need-slice-aggregate-answer-lines Inv-loop μ-loop
+slice-aggregate-answer-lines c = search needs
 
 sub-answer-lines : tie.Need-sub-answer-lines Inv-loop μ-loop
 sub-answer-lines c = search needs
@@ -67,6 +70,7 @@ answer-chunk-spec =
     Inv-loop
     μ-loop
     loop-holds
+    slice-aggregate-answer-lines
     sub-answer-lines
     part-answer-lines-start
     part-answer-lines-end

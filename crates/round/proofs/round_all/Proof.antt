@@ -6,16 +6,19 @@ use Rattle.round.proofs.round_all.Statement.{statement}
 use Rattle.round.proofs.round_all.Tie as tie
 
 abbrev Inv-loop : tie.InvT-loop
-Inv-loop table₀ tally₀ left₀ table tally left = length table ≡ 8192
+Inv-loop table₀ numerals₀ tally₀ left₀ table numerals tally left = (length table ≡ 8192) × (length numerals ≡ 8192)
 
 abbrev μ-loop : tie.MeasureT-loop
-μ-loop table₀ tally₀ left₀ table tally left = left
+μ-loop table₀ numerals₀ tally₀ left₀ table numerals tally left = left
 
 loop-holds : tie.Need-loop-holds Inv-loop μ-loop
 loop-holds c = search needs
 
 slice-aggregate-next-card : tie.Need-slice-aggregate-next-card Inv-loop μ-loop
 slice-aggregate-next-card c = search needs
+
+slice-aggregate-next-card-2 : tie.Need-slice-aggregate-next-card-2 Inv-loop μ-loop
+slice-aggregate-next-card-2 c = search needs
 
 next-card-requires : tie.Need-next-card-requires Inv-loop μ-loop
 next-card-requires c κs = search needs
@@ -41,6 +44,12 @@ slice-aggregate-first-bytes c = search needs
 first-bytes-requires : tie.Need-first-bytes-requires Inv-loop μ-loop
 first-bytes-requires c κs = search needs
 
+slice-aggregate-first-bytes-2 : tie.Need-slice-aggregate-first-bytes-2 Inv-loop μ-loop
+slice-aggregate-first-bytes-2 c = search needs
+
+first-bytes-requires-2 : tie.Need-first-bytes-requires-2 Inv-loop μ-loop
+first-bytes-requires-2 c κs = search needs
+
 round-card-requires : tie.Need-round-card-requires Inv-loop μ-loop
 round-card-requires c κs = search needs
 
@@ -64,6 +73,7 @@ round-all-spec =
     μ-loop
     loop-holds
     slice-aggregate-next-card
+    slice-aggregate-next-card-2
     next-card-requires
     enum-known-card
     enum-told
@@ -72,6 +82,8 @@ round-all-spec =
     words-of-requires
     slice-aggregate-first-bytes
     first-bytes-requires
+    slice-aggregate-first-bytes-2
+    first-bytes-requires-2
     round-card-requires
     sub-left
     loop-less

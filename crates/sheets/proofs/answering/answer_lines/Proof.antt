@@ -3,8 +3,8 @@ use mathlib.Core.Path.{_≡_, sym, ap, _∙_}
 use Prim.Native.Nat.{_-_, _≤_}
 use native.Mathlib.Omega.{arith}
 use borrow.Author.Needs.{needs}
-use lib.ListN.{length, take, drop}
-use Rattle.rules.specs.SettingsAsWords.{settings-of}
+use lib.ListN.{length}
+use Rattle.rules.specs.SettingsAsWords.{card-of}
 use Rattle.rules.specs.WhatEveryEntryOwes.{total-answer}
 use Rattle.printing.specs.Lines.{line-end, line-at, end-from}
 use Rattle.sheets.specs.Answering.{answered-to, on-end, Answered, none-answered, answered-length, full, more}
@@ -12,10 +12,10 @@ use Rattle.sheets.proofs.answering.answer_lines.Statement.{statement}
 use Rattle.sheets.proofs.answering.answer_lines.Tie as tie
 
 abbrev Inv-loop : tie.InvT-loop
-Inv-loop settings table sheet out₀ read₀ printed₀ out read printed = Answered (settings-of settings) table sheet out₀ out read printed
+Inv-loop settings table numerals sheet out₀ read₀ printed₀ out read printed = Answered (card-of settings table numerals) sheet out₀ out read printed
 
 abbrev μ-loop : tie.MeasureT-loop
-μ-loop settings table sheet out₀ read₀ printed₀ out read printed = length sheet - read
+μ-loop settings table numerals sheet out₀ read₀ printed₀ out read printed = length sheet - read
 
 -- ---- what is known on the way
 
@@ -26,21 +26,16 @@ before-end c = rw (c .line-end .ensures) (end-from _ (c .before .loop .read))
 line-answer :
     (c : tie.After-read-total-checked Inv-loop μ-loop)
     → let turn = c .before .before .before .before in
-    let args = turn .before .before .before .before .args in
-    c .read-total-checked .result ≡ total-answer (settings-of (args .settings .now)) (args .table .now) (line-at (args .sheet .now) (turn .loop .read))
-line-answer c =
-    let ended = c .before .before .before in
-    let turn = ended .before in
-    let args = turn .before .before .before .before .args in
-    c .read-total-checked .ensures
-    ∙ ap (λ e. total-answer (settings-of (args .settings .now)) (args .table .now) (take (e - turn .loop .read) (drop (turn .loop .read) (args .sheet .now)))) (ended .line-end .ensures)
+    let args = turn .before .before .before .before .before .args in
+    c .read-total-checked .result ≡ total-answer (card-of (args .settings .now) (args .table .now) (args .numerals .now)) (line-at (args .sheet .now) (turn .loop .read))
+line-answer c = rw (c .before .before .before .line-end .ensures) at (c .read-total-checked .ensures)
 
 -- a line that has no room is the last, and leaves the buffer as it was
 no-more :
     (c : tie.Then2 Inv-loop μ-loop)
     → let turn = c .before .before .before .before .before .before .before .before .before in
-    let args = turn .before .before .before .before .args in
-    (record { read = turn .loop .read; printed = turn .loop .printed } ≡ answered-to (settings-of (args .settings .now)) (args .table .now) (args .sheet .now) (length (args .out .now)))
+    let args = turn .before .before .before .before .before .args in
+    (record { read = turn .loop .read; printed = turn .loop .printed } ≡ answered-to (card-of (args .settings .now) (args .table .now) (args .numerals .now)) (args .sheet .now) (length (args .out .now)))
     × (turn .loop .out ≡ c .before .before .before .put-answer .last .1 .0)
 no-more c =
     let put = c .before .before .before in
@@ -51,7 +46,7 @@ no-more c =
 -- ---- the needs
 
 loop-holds : tie.Need-loop-holds Inv-loop μ-loop
-loop-holds c = none-answered _ _ _ _
+loop-holds c = none-answered _ _ _
 
 line-end-requires : tie.Need-line-end-requires Inv-loop μ-loop
 line-end-requires c κs = search needs
@@ -63,7 +58,7 @@ returns : tie.Need-returns Inv-loop μ-loop
 returns c =
     let turn = c .before .before in
     let inv = turn .loop .inv in (
-      on-end _ _ _ _ _ _ (rw (c .before .line-end .ensures) at (c .if1 .taken)) ∙ inv .came,
+      on-end _ _ _ _ _ (rw (c .before .line-end .ensures) at (c .if1 .taken)) ∙ inv .came,
       (inv .holds, (inv .inside, omega (arith, answered-length inv, inv .fits))),
     )
 
