@@ -1,6 +1,6 @@
 // The four entries of document 01. C passes a slice as pointer and length, and an array by its pointer.
 ghost use mathlib.Core.Path.{_≡_};
-ghost use Rattle.rules.specs.SettingsAsWords.{settings-of};
+ghost use Rattle.rules.specs.SettingsAsWords.{card-of};
 ghost use Rattle.rules.specs.WhatEveryEntryOwes.{part-answer, total-answer, write-answer, written-buffer, shift-answer};
 ghost use Rattle.c_words.specs.Words.{length-of, answer-words, shifted-words};
 use c_words::length_of;
@@ -15,27 +15,29 @@ use entries::write_length;
 pub extern "C" fn herovinga_read_part(
     settings: &[u64; 25],
     table: &[u8],
+    numerals: &[u8],
     text: &[u8],
     place: usize,
     answer: &mut [u64; 4],
 ) -> u8
-    ensures { λ r. ⌜ r ≡ part-answer (settings-of (now (settings .entry))) (now (table .entry)) (now (text .entry)) place .number ⌝ }
-    ensures { λ r. ⌜ now (answer .exit) ≡ answer-words (part-answer (settings-of (now (settings .entry))) (now (table .entry)) (now (text .entry)) place) ⌝ }
+    ensures { λ r. ⌜ r ≡ part-answer (card-of (now (settings .entry)) (now (table .entry)) (now (numerals .entry))) (now (text .entry)) place .number ⌝ }
+    ensures { λ r. ⌜ now (answer .exit) ≡ answer-words (part-answer (card-of (now (settings .entry)) (now (table .entry)) (now (numerals .entry))) (now (text .entry)) place) ⌝ }
 {
-    put_answer(read_part(settings, table, text, place), answer)
+    put_answer(read_part(settings, table, numerals, text, place), answer)
 }
 
 #[no_mangle]
 pub extern "C" fn herovinga_read_total(
     settings: &[u64; 25],
     table: &[u8],
+    numerals: &[u8],
     text: &[u8],
     answer: &mut [u64; 4],
 ) -> u8
-    ensures { λ r. ⌜ r ≡ total-answer (settings-of (now (settings .entry))) (now (table .entry)) (now (text .entry)) .number ⌝ }
-    ensures { λ r. ⌜ now (answer .exit) ≡ answer-words (total-answer (settings-of (now (settings .entry))) (now (table .entry)) (now (text .entry))) ⌝ }
+    ensures { λ r. ⌜ r ≡ total-answer (card-of (now (settings .entry)) (now (table .entry)) (now (numerals .entry))) (now (text .entry)) .number ⌝ }
+    ensures { λ r. ⌜ now (answer .exit) ≡ answer-words (total-answer (card-of (now (settings .entry)) (now (table .entry)) (now (numerals .entry))) (now (text .entry))) ⌝ }
 {
-    put_answer(read_total(settings, table, text), answer)
+    put_answer(read_total(settings, table, numerals, text), answer)
 }
 
 #[no_mangle]
@@ -60,14 +62,15 @@ pub extern "C" fn herovinga_add_total(
     total: &mut [u64; 3],
     settings: &[u64; 25],
     table: &[u8],
+    numerals: &[u8],
     text: &[u8],
     answer: &mut [u64; 4],
 ) -> u8
-    ensures { λ r. ⌜ r ≡ shift-answer (length-of (now (total .entry))) (settings-of (now (settings .entry))) (now (table .entry)) (now (text .entry)) .number ⌝ }
-    ensures { λ r. ⌜ now (answer .exit) ≡ answer-words (shift-answer (length-of (now (total .entry))) (settings-of (now (settings .entry))) (now (table .entry)) (now (text .entry))) ⌝ }
-    ensures { λ r. ⌜ now (total .exit) ≡ shifted-words (now (total .entry)) (settings-of (now (settings .entry))) (now (table .entry)) (now (text .entry)) ⌝ }
+    ensures { λ r. ⌜ r ≡ shift-answer (length-of (now (total .entry))) (card-of (now (settings .entry)) (now (table .entry)) (now (numerals .entry))) (now (text .entry)) .number ⌝ }
+    ensures { λ r. ⌜ now (answer .exit) ≡ answer-words (shift-answer (length-of (now (total .entry))) (card-of (now (settings .entry)) (now (table .entry)) (now (numerals .entry))) (now (text .entry))) ⌝ }
+    ensures { λ r. ⌜ now (total .exit) ≡ shifted-words (now (total .entry)) (card-of (now (settings .entry)) (now (table .entry)) (now (numerals .entry))) (now (text .entry)) ⌝ }
 {
-    let shifted = shifted_total(length_of(total), settings, table, text);
+    let shifted = shifted_total(length_of(total), settings, table, numerals, text);
     if shifted.answer.number == 0 {
         put_total(shifted.total, total);
     }

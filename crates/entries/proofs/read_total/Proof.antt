@@ -26,7 +26,7 @@ returns : tie.Need-returns
 unfolding outcome
 returns c =
     c .refusal .ensures
-    ∙ total-card _ _ _ (sym (c .before .before .before .before .card-check .ensures) ∙ ap outcome (c .before .before .cause .given .1))
+    ∙ total-card _ _ (sym (c .before .before .before .before .card-check .ensures) ∙ ap outcome (c .before .before .cause .given .1))
 
 returns-2 : tie.Need-returns-2
 returns-2 c = c .read-total-checked .ensures

@@ -25,7 +25,7 @@ shifted-total-checked-requires c κs = sym (c .before .before .card-check .ensur
 returns : tie.Need-returns
 unfolding outcome
 returns c =
-    let laws = kept _ _ _ _ (card-refuses _ _ _ _ (sym (c .before .before .before .before .card-check .ensures) ∙ ap outcome (c .before .before .cause .given .1))) in
+    let laws = kept _ _ _ (card-refuses _ _ _ (sym (c .before .before .before .before .card-check .ensures) ∙ ap outcome (c .before .before .cause .given .1))) in
     (c .kept .ensures .0 ∙ laws .0, c .kept .ensures .1 ∙ laws .1)
 
 returns-2 : tie.Need-returns-2
