@@ -3,7 +3,7 @@ use mathlib.Core.Path.{_≡_, sym, ap, _∙_}
 use mathlib.Core.Logic.{⊎-elim}
 use borrow.Author.Needs.{needs}
 use Rattle.rules.specs.declared.Answer.{Answer}
-use Rattle.rules.specs.SettingsAsWords.{settings-of}
+use Rattle.rules.specs.SettingsAsWords.{card-of}
 use Rattle.rules.specs.WhatEveryEntryOwes.{shift-answer, shifted-record}
 use Rattle.c_words.specs.Words.{length-of, length-words}
 use Rattle.c_words.specs.Laws.{handed, shifted-done, shifted-kept}
@@ -13,9 +13,9 @@ use Rattle.terminal.proofs.timings.herovinga_add_total.Tie as tie
 -- what the total by value gives, said of the words
 shifted :
     (c : tie.After-shifted-total)
-    → let args = c .before .before .before .before .before .args in
-    (c .shifted-total .result .answer ≡ shift-answer (length-of (args .total .now)) (settings-of (args .settings .now)) (args .table .now) (args .text .now))
-    × (c .shifted-total .result .total ≡ shifted-record (length-of (args .total .now)) (settings-of (args .settings .now)) (args .table .now) (args .text .now))
+    → let args = c .before .before .before .before .before .before .args in
+    (c .shifted-total .result .answer ≡ shift-answer (length-of (args .total .now)) (card-of (args .settings .now) (args .table .now) (args .numerals .now)) (args .text .now))
+    × (c .shifted-total .result .total ≡ shifted-record (length-of (args .total .now)) (card-of (args .settings .now) (args .table .now) (args .numerals .now)) (args .text .now))
 shifted c = rw (c .before .length-of .ensures) at (c .shifted-total .ensures)
 
 returns : tie.Need-returns
@@ -27,8 +27,8 @@ returns c =
       answer .0,
       (
         answer .1,
-        ⊎-elim (λ w. w .3 ∙ w .2 .ensures ∙ ap length-words (found .1) ∙ shifted-done _ _ _ _ (sym number ∙ w .0 .taken))
-            (λ w. w .1 ∙ shifted-kept _ _ _ _ (λ e. w .0 .left (number ∙ e))) (joined .if1 .came),
+        ⊎-elim (λ w. w .3 ∙ w .2 .ensures ∙ ap length-words (found .1) ∙ shifted-done _ _ _ (sym number ∙ w .0 .taken))
+            (λ w. w .1 ∙ shifted-kept _ _ _ (λ e. w .0 .left (number ∙ e))) (joined .if1 .came),
       ),
     )
 
