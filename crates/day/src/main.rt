@@ -35,7 +35,7 @@ struct Added {
     total: Length,
 }
 
-// One length written so often, each time at the start. The number of an answer is below 12, so the place is always 0; but it is the
+// One length written so often, each time at the start. The number of an answer is below 200, so the place is always 0; but it is the
 // answer before that says so, and none can be left out.
 fn write_often(length: Length, buffer: &mut [u8], rounds: u32) -> usize {
     let mut answer = write_length(length, buffer, 0);
