@@ -111,7 +111,7 @@ module _ (card : Card) (text : List ℕ) where
         (λ no-number.
         refused-if (λ _. two (infinite-by card text (signed .negative) (signed .next)))
         (λ no-infinity.
-        refused-bind (numeral-step card text (signed .next)) (early (lit≤ tt) (numeral-by card text (signed .next)))
+        refused-bind (numeral-step card text (signed .next)) (early (lit≤ tt) (numeral-by card text (λ n. n ≤ 6) (lit≤ tt) (lit≤ tt) (signed .next)))
         (λ numeral read.
         let (i, _, numeral-at) = all-of (numeral-got (signed .next)) read in
         refused-bind (spoken-unit-step card text (numeral .next))

@@ -20,7 +20,7 @@ use Rattle.rules.specs.declared.Settings.{Settings}
 use Rattle.rules.specs.Common.{if_then_else_, ascii}
 use Rattle.rules.specs.NumbersHandedBack.{Outcome, number, unless}
 use Rattle.rules.specs.SettingsAndUnitTable.{row, lookup, Card, settings-check, rows-check, table-check, numerals-check, card-check, rows}
-use Rattle.rules.specs.ReadingOnePart.{delimiters, gap, sign-step, fraction-step, number-step, exponent-passed, exponent-digits, exponent-number, exponent-step, ago-step, find-unit, unit-found, unit-step, numeral-end, numeral-found, numeral-step, after-conjunction, conjunction-step, connection, letters-step, infinity-closed, infinity-step, infinite-part, finite-part}
+use Rattle.rules.specs.ReadingOnePart.{delimiters, gap, sign-step, fraction-step, number-step, exponent-passed, exponent-digits, exponent-number, exponent-step, ago-step, find-unit, unit-found, unit-step, numeral-end, numeral-found, numeral-step, spoken-unit-found, spoken-unit-step, after-conjunction, conjunction-step, connection, letters-step, infinity-closed, infinity-step, infinite-part, finite-part}
 use Rattle.rules.specs.Evaluation.{multiplied, spoken-multiplier, evaluate-spoken, evaluated, allowed}
 use Rattle.rules.specs.Laws.Outcomes.{Refused, not-refused, refused-by, refused-map, refused-if, refused-bind, refused-then, refused-unless}
 
@@ -122,16 +122,26 @@ module _ (card : Card) (text : List ℕ) where
       go (Row i) = ago-by (card .settings) text _ _
       go Nowhere = not-refused
 
-  -- a numeral that is none, 6
-  pub numeral-by : (place : ℕ) → UpTo 6 (numeral-step card text place)
-  unfolding numeral-step numeral-found number
-  numeral-by place = go (lookup (card .numerals) (slice place (numeral-end (card .settings) text place) text))
-    where
-      go : (found : Found) → UpTo 6 (numeral-found card text place found)
-      go (Row i) =
-          refused-if (λ _. refused-bind (delimiters (card .settings .inner) text _) (up-to 6 (lit≤ tt) (delimiters-by (card .settings .inner) text _)) (λ next _. not-refused))
-          (λ _. refused-by (lit≤ tt))
-      go Nowhere = refused-by (lit≤ tt)
+  -- a numeral has 6 besides, where it is none, and its unit 15: so whatever holds of these numbers holds of what is handed back
+  module _ (P : ℕ → Type 0) (two : P 2) where
+    pub numeral-by : P 6 → (place : ℕ) → Refused (λ cause. P (number cause)) (numeral-step card text place)
+    unfolding numeral-step numeral-found number
+    numeral-by six place = go (lookup (card .numerals) (slice place (numeral-end (card .settings) text place) text))
+      where
+        go : (found : Found) → Refused (λ cause. P (number cause)) (numeral-found card text place found)
+        go (Row i) =
+            refused-if
+            (λ _. refused-bind (delimiters (card .settings .inner) text _) (refused-map (delimiters-by (card .settings .inner) text _) (λ cause e. rw e two)) (λ next _. not-refused))
+            (λ _. refused-by six)
+        go Nowhere = refused-by six
+
+    pub spoken-unit-by : P 15 → (place : ℕ) → Refused (λ cause. P (number cause)) (spoken-unit-step card text place)
+    unfolding spoken-unit-step spoken-unit-found number
+    spoken-unit-by fifteen place = go (find-unit card text place)
+      where
+        go : (found : Found) → Refused (λ cause. P (number cause)) (spoken-unit-found card text place found)
+        go (Row i) = refused-bind (ago-step (card .settings) text _ _) (refused-map (ago-by (card .settings) text _ _) (λ cause e. rw e two)) (λ unit _. not-refused)
+        go Nowhere = refused-by fifteen
 
   -- ---- a part that is typed
 
