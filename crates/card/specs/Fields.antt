@@ -6,7 +6,7 @@ use lib.Dec.{eqb, leb}
 use Rattle.rules.specs.declared.ByteSet.{ByteSet}
 use Rattle.rules.specs.declared.Settings.{Settings}
 use Rattle.rules.specs.Common.{between, all}
-use Rattle.rules.specs.SettingsAndUnitTable.{second-kind, name-room, row, name-size, name, after-name, kind, led-by-e, row-formed}
+use Rattle.rules.specs.SettingsAndUnitTable.{last-kind, second-kind, name-room, row, name-size, name, after-name, kind, led-by-e, row-formed}
 use Rattle.settings.specs.Sets.{bytes-of, either, passes}
 use Rattle.card.specs.declared.table.Further.{Further}
 use Rattle.card.specs.declared.table.Further.the-variants.{Nothing, NotLedByE, AsciiSeconds}
@@ -36,8 +36,8 @@ no-letters = record { word0 = 18446744073709551615; word1 = 17870283329861844993
 unfoldable pub asked-further : Further → List ℕ → Bool
 asked-further Nothing r = true
 asked-further NotLedByE r = not (led-by-e (name r))
-asked-further AsciiSeconds r = leb second-kind (kind r) && all (between 0 127) (name r)
+asked-further AsciiSeconds r = eqb (kind r) second-kind && all (between 0 127) (name r)
 
 unfoldable pub ruled : RowRule → List ℕ → ℕ → Bool
 ruled rule table i =
-    row-formed (between 0 (rule .«last_kind»)) (passes (bytes-of (rule .set)) false) table i && asked-further (rule .further) (row table i)
+    row-formed (between 0 last-kind) (passes (bytes-of (rule .set)) false) table i && asked-further (rule .further) (row table i)

@@ -8,7 +8,7 @@ ghost use mathlib.Core.List.{List};
 ghost use Rattle.rules.specs.Common.{all, between, same};
 ghost use Rattle.rules.specs.NumbersHandedBack.{got};
 ghost use Rattle.rules.specs.SettingsAsWords.{settings-of, card-of};
-ghost use Rattle.rules.specs.SettingsAndUnitTable.{settings-check, row-size, rows, row, name, named, led-by-e, e-may-lead, row-formed, row-accepted, numeral-accepted, table-check, numerals-check, card-check};
+ghost use Rattle.rules.specs.SettingsAndUnitTable.{last-kind, settings-check, row-size, rows, row, name, named, led-by-e, e-may-lead, row-formed, row-accepted, numeral-accepted, table-check, numerals-check, card-check};
 ghost use Rattle.settings.specs.Outcomes.{outcome};
 ghost use Rattle.rules.specs.Laws.Lists.{Bytes};
 ghost use Rattle.settings.specs.Sets.{bytes-of, passes};
@@ -62,11 +62,10 @@ pub enum Further {
     AsciiSeconds,
 }
 
-// What is asked of the rows of a table: no byte of a name is in the set, no kind is above the last, and what is asked further. It depends on the
-// settings alone, and is made once for a table.
+// What is asked of the rows of a table: no byte of a name is in the set, and what is asked further. It depends on the settings
+// alone, and is made once for a table.
 pub struct RowRule {
     pub set: AsciiSet,
-    pub last_kind: u8,
     pub further: Further,
 }
 
@@ -150,13 +149,12 @@ fn named_before(table: &[u8], i: usize) -> bool
     ensures { λ r. ⌜ r ≡ named (now (table .entry)) (name (row (now (table .entry)) i)) i ⌝ }
 {
     let own = row_at(table, i);
-    let mut left = i;
-    while left > 0 {
-        let next = left - 1;
-        if same_name(row_at(table, next), own) {
+    let mut earlier = 0;
+    while earlier < i {
+        if same_name(row_at(table, earlier), own) {
             return true;
         }
-        left = next;
+        earlier += 1;
     }
     false
 }
@@ -165,13 +163,13 @@ fn named_before(table: &[u8], i: usize) -> bool
 fn row_formed(rule: RowRule, table: &[u8], i: usize) -> bool
     requires { ⌜ i < rows (now table) ⌝ }
     requires { ⌜ ((j : ℕ) → j < i → padded (row (now table) j) ≡ true) ⌝ }
-    ensures { λ r. ⌜ r ≡ row-formed (between 0 (rule .«last_kind»)) (passes (bytes-of (rule .set)) false) (now (table .entry)) i ⌝ }
+    ensures { λ r. ⌜ r ≡ row-formed (between 0 last-kind) (passes (bytes-of (rule .set)) false) (now (table .entry)) i ⌝ }
 {
     let own = row_at(table, i);
     if !padded(own) {
         return false;
     }
-    if own[KIND_AT] > rule.last_kind {
+    if own[KIND_AT] > LAST_KIND {
         return false;
     }
     if !zeros(own) {
@@ -223,12 +221,12 @@ fn ascii_name(name: &[u8]) -> bool
     true
 }
 
-// What a row of the form of a numeral needs to be one: seconds, which is the last kind of that form, and a name in ASCII.
+// What makes a row of letters a numeral: seconds, and a name in ASCII.
 fn ascii_seconds(row: &[u8]) -> bool
     requires { ⌜ length (now row) ≡ row-size ⌝ }
     ensures { λ r. ⌜ r ≡ asked-further Further.AsciiSeconds (now (row .entry)) ⌝ }
 {
-    if row[KIND_AT] < SECONDS {
+    if row[KIND_AT] != SECONDS {
         return false;
     }
     ascii_name(name_of(row))
@@ -272,7 +270,6 @@ fn unit_rule(settings: &[u64; 25]) -> RowRule
 {
     RowRule {
         set: unnameable(settings),
-        last_kind: LAST_KIND,
         further: if e_may_lead(settings) {
             Further::Nothing
         } else {
@@ -309,7 +306,6 @@ fn numeral_rule() -> RowRule
             low: BELOW_64,
             high: NO_LETTERS_FROM_64,
         },
-        last_kind: SECONDS,
         further: Further::AsciiSeconds,
     }
 }

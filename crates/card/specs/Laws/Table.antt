@@ -8,7 +8,8 @@ use native.Mathlib.Numerals.{sub-one, add-one}
 use native.Mathlib.Omega.{arith}
 use lib.Dec.{eqb, leb, ltb}
 use lib.ListN.{length, drop}
-use borrow.Author.Tests.{lt-ltb, le-ltb, le-leb, lt-leb, eq-eqb, ne-eqb, not-true}
+use borrow.Author.Count.{below-more}
+use borrow.Author.Tests.{lt-ltb, le-ltb, le-leb, lt-leb, eq-eqb, eqb-true, ne-eqb, not-true}
 use Rattle.rules.specs.declared.Settings.{Settings}
 use Rattle.rules.specs.declared.Refusal.{Refusal}
 use Rattle.rules.specs.Common.{if_then_else_, all, between, same}
@@ -16,7 +17,7 @@ use Rattle.rules.specs.NumbersHandedBack.{Outcome, got, refused, _>>_, unless}
 use Rattle.rules.specs.SettingsAndUnitTable.{last-kind, second-kind, zeros-at, row-size, rows, row, name, kind, may-name, named, product, in-range, led-by-e, e-may-lead, can-be-typed, row-formed, row-right, row-accepted, numeral-accepted, whole-rows, rows-check}
 use Rattle.rules.specs.Laws.Choices.{and-left, and-right}
 use Rattle.rules.specs.Laws.Lists.{Bytes}
-use Rattle.rules.specs.Laws.Tests.{and-assoc, and-false, or-true, or-false}
+use Rattle.rules.specs.Laws.Tests.{and-assoc, and-false, or-true, or-false, same-test, between-from, between-to, between-in}
 use Rattle.words.specs.LowFirst.{bytes-part}
 use Rattle.settings.specs.Sets.{bytes-of}
 use Rattle.card.specs.declared.table.Further.the-variants.{Nothing, NotLedByE, AsciiSeconds}
@@ -27,10 +28,20 @@ use Rattle.card.specs.Laws.Unnameable.{outside-names, outside-letters}
 
 -- ---- names before a row: one of the first n rows
 
-pub named-more : (table wanted : List ℕ) (n : ℕ) → 0 < n → named table wanted n ≡ (same (name (row table (n - 1))) wanted || named table wanted (n - 1))
-unfolding named
-named-more table wanted zero h = absurd (omega arith)
-named-more table wanted (suc n) h = rw (sub-one (suc n))
+module _ (table wanted : List ℕ) where
+  pub named-earlier : (n i : ℕ) → i < n → same (name (row table i)) wanted ≡ true → named table wanted n ≡ true
+  unfolding named
+  named-earlier zero i h = absurd (omega arith)
+  named-earlier (suc n) i h =
+      below-more (λ i. same (name (row table i)) wanted ≡ true → named table wanted (suc n) ≡ true) n
+      (λ i below e. rw (named-earlier n i below e, or-true))
+      (λ e. rw e)
+      i
+      (omega arith)
+
+  pub named-not-yet : (n : ℕ) → same (name (row table n)) wanted ≡ false → named table wanted n ≡ false → named table wanted (n + 1) ≡ false
+  unfolding named
+  named-not-yet n other others = rw (add-one n, other) others
 
 -- ---- row by row
 
@@ -229,17 +240,16 @@ pub ruled-padded : (rule : RowRule) (table : List ℕ) (i : ℕ) → ruled rule 
 unfolding ruled
 ruled-padded rule table i good = formed-padded _ _ table i (and-left _ _ good)
 
--- names outside the set of bytes that no name holds, and each of the eight kinds: a row of units
+-- names outside the set of bytes that no name holds: a row of units
 pub unit-ruled :
     (rule : RowRule) (s : Settings)
     → bytes-of (rule .set) ≡ unnameable s
-    → rule .«last_kind» ≡ last-kind
     → rule .further ≡ (if e-may-lead s then Nothing else NotLedByE)
     → (table : List ℕ) → Bytes table
     → (i : ℕ) → ruled rule table i ≡ row-accepted s table i
 unfolding ruled row-accepted row-right can-be-typed asked-further if_then_else_
-unit-ruled rule s set kinds further table bytes i =
-    rw (set, kinds, further) (ap₂ _&&_ (formed-alike _ _ (λ k. refl) (outside-names s) table bytes i) (go (e-may-lead s)))
+unit-ruled rule s set further table bytes i =
+    rw (set, further) (ap₂ _&&_ (formed-alike _ _ (λ k. refl) (outside-names s) table bytes i) (go (e-may-lead s)))
   where
     go : (leads : Bool) → asked-further (if leads then Nothing else NotLedByE) (row table i) ≡ (not (led-by-e (name (row table i))) || leads)
     go true = sym (or-true (not (led-by-e (name (row table i)))))
@@ -249,13 +259,18 @@ unit-ruled rule s set kinds further table bytes i =
 pub numeral-ruled :
     (rule : RowRule)
     → bytes-of (rule .set) ≡ no-letters
-    → rule .«last_kind» ≡ second-kind
     → rule .further ≡ AsciiSeconds
     → (table : List ℕ) → Bytes table
     → (i : ℕ) → ruled rule table i ≡ numeral-accepted table i
-unfolding ruled numeral-accepted asked-further between
-numeral-ruled rule set kinds further table bytes i =
-    rw (set, kinds, further) (formed-also _ _ _ _ table i ∙ formed-alike _ _ seconds outside-letters table bytes i)
+unfolding ruled numeral-accepted asked-further
+numeral-ruled rule set further table bytes i =
+    rw (set, further) (formed-also _ _ _ _ table i ∙ formed-alike _ _ seconds outside-letters table bytes i)
   where
-    seconds : (k : ℕ) → (between 0 second-kind k && leb second-kind k) ≡ between second-kind second-kind k
-    seconds k = rw (le-leb 0 k zero-le) (and-comm (leb k second-kind) (leb second-kind k))
+    seconds : (k : ℕ) → (between 0 last-kind k && eqb k second-kind) ≡ between second-kind second-kind k
+    seconds k =
+        same-test (between 0 last-kind k && eqb k second-kind) (between second-kind second-kind k)
+        (λ both. let is = eqb-true k second-kind (and-right (between 0 last-kind k) _ both) in between-in second-kind second-kind k (omega arith) (omega arith))
+        (λ one.
+        let least = between-from second-kind second-kind k one in
+        let most = between-to second-kind second-kind k one in
+        rw (between-in 0 last-kind k zero-le (omega arith), eq-eqb k second-kind (omega arith)))

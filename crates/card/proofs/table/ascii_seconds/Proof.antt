@@ -1,6 +1,6 @@
 -- `card::table::ascii_seconds` meets its contract: the kind, and then the name. Assumes nothing.
 use native.Mathlib.Omega.{arith}
-use borrow.Author.Tests.{le-leb, lt-leb}
+use borrow.Author.Tests.{eq-eqb, ne-eqb}
 use Rattle.rules.specs.SettingsAndUnitTable.{kind}
 use Rattle.card.specs.Fields.{asked-further}
 use Rattle.card.proofs.table.ascii_seconds.Statement.{statement}
@@ -8,11 +8,11 @@ use Rattle.card.proofs.table.ascii_seconds.Tie as tie
 
 returns : tie.Need-returns
 unfolding asked-further kind
-returns c = rw (lt-leb _ _ (c .if1 .taken))
+returns c = rw (ne-eqb _ _ (c .if1 .taken))
 
 returns-2 : tie.Need-returns-2
 unfolding asked-further kind
-returns-2 c = rw (le-leb _ _ (c .before .before .if1 .left), ← (c .before .name-of .ensures)) (c .ascii-name .ensures)
+returns-2 c = rw (eq-eqb _ _ (c .before .before .if1 .left), ← (c .before .name-of .ensures)) (c .ascii-name .ensures)
 
 pub ascii-seconds-spec : {M : Type 1} → statement M
 ascii-seconds-spec = tie.close (tie.spec (λ c. omega arith) returns (λ c κs. c .before .before .before .pre) (λ c κs. tt) returns-2)

@@ -8,7 +8,7 @@ use Rattle.card.proofs.table.numeral_rule.Tie as tie
 
 returns : tie.Need-returns
 unfolding bytes-of no-letters
-returns c = numeral-ruled _ refl refl refl
+returns c = numeral-ruled _ refl refl
 
 pub numeral-rule-spec : {M : Type 1} → statement M
 numeral-rule-spec = tie.close (tie.spec returns)

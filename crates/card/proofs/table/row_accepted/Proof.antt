@@ -5,7 +5,7 @@ use lib.ListN.{length}
 use borrow.Author.Tests.{not-true, not-false}
 use borrow.Author.Needs.{needs}
 use Rattle.rules.specs.Common.{between}
-use Rattle.rules.specs.SettingsAndUnitTable.{row-formed}
+use Rattle.rules.specs.SettingsAndUnitTable.{last-kind, row-formed}
 use Rattle.settings.specs.Sets.{bytes-of, passes}
 use Rattle.rows.specs.Laws.Rows.{length-row}
 use Rattle.card.specs.Fields.{asked-further, ruled}
@@ -17,7 +17,7 @@ use Rattle.card.proofs.table.row_accepted.Tie as tie
 formed :
     (c : tie.Else1)
     → let args = c .before .before .before .args in
-    row-formed (between 0 (args .rule .«last_kind»)) (passes (bytes-of (args .rule .set)) false) (args .table .now) (args .i) ≡ true
+    row-formed (between 0 last-kind) (passes (bytes-of (args .rule .set)) false) (args .table .now) (args .i) ≡ true
 formed c = sym (c .before .row-formed .ensures) ∙ not-false (c .before .row-formed .result) (c .if1 .left)
 
 returns : tie.Need-returns

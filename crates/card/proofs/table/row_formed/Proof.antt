@@ -8,7 +8,7 @@ use lib.ListN.{length, drop}
 use borrow.Author.Tests.{not-true, not-false}
 use borrow.Author.Count.{below-more}
 use borrow.Author.Needs.{needs}
-use Rattle.rules.specs.SettingsAndUnitTable.{row, row-size, kind, name}
+use Rattle.rules.specs.SettingsAndUnitTable.{last-kind, row, row-size, kind, name}
 use Rattle.rules.specs.Common.{all, between}
 use Rattle.rules.specs.Laws.Tests.{between-in, between-above}
 use Rattle.settings.specs.Sets.{bytes-of, passes}
@@ -27,7 +27,7 @@ own : tie.Else1 → tie.After-row-at
 own c = c .before .before
 
 some-name : tie.Else2 → tie.Else1
-some-name c = c .before .before .before
+some-name c = c .before .before
 
 right-kind : tie.Else3 → tie.Else2
 right-kind c = c .before .before
@@ -45,7 +45,7 @@ unfolding start
 good-padded c = rw (← (c .before .before .row-at .ensures), ← (c .before .padded .ensures)) (not-false (c .before .padded .result) (c .if1 .left))
 
 good-kind :
-    (c : tie.Else2) → let args = start (some-name c) .args in between 0 (args .rule .«last_kind») (kind (row (args .table .now) (args .i))) ≡ true
+    (c : tie.Else2) → let args = start (some-name c) .args in between 0 last-kind (kind (row (args .table .now) (args .i))) ≡ true
 unfolding start some-name own kind
 good-kind c = rw (← (own (some-name c) .row-at .ensures)) (between-in _ _ _ zero-le (c .if2 .left))
 
@@ -82,7 +82,7 @@ shared-slice-read-if2 c = omega (arith, long (own (c .before)))
 returns-2 : tie.Need-returns-2
 unfolding start own kind
 returns-2 c =
-    let first = c .before .before .before in
+    let first = c .before .before in
     rw (
       formed-parts _ _ (start first .args .table .now) (start first .args .i),
       good-padded first,
