@@ -2,7 +2,7 @@
 use mathlib.Core.Bool.{Bool, true, false, not, _&&_}
 use mathlib.Core.List.{List}
 use Prim.Native.Nat.{ℕ}
-use lib.Dec.{eqb, leb}
+use lib.Dec.{eqb}
 use Rattle.rules.specs.declared.ByteSet.{ByteSet}
 use Rattle.rules.specs.declared.Settings.{Settings}
 use Rattle.rules.specs.Common.{between, all}

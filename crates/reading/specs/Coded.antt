@@ -9,9 +9,7 @@ use Rattle.rules.specs.declared.Found.{Found}
 use Rattle.rules.specs.declared.Found.the-variants.{Row, Nowhere}
 use Rattle.rules.specs.declared.Number.{Number}
 use Rattle.rules.specs.declared.Scaled.{Scaled}
-use Rattle.rules.specs.declared.Numeral.{Numeral}
 use Rattle.rules.specs.declared.Unit as declared-unit
-use Rattle.rules.specs.declared.SpokenUnit.{SpokenUnit}
 use Rattle.rules.specs.declared.DurationRepr.{DurationRepr}
 use Rattle.rules.specs.declared.SpokenRepr.{SpokenRepr}
 use Rattle.rules.specs.declared.Repr.{Repr}
@@ -21,7 +19,7 @@ use Rattle.rules.specs.declared.Refusal.{Refusal}
 use Rattle.rules.specs.declared.Refusal.the-variants.{NoUnit}
 use Rattle.rules.specs.NumbersHandedBack.{Outcome, got, refused, _>>=_}
 use Rattle.rules.specs.SettingsAndUnitTable.{Card, kind-multiplier, rows, row, kind, row-multiplier, product}
-use Rattle.rules.specs.ReadingOnePart.{gap, number-step, exponent-step, unit-step, numeral-step, spoken-unit-step, finite, spoken}
+use Rattle.rules.specs.ReadingOnePart.{gap, number-step, exponent-step, spoken-unit-step, finite, spoken}
 use Rattle.rules.specs.Laws.Outcomes.{All, all-got, all-bind, always, bind-got, bind-refused, bind-assoc, not-got}
 use Rattle.value.specs.Sums.{sum-of}
 use Rattle.value.specs.Evaluating.{one}

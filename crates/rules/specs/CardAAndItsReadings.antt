@@ -1,7 +1,7 @@
 -- "Card A and its readings": the card, and the readings that document 01 marks with a star, as one table. Assumes nothing.
 use mathlib.Core.Bool.{Bool, true, false, _&&_, Bool·beq}
 use mathlib.Core.List.{List, [], _∷_, _++_}
-use Prim.Native.Nat.{ℕ, _+_, _*_, _-_, _^_}
+use Prim.Native.Nat.{ℕ, _+_, _-_, _^_}
 use Prim.Native.String.{String}
 use lib.Dec.{T, eqb}
 use lib.ListN.{length, replicate}

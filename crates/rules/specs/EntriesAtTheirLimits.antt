@@ -11,13 +11,13 @@ use Rattle.rules.specs.declared.ByteSet.{ByteSet}
 use Rattle.rules.specs.declared.Conjunction.{Conjunction}
 use Rattle.rules.specs.declared.Length.{Length}
 use Rattle.rules.specs.declared.Settings.{Settings}
-use Rattle.rules.specs.Common.{ascii, all, same}
+use Rattle.rules.specs.Common.{ascii, same}
 use Rattle.rules.specs.ThePartOfTheCrateWeTake.{zero-length, largest}
 use Rattle.rules.specs.NumbersHandedBack.{done}
 use Rattle.rules.specs.SettingsAndUnitTable.{stored}
 use Rattle.rules.specs.WhatEveryEntryOwes.{part-answer, total-answer, write-answer, written-buffer, shift-answer, shifted-record}
 use Rattle.rules.specs.Computing.{computing}
-use Rattle.rules.specs.CardAAndItsReadings.{space, conjunction, settings, settings-A, row-of, table-A, unspoken, card-A, same-length, same-answer, Case, reads, plus, minus, fails, holds-under}
+use Rattle.rules.specs.CardAAndItsReadings.{space, conjunction, settings, settings-A, row-of, table-A, unspoken, card-A, same-length, same-answer, reads, plus, minus, fails, holds-under}
 
 unfoldable pub refusal-of : ℕ → ℕ → Answer
 refusal-of number position = record { number = number; position = position; length = zero-length }

@@ -15,7 +15,6 @@ use Rattle.rules.specs.declared.DurationRepr.{DurationRepr}
 use Rattle.rules.specs.declared.SpokenRepr.{SpokenRepr}
 use Rattle.rules.specs.declared.Repr.{Repr}
 use Rattle.rules.specs.declared.Repr.the-variants.{Typed, Spoken}
-use Rattle.rules.specs.declared.Part.{Part}
 use Rattle.rules.specs.declared.Reading.{Reading}
 use Rattle.rules.specs.declared.Refusal.the-variants.{Nothing, NegativeForbidden, OutOfRange}
 use Rattle.rules.specs.Common.{if_then_else_, ends}

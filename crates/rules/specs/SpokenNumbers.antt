@@ -1,7 +1,7 @@
 -- Request four, "Spoken numbers": its cards and readings, computed, each rule from both sides. Assumes nothing.
 use mathlib.Core.Bool.{Bool, true, false, _&&_}
 use mathlib.Core.List.{List, [], _∷_, _++_}
-use Prim.Native.Nat.{ℕ, zero, suc, _+_, _*_, _-_, _/_, _^_}
+use Prim.Native.Nat.{ℕ, zero, suc, _+_, _-_, _^_}
 use Prim.Native.String.{String}
 use lib.Dec.{T, ltb}
 use lib.ListN.{drop, replicate}

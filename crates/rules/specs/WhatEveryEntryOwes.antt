@@ -10,7 +10,7 @@ use Rattle.rules.specs.declared.Reading.{Reading}
 use Rattle.rules.specs.declared.Refusal.the-variants.{TextTooLong, Beyond, Malformed}
 use Rattle.rules.specs.ThePartOfTheCrateWeTake.{longest-text, well-formed}
 use Rattle.rules.specs.SettingsAndUnitTable.{Card, card-check}
-use Rattle.rules.specs.NumbersHandedBack.{Outcome, got, refused, _>>=_, _>>_, unless, done, answered}
+use Rattle.rules.specs.NumbersHandedBack.{Outcome, _>>=_, _>>_, unless, done, answered}
 use Rattle.rules.specs.Evaluation.{part-reading, total}
 use Rattle.rules.specs.WriterAndShiftTotal.{writing, buffer-after, shifting, record-after}
 

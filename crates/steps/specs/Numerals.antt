@@ -17,7 +17,7 @@ use Rattle.rules.specs.Common.{if_then_else_, starts, sees, run}
 use Rattle.rules.specs.NumbersHandedBack.{Outcome, got, refused, _>>=_}
 use Rattle.rules.specs.SettingsAndUnitTable.{LETTER, is, holds, name-room, Card, rows, row, name-size, row-multiplier, lookup-from, lookup}
 use Rattle.rules.specs.ReadingOnePart.{delimiters, numeral-end, numeral-found, numeral-step}
-use Rattle.rules.specs.Laws.Outcomes.{All, all-got, all-refused, all-of, all-if, all-bind, always, bind-got, bind-refused}
+use Rattle.rules.specs.Laws.Outcomes.{All, all-got, all-refused, all-if, all-bind, always, bind-got, bind-refused}
 use Rattle.rules.specs.Laws.Texts.{sees-here, sees-end, run-from, run-ends}
 use Rattle.card.specs.Laws.Accepted.{lookup-found}
 use Rattle.settings.specs.declared.sets.AsciiSet.{AsciiSet}

@@ -34,7 +34,6 @@ use Rattle.settings.specs.Laws.Sets.{runs, either-holds, first-word}
 use Rattle.steps.specs.declared.unit.Ago.{Ago}
 use Rattle.steps.specs.declared.unit.AgoRead.{AgoRead}
 use Rattle.steps.specs.declared.unit.AgoRead.the-variants as AgoRead
-use Rattle.steps.specs.declared.unit.FoundUnit.{FoundUnit}
 use Rattle.steps.specs.declared.unit.UnitRead.{UnitRead}
 use Rattle.steps.specs.declared.unit.UnitRead.the-variants as UnitRead
 

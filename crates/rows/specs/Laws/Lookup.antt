@@ -1,21 +1,20 @@
 -- Laws of equal names and of lookup. Assumes nothing.
-use mathlib.Core.Path.{_≡_, refl, sym, ap, _∙_}
+use mathlib.Core.Path.{_≡_, refl, ap}
 use mathlib.Core.Bool.{Bool, true, false, _&&_, false≢true}
 use mathlib.Core.List.{List, [], _∷_}
-use Prim.Native.Nat.{ℕ, suc, min, _+_, _-_, _≤_, _<_}
-use native.Mathlib.Nat.{add-zero, sub-zero, sub-eq-zero-of-le}
+use Prim.Native.Nat.{ℕ, suc, _+_, _-_, _≤_, _<_}
+use native.Mathlib.Nat.{sub-zero, sub-eq-zero-of-le}
 use native.Mathlib.Numerals.{add-one}
 use native.Mathlib.Omega.{arith}
-use lib.Dec.{eqb, leb}
-use lib.ListN.{length, getD, take, drop, length-take, drop-of-length-le}
-use lib.Seq.{slice, drop-cons, take-all}
-use borrow.Author.Tests.{eq-eqb, eqb-true, leb-true, leb-false}
+use lib.Dec.{eqb}
+use lib.ListN.{length, getD, drop, drop-of-length-le}
+use lib.Seq.{drop-cons}
+use borrow.Author.Tests.{eq-eqb, eqb-true}
 use Rattle.rules.specs.declared.Found.{Found}
 use Rattle.rules.specs.declared.Found.the-variants.{Row, Nowhere}
 use Rattle.rules.specs.Common.{if_then_else_, same}
 use Rattle.rules.specs.SettingsAndUnitTable.{rows, row, name, lookup-from, lookup}
 use Rattle.rules.specs.Laws.Choices.{and-left, and-right}
-use Rattle.rules.specs.Laws.Texts.{slice-shift}
 
 pub same-refl : (a : List ℕ) → same a a ≡ true
 unfolding same

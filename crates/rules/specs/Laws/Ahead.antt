@@ -1,13 +1,13 @@
 -- A part that is read ends beyond where it began and not beyond the text: each step goes on from where it stands, within the text.
 -- Assumes nothing.
 use mathlib.Core.Path.{_≡_, refl, sym, _∙_}
-use mathlib.Core.Bool.{Bool, true, false, not, _&&_, _||_, false≢true, true≢false}
+use mathlib.Core.Bool.{Bool, true, false, not, _||_, false≢true, true≢false}
 use mathlib.Core.List.{List, [], _∷_}
-use Prim.Native.Nat.{ℕ, zero, suc, _+_, _*_, _-_, _≤_, _<_, zero-le, suc-le-suc}
+use Prim.Native.Nat.{ℕ, suc, _+_, _*_, _-_, _≤_, _<_, zero-le, suc-le-suc}
 use native.Mathlib.Nat.{le-refl, le-add-right}
 use native.Mathlib.Omega.{arith}
 use borrow.Author.Tests.{not-true, not-false}
-use lib.Dec.{leb, eqb}
+use lib.Dec.{eqb}
 use lib.ListN.{length, drop, length-drop}
 use lib.Seq.{slice}
 use Rattle.rules.specs.declared.ByteSet.{ByteSet}
@@ -15,18 +15,13 @@ use Rattle.rules.specs.declared.Settings.{Settings}
 use Rattle.rules.specs.declared.Multiplier.{Multiplier}
 use Rattle.rules.specs.declared.Found.{Found}
 use Rattle.rules.specs.declared.Found.the-variants.{Row, Nowhere}
-use Rattle.rules.specs.declared.Whole.{Whole}
-use Rattle.rules.specs.declared.Scaled.{Scaled}
-use Rattle.rules.specs.declared.Numeral.{Numeral}
-use Rattle.rules.specs.declared.SpokenUnit.{SpokenUnit}
-use Rattle.rules.specs.declared.Refusal.the-variants.{InfinityByte}
-use Rattle.rules.specs.Common.{if_then_else_, ascii, ends, sees, run}
-use Rattle.rules.specs.NumbersHandedBack.{Outcome, got, refused, _>>=_}
-use Rattle.rules.specs.SettingsAndUnitTable.{DIGIT, SIGN, POINT, is, holds, is-next-duration, conjunctions-of, Card, lookup, row, row-multiplier, product}
-use Rattle.rules.specs.ReadingOnePart.{prefix, says, delimiters, gap, sign-step, fraction-step, number-step, exponent-limit, exponent-passed, exponent-digits, exponent-number, exponent-step, same-letter, in-stretch, closes-unit, ago-step, find-unit, unit-found, unit-step, numeral-end, numeral-found, numeral-step, spoken-unit-found, spoken-unit-step, conjunction-size, after-conjunction, conjunction-step, connection, closes-infinity, letters-step, infinity-closed, infinity-step, infinite-part, finite-part, spoken-part, unsigned-part, part}
+use Rattle.rules.specs.Common.{if_then_else_, ascii, sees, run}
+use Rattle.rules.specs.NumbersHandedBack.{_>>=_}
+use Rattle.rules.specs.SettingsAndUnitTable.{DIGIT, SIGN, POINT, is, holds, Card, lookup, row, row-multiplier, product}
+use Rattle.rules.specs.ReadingOnePart.{prefix, says, delimiters, gap, sign-step, fraction-step, number-step, exponent-digits, exponent-number, exponent-step, same-letter, in-stretch, ago-step, find-unit, unit-found, unit-step, numeral-end, numeral-found, numeral-step, spoken-unit-found, spoken-unit-step, after-conjunction, conjunction-step, connection, letters-step, infinity-closed, infinity-step, infinite-part, finite-part, spoken-part, unsigned-part, part}
 use Rattle.rules.specs.Laws.Choices.{and-left, and-right}
 use Rattle.rules.specs.Laws.Outcomes.{All, all-got, all-refused, all-if, all-bind, all-map}
-use Rattle.rules.specs.Laws.Texts.{ends-le, not-ends-lt, sees-in, sees-or, run-from, run-within, run-past, run-stop}
+use Rattle.rules.specs.Laws.Texts.{not-ends-lt, sees-in, sees-or, run-from, run-within, run-past, run-stop}
 
 -- from here on, and within the text
 pub record Ahead (text : List ℕ) (place next : ℕ) : Type 0 where

@@ -1,12 +1,12 @@
 -- The reading of a part from a place depends only on the text from that place on, places counted from there.
 -- Each step is compared at two texts: at p in the text from k on, and at q, which is k + p, in the whole text. Assumes nothing.
 use mathlib.Core.Path.{_≡_, refl, ap, ap₂, sym, _∙_}
-use mathlib.Core.Bool.{Bool, true, false, not, xor, _&&_, _||_}
-use mathlib.Core.List.{List, [], _∷_, _++_}
-use Prim.Native.Nat.{ℕ, zero, suc, _+_, _*_, _-_}
+use mathlib.Core.Bool.{Bool, true, false, not, _&&_, _||_}
+use mathlib.Core.List.{List, [], _∷_}
+use Prim.Native.Nat.{ℕ, suc, _+_, _*_, _-_}
 use native.Mathlib.Nat.{add-assoc}
 use native.Mathlib.Omega.{arith}
-use lib.Dec.{leb, eqb}
+use lib.Dec.{eqb}
 use lib.ListN.{length, drop}
 use lib.Seq.{slice}
 use Rattle.rules.specs.declared.ByteSet.{ByteSet}
@@ -24,17 +24,16 @@ use Rattle.rules.specs.declared.Unit as declared-unit
 use Rattle.rules.specs.declared.Numeral.{Numeral}
 use Rattle.rules.specs.declared.SpokenUnit.{SpokenUnit}
 use Rattle.rules.specs.declared.DurationRepr.{DurationRepr}
-use Rattle.rules.specs.declared.SpokenRepr.{SpokenRepr}
 use Rattle.rules.specs.declared.Repr.{Repr}
 use Rattle.rules.specs.declared.Repr.the-variants.{Typed, Spoken}
 use Rattle.rules.specs.declared.Part.{Part}
 use Rattle.rules.specs.declared.Reading.{Reading}
-use Rattle.rules.specs.declared.Refusal.the-variants.{Nothing, SignEnds, DelimiterEnds, FractionOff, FractionEmpty, ExponentOff, ExponentByte, ExponentEnds, ExponentAbove, ExponentBelow, InfinityByte, InfinityEnds, InfinityGoesOn, ConjunctionEnds, ConjunctionGoesOn, NegativeForbidden, NoNumber, NoUnit, OutOfRange}
+use Rattle.rules.specs.declared.Refusal.the-variants.{Nothing, SignEnds, DelimiterEnds, FractionOff, FractionEmpty, ExponentOff, ExponentByte, ExponentEnds, ExponentAbove, ExponentBelow, InfinityByte, InfinityEnds, ConjunctionEnds, ConjunctionGoesOn, NoNumber, NoUnit, OutOfRange}
 use Rattle.rules.specs.Common.{if_then_else_, ascii, ends, sees, run}
-use Rattle.rules.specs.NumbersHandedBack.{Outcome, got, refused, _>>=_, _>>_, unless}
-use Rattle.rules.specs.SettingsAndUnitTable.{DIGIT, SIGN, POINT, is, holds, is-next-duration, letters-of, conjunctions-of, times, in-range, Card, lookup, row, kind, kind-multiplier, row-multiplier, product}
-use Rattle.rules.specs.ReadingOnePart.{same-letter, says, delimiters, gap, sign-step, fraction-step, number-step, exponent-limit, exponent-passed, exponent-digits, exponent-number, exponent-step, in-stretch, closes-unit, ago-step, find-unit, unit-found, unit-step, numeral-end, numeral-found, numeral-step, spoken-unit-found, spoken-unit-step, conjunction-size, after-conjunction, conjunction-step, connection, closes-infinity, letters-step, infinity-closed, infinity-step, infinite-part, finite-part, spoken-part, unsigned-part, part}
-use Rattle.rules.specs.Evaluation.{digits-of, evaluate, multiplied, spoken-multiplier, worth, evaluate-spoken, evaluated, allowed, part-reading}
+use Rattle.rules.specs.NumbersHandedBack.{got, _>>=_, _>>_, unless}
+use Rattle.rules.specs.SettingsAndUnitTable.{DIGIT, SIGN, POINT, is, holds, is-next-duration, letters-of, conjunctions-of, times, in-range, Card, lookup, row, kind, row-multiplier, product}
+use Rattle.rules.specs.ReadingOnePart.{same-letter, says, delimiters, gap, sign-step, fraction-step, number-step, exponent-passed, exponent-digits, exponent-number, exponent-step, in-stretch, closes-unit, ago-step, find-unit, unit-found, unit-step, numeral-end, numeral-found, numeral-step, spoken-unit-found, spoken-unit-step, conjunction-size, after-conjunction, conjunction-step, connection, closes-infinity, letters-step, infinity-closed, infinity-step, infinite-part, finite-part, spoken-part, unsigned-part, part}
+use Rattle.rules.specs.Evaluation.{digits-of, evaluate, multiplied, spoken-multiplier, evaluate-spoken, evaluated, allowed, part-reading}
 use Rattle.rules.specs.Laws.Outcomes.{later, Moved, moved-got, moved-refused, moved-to, moved-cause, moved-if, moved-bind}
 use Rattle.rules.specs.Laws.Texts.{ends-shift, drop-shift, sees-shift, run-shift, slice-shift}
 

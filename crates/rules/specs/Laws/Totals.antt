@@ -1,5 +1,5 @@
 -- A total of a text is its parts read one after another: what a loop over the parts goes by. Assumes nothing.
-use mathlib.Core.Path.{_≡_, refl, sym, _∙_, ap}
+use mathlib.Core.Path.{_≡_, refl, _∙_, ap}
 use mathlib.Core.Bool.{Bool, true, false}
 use mathlib.Core.List.{List, [], _∷_}
 use Prim.Native.Nat.{ℕ, zero, suc, _+_, _≤_, _<_}
@@ -7,8 +7,6 @@ use native.Mathlib.Omega.{arith}
 use borrow.Author.Tests.{le-leb}
 use lib.ListN.{length}
 use Rattle.rules.specs.declared.Length.{Length}
-use Rattle.rules.specs.declared.Reading.{Reading}
-use Rattle.rules.specs.declared.Part.{Part}
 use Rattle.rules.specs.declared.Refusal.the-variants.{Nothing}
 use Rattle.rules.specs.Common.{if_then_else_, ends}
 use Rattle.rules.specs.ThePartOfTheCrateWeTake.{zero-length, well-formed}
@@ -16,7 +14,7 @@ use Rattle.rules.specs.NumbersHandedBack.{Outcome, got, refused, _>>=_}
 use Rattle.rules.specs.SettingsAndUnitTable.{Card}
 use Rattle.rules.specs.ReadingOnePart.{part}
 use Rattle.rules.specs.Evaluation.{evaluated, allowed, part-reading, sum, sum-all, parts, total}
-use Rattle.rules.specs.Laws.Outcomes.{All, all-got, all-refused, all-if, all-bind, all-of, always, bind-same, bind-assoc}
+use Rattle.rules.specs.Laws.Outcomes.{All, all-got, all-refused, all-if, all-bind, always, bind-same, bind-assoc}
 use Rattle.rules.specs.Laws.Ahead.{Beyond, part-beyond}
 use Rattle.rules.specs.Laws.Lengths.{zero-well-formed, evaluated-well-formed, sum-well-formed}
 

@@ -1,17 +1,17 @@
 -- What the writer writes starts with a sign and holds only digits, one point at most. Assumes nothing.
 use mathlib.Core.Path.{_≡_, refl, sym, _∙_, ap}
-use mathlib.Core.Bool.{Bool, true, false, not, _&&_, _||_, false≢true}
+use mathlib.Core.Bool.{Bool, true, false, _||_}
 use mathlib.Core.List.{List, [], _∷_, _++_, append-nil}
-use Prim.Native.Nat.{ℕ, zero, suc, _+_, _*_, _-_, _/_, _%_, _^_, _≤_, _<_}
+use Prim.Native.Nat.{ℕ, zero, suc, _+_, _-_, _/_, _%_, _^_, _≤_, _<_}
 use native.Mathlib.Nat.{mod-lt}
 use native.Mathlib.Omega.{arith}
-use lib.Dec.{leb, eqb, lit<, lit≤}
+use lib.Dec.{eqb, lit<, lit≤}
 use borrow.Author.Tests.{le-leb, eqb-true}
 use Rattle.rules.specs.declared.Length.{Length}
-use Rattle.rules.specs.Common.{if_then_else_, between, all, sees, starts}
+use Rattle.rules.specs.Common.{if_then_else_, between, all}
 use Rattle.rules.specs.SettingsAndUnitTable.{DIGIT, SIGN, POINT, class, is}
 use Rattle.rules.specs.Laws.Choices.{and-both, if-either, all-first, all-others, all-append, all-weaken}
-use Rattle.rules.specs.WriterAndShiftTotal.{decimals, no-leading-zeros, before-zeros, no-trailing-zeros, second-digits, nanosecond-digits, sign-byte, whole-digits, fraction-digits, written-fraction, written}
+use Rattle.rules.specs.WriterAndShiftTotal.{decimals, no-leading-zeros, before-zeros, no-trailing-zeros, second-digits, nanosecond-digits, sign-byte, whole-digits, fraction-digits, written-fraction}
 
 pub digit-is : (d : ℕ) → d < 10 → is DIGIT (48 + d) ≡ true
 unfolding is class between if_then_else_

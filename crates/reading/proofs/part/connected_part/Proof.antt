@@ -2,7 +2,7 @@
 use mathlib.Core.Path.{_≡_, sym, ap, _∙_}
 use borrow.Author.Needs.{needs}
 use Rattle.rules.specs.declared.Part.{Part}
-use Rattle.rules.specs.NumbersHandedBack.{got, refused}
+use Rattle.rules.specs.NumbersHandedBack.{got}
 use Rattle.rules.specs.SettingsAsWords.{settings-of, card-of}
 use Rattle.rules.specs.SettingsAndUnitTable.{Card}
 use Rattle.rules.specs.ReadingOnePart.{connection}
@@ -10,7 +10,7 @@ use Rattle.rules.specs.Laws.Outcomes.{bind-got, bind-refused}
 use Rattle.steps.specs.Outcomes.{next}
 use Rattle.reading.specs.Outcomes.{part}
 use Rattle.reading.specs.Typed.{connected, part-connected, typed-part}
-use Rattle.reading.specs.Coded.{coded, codes, codes-got, codes-refused, coded-got, coded-refused, coded-end, coded-at}
+use Rattle.reading.specs.Coded.{coded, codes-got, codes-refused, coded-got, coded-refused, coded-end, coded-at}
 use Rattle.reading.proofs.part.connected_part.Statement.{statement}
 use Rattle.reading.proofs.part.connected_part.Tie as tie
 

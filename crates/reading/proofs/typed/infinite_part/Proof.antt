@@ -1,5 +1,5 @@
 -- `reading::typed::infinite_part` meets its contract: what follows `inf`. Assumes nothing.
-use mathlib.Core.Path.{_≡_, sym, ap, _∙_}
+use mathlib.Core.Path.{sym, ap, _∙_}
 use borrow.Author.Needs.{needs}
 use Rattle.rules.specs.SettingsAsWords.{settings-of}
 use Rattle.value.specs.Sums.{sum-none}

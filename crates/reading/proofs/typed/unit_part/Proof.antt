@@ -1,8 +1,8 @@
 -- `reading::typed::unit_part` meets its contract: what comes of the unit that was found, or of none. Assumes nothing.
-use mathlib.Core.Path.{_≡_, sym, ap, _∙_}
+use mathlib.Core.Path.{_∙_}
 use borrow.Author.Needs.{needs}
 use Rattle.rules.specs.SettingsAsWords.{settings-of}
-use Rattle.steps.specs.Units.{Within, unit-row, unit-within}
+use Rattle.steps.specs.Units.{Within, unit-within}
 use Rattle.reading.specs.Coded.{unit-coded, coded-part}
 use Rattle.reading.proofs.typed.unit_part.Statement.{statement}
 use Rattle.reading.proofs.typed.unit_part.Tie as tie

@@ -1,7 +1,6 @@
 -- `reading::typed::unitless_part` meets its contract: a spoken number is refused, and a typed one has the default kind. Assumes nothing.
-use mathlib.Core.Path.{_∙_, ap}
+use mathlib.Core.Path.{_∙_}
 use borrow.Author.Needs.{needs}
-use Rattle.rules.specs.NumbersHandedBack.{got}
 use Rattle.reading.specs.Coded.{multiplied-part, unit-coded}
 use Rattle.reading.proofs.typed.unitless_part.Statement.{statement}
 use Rattle.reading.proofs.typed.unitless_part.Tie as tie

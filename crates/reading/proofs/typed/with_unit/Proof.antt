@@ -1,9 +1,9 @@
 -- `reading::typed::with_unit` meets its contract: kind and row, or the product of numeral, kind and row. Assumes nothing.
-use mathlib.Core.Path.{_≡_, sym, ap, _∙_}
+use mathlib.Core.Path.{_≡_, ap, _∙_}
 use native.Mathlib.Omega.{arith}
 use borrow.Author.Needs.{needs}
 use lib.ListN.{length}
-use Rattle.rules.specs.SettingsAndUnitTable.{row-size, rows, kind}
+use Rattle.rules.specs.SettingsAndUnitTable.{row-size, kind}
 use Rattle.rows.specs.Laws.Rows.{length-row}
 use Rattle.spoken.specs.Products.{spoken-product}
 use Rattle.reading.specs.Coded.{Numbered, unit-coded}

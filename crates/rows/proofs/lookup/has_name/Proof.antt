@@ -1,9 +1,8 @@
 -- `rows::lookup::has_name` meets its contract: another size, or the bytes decide. Assumes nothing.
-use mathlib.Core.Path.{_≡_, sym, ap, _∙_}
+use mathlib.Core.Path.{_≡_, sym, _∙_}
 use Prim.Native.Nat.{_+_, _-_, _≤_}
 use native.Mathlib.Omega.{arith}
 use lib.ListN.{getD}
-use borrow.Author.Needs.{needs}
 use Rattle.rules.specs.SettingsAndUnitTable.{name-room, name-size, name}
 use Rattle.rows.specs.Laws.Lookup.{other-size}
 use Rattle.rows.specs.Laws.Rows.{name-length}

@@ -1,5 +1,4 @@
 -- `settings::sets::holds` meets its contract: the bit of the byte in the word that has it, or no word has it. Assumes nothing.
-use native.Mathlib.Omega.{arith}
 use borrow.Author.Needs.{needs}
 use Rattle.settings.specs.Laws.Sets.{holds-low, holds-high, holds-none}
 use Rattle.settings.proofs.sets.holds.Statement.{statement}

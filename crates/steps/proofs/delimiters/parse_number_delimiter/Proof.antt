@@ -1,8 +1,5 @@
 -- `steps::delimiters::parse_number_delimiter` meets its contract: switched off, no delimiter, or a run. Assumes nothing.
-use mathlib.Core.Path.{ap, _∙_}
 use borrow.Author.Tests.{not-true, not-false}
-use Rattle.rules.specs.ReadingOnePart.{delimiters}
-use Rattle.rules.specs.SettingsAsWords.{settings-of}
 use Rattle.steps.specs.Delimiters.{gap-on, gap-off, delimiters-none}
 use Rattle.steps.proofs.delimiters.parse_number_delimiter.Statement.{statement}
 use Rattle.steps.proofs.delimiters.parse_number_delimiter.Tie as tie

@@ -1,5 +1,5 @@
 -- `steps::number::parse_number_fraction` meets its contract: no point, fractions off, no digit on either side, and digits. Assumes nothing.
-use mathlib.Core.Path.{_≡_, sym, ap, _∙_}
+use mathlib.Core.Path.{_≡_, sym, _∙_}
 use mathlib.Core.Bool.{true}
 use Prim.Native.Nat.{_+_}
 use native.Mathlib.Omega.{arith}

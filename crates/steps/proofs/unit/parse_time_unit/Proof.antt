@@ -1,5 +1,5 @@
 -- `steps::unit::parse_time_unit` meets its contract: no row has the stretch as its name, or one has. Assumes nothing.
-use mathlib.Core.Path.{_≡_, sym, ap, _∙_}
+use mathlib.Core.Path.{_≡_, ap, _∙_}
 use mathlib.Core.Bool.{false}
 use native.Mathlib.Omega.{arith}
 use borrow.Author.Needs.{needs}

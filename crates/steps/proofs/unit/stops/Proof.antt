@@ -1,7 +1,6 @@
 -- `steps::unit::stops` meets its contract: outer delimiters, the bytes that begin a part, and with ago on inner delimiters. Assumes nothing.
-use mathlib.Core.Path.{refl, _∙_}
+use mathlib.Core.Path.{_∙_}
 use Rattle.rules.specs.Common.{if_then_else_}
-use Rattle.rules.specs.SettingsAsWords.{settings-of}
 use Rattle.settings.specs.Sets.{bytes-of, either}
 use Rattle.steps.specs.Units.{stops-of}
 use Rattle.steps.proofs.unit.stops.Statement.{statement}

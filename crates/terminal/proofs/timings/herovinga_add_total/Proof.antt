@@ -1,7 +1,6 @@
 -- `terminal::timings::herovinga_add_total` meets its contract: the words are stored exactly if the number is 0. Assumes nothing.
 use mathlib.Core.Path.{_≡_, sym, ap, _∙_}
 use mathlib.Core.Logic.{⊎-elim}
-use borrow.Author.Needs.{needs}
 use Rattle.rules.specs.declared.Answer.{Answer}
 use Rattle.rules.specs.SettingsAsWords.{card-of}
 use Rattle.rules.specs.WhatEveryEntryOwes.{shift-answer, shifted-record}
