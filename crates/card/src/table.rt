@@ -249,7 +249,7 @@ fn row_accepted(rule: RowRule, table: &[u8], i: usize) -> bool
 }
 
 // The first row that is not accepted, or how many rows there are.
-pub fn first_bad(rule: RowRule, table: &[u8]) -> usize
+fn first_bad(rule: RowRule, table: &[u8]) -> usize
     ensures { λ r. ⌜ r ≡ first-bad (ruled rule (now (table .entry))) 0 (rows (now (table .entry))) ⌝ }
 {
     let count = table.len() / ROW_SIZE;
@@ -279,7 +279,7 @@ fn unit_rule(settings: &[u64; 25]) -> RowRule
 }
 
 // Under accepted settings.
-pub fn table_check(settings: &[u64; 25], table: &[u8]) -> Checked
+fn table_check(settings: &[u64; 25], table: &[u8]) -> Checked
     requires { ⌜ settings-check (settings-of (now settings)) ≡ got tt ⌝ }
     ensures { λ r. ⌜ outcome r ≡ table-check (settings-of (now (settings .entry))) (now (table .entry)) ⌝ }
 {
@@ -311,7 +311,7 @@ fn numeral_rule() -> RowRule
 }
 
 // No numerals are accepted at once: most cards have none.
-pub fn numerals_check(numerals: &[u8]) -> Checked
+fn numerals_check(numerals: &[u8]) -> Checked
     ensures { λ r. ⌜ outcome r ≡ numerals-check (now (numerals .entry)) ⌝ }
 {
     if numerals.len() == 0 {
