@@ -48,14 +48,14 @@ use tables::POINT;
 use tables::kind_multiplier;
 
 // What a part counts, before its unit: digits, with their sum and exponent; or a numeral, by its row, which counts 1 and has no digits. And
-// where the unit's name begins.
+// where the unit's name begins. The numeral stands last: before the digits it takes a register from the loop over them.
 pub struct Counted {
-    pub numeral: Found,
     pub whole: Whole,
     pub fract: Fract,
     pub number: u64,
     pub exponent: Exponent,
     pub next: usize,
+    pub numeral: Found,
 }
 
 pub enum CountRead {
