@@ -3,17 +3,18 @@
  * Six functions, over numbers and bytes: a part of a text, a text's total, a length written, a shift total added to, an ISO 8601 duration
  * read, and a length written as one. They keep nothing between calls, so any number of threads may call them. The library is
  * target/staticlib/libterminal.a (rt staticlib terminal), for Linux on x86-64; every function in it is proved to answer as document 01 and
- * the requests that followed it say, whatever it is passed.
+ * the requests that followed it say, whatever it is passed. Three more stand here in C and only call those of the library that read a text:
+ * they take what it is read under as one card.
  *
  * Each function returns a number of enum herovinga_number and writes the whole answer. On 0 the answer has the position and the length
  * that stand at the function below; on a refusal it has the position that stands at the number, and a length of zero with a plus, and
  * nothing else that was passed has changed.
  *
  * What a caller owes:
- * - A pointer to settings, a length, a total or an answer points to one, and is not null.
+ * - A pointer to a card, settings, a length, a total or an answer points to one, and is not null.
  * - A pointer to bytes points to as many as the size beside it says. With size 0 it may be null.
  * - What a function writes (answer, total, buffer) overlaps nothing else that the call is passed. So the length to be written is not the
- *   one within the answer. What it only reads (settings, tables, text, length) may overlap, and no other thread changes it meanwhile.
+ *   one within the answer. What it only reads (card, settings, tables, text, length) may overlap, and no other thread changes it meanwhile.
  * Nothing else: every value of every word, byte, size and place has an answer.
  */
 #ifndef HEROVINGA_H
@@ -38,7 +39,7 @@ enum herovinga_number {
     HEROVINGA_EXPONENT_BELOW = 4, /* an exponent below -32768: the digit with which it passes that */
     HEROVINGA_NEGATIVE = 5,       /* a part is negative while negatives are off, or a length is that is to be written as ISO: 0 */
     HEROVINGA_NO_NUMBER = 6,      /* a part begins with no number, and with no numeral that delimiters follow: that byte */
-    HEROVINGA_CARD = 7,           /* settings or a table are wrong: one of enum herovinga_wrong, or the number of the first bad unit row */
+    HEROVINGA_CARD = 7,           /* settings or a table are wrong: one of enum herovinga_wrong, or the number of the hall's first bad row */
     HEROVINGA_TEXT_TOO_LONG = 8,  /* a text of more than 4,096 bytes: 4096 */
     HEROVINGA_NO_ROOM = 9,        /* the buffer has fewer bytes left than the length needs: the place */
     HEROVINGA_BEYOND = 10,        /* a place beyond the text or the buffer: the place */
@@ -50,15 +51,17 @@ enum herovinga_number {
     HEROVINGA_OUT_OF_RANGE = 16   /* numeral times unit is out of range, as "most min" is if most is 9223372036854775807: 0 */
 };
 
-/* Positions of number 7 beside those of unit rows, which are 0 to 63. What is wrong is looked for in the order 65, 66, 67, 64, unit rows
- * upward, 100, numerals upward. */
+/* Positions of number 7 beside those of the hall's rows, which are 0 to 63. What is wrong is looked for in the order settings, hall, line,
+ * numerals: 65, 66, 67; 64, the hall's rows upward; 192, the line's rows upward; 100, numerals upward. */
 enum herovinga_wrong {
-    HEROVINGA_WRONG_TABLE_SIZE = 64,
+    HEROVINGA_WRONG_HALL_SIZE = 64,
     HEROVINGA_WRONG_DELIMITERS = 65,
     HEROVINGA_WRONG_CONJUNCTIONS = 66,
     HEROVINGA_WRONG_DEFAULT_KIND = 67,
     HEROVINGA_FIRST_NUMERAL = 68, /* plus the number of the first bad numeral: 68 to 99 */
-    HEROVINGA_WRONG_NUMERALS_SIZE = 100
+    HEROVINGA_WRONG_NUMERALS_SIZE = 100,
+    HEROVINGA_FIRST_LINE_ROW = 128, /* plus the number of the line's first bad row: 128 to 191 */
+    HEROVINGA_WRONG_LINE_SIZE = 192
 };
 
 /* Unit kinds: of a row, and of a number without a unit. */
@@ -85,7 +88,7 @@ enum herovinga_row {
     HEROVINGA_POWER_SIZE = 2, /* the same */
     HEROVINGA_ZEROS_AT = 28,  /* zeros up to the row's end */
     HEROVINGA_ROW_SIZE = 32,
-    HEROVINGA_MOST_ROWS = 64, /* of a unit table */
+    HEROVINGA_MOST_ROWS = 64, /* of each unit table */
     HEROVINGA_MOST_NUMERALS = 32
 };
 
@@ -129,25 +132,37 @@ typedef struct herovinga_settings {
     uint64_t default_kind; /* of a number without a unit */
 } herovinga_settings;
 
-/* How to make a card, that is settings, a table of units and one of numerals.
+/* What a text is read under: settings, the hall's table of units, the line's, and one of numerals. A table is lent, and with size 0 it is
+ * empty and may be null. */
+typedef struct herovinga_card {
+    herovinga_settings settings;
+    const uint8_t *hall;
+    size_t hall_size;
+    const uint8_t *line;
+    size_t line_size;
+    const uint8_t *numerals;
+    size_t numerals_size;
+} herovinga_card;
+
+/* How to make a card.
  *
- * Begin with all zeros (herovinga_settings s = {0}): every switch is off, no byte delimits, there is no conjunction, and a number without
- * a unit is nanoseconds. Then set what is wanted:
+ * Begin with all zeros (herovinga_card c = {0}): every switch is off, no byte delimits, there is no conjunction, a number without a unit
+ * is nanoseconds, and every table is empty. Then set what is wanted:
  *
- *     s.fractions = 1;
- *     s.default_kind = HEROVINGA_SECOND;
- *     s.inner[' ' / 64] |= (uint64_t)1 << (' ' % 64);
- *     s.outer[' ' / 64] |= (uint64_t)1 << (' ' % 64);
- *     s.conjunctions = 1;
- *     s.conjunction[0].size = 3;
- *     s.conjunction[0].letters = 'a' | 'n' << 8 | 'd' << 16;
+ *     c.settings.fractions = 1;
+ *     c.settings.default_kind = HEROVINGA_SECOND;
+ *     c.settings.inner[' ' / 64] |= (uint64_t)1 << (' ' % 64);
+ *     c.settings.outer[' ' / 64] |= (uint64_t)1 << (' ' % 64);
+ *     c.settings.conjunctions = 1;
+ *     c.settings.conjunction[0].size = 3;
+ *     c.settings.conjunction[0].letters = 'a' | 'n' << 8 | 'd' << 16;
  *
  * A delimiter is below 128 and is no letter, digit, '+', '-' or '.'. Where several conjunctions fit, the first listed one is taken,
  * and not the longest. Letters behind a conjunction's size and conjunctions behind the count are not looked at.
  *
- * The table is up to 64 rows of 32 bytes, one behind another, and its size is 32 times their number; an empty one may be null. A row names a
- * unit: its kind, times its coefficient, times ten to its power. So with the name "ms", HEROVINGA_MILLISECOND, 1 and 0 are a millisecond,
- * and with the name "turn", HEROVINGA_MILLISECOND, 123 and -1 are 12.3 of them:
+ * A table of units is up to 64 rows of 32 bytes, one behind another, and its size is 32 times their number. A row names a unit: its kind,
+ * times its coefficient, times ten to its power. So with the name "ms", HEROVINGA_MILLISECOND, 1 and 0 are a millisecond, and with the
+ * name "turn", HEROVINGA_MILLISECOND, 123 and -1 are 12.3 of them:
  *
  *     uint8_t row[HEROVINGA_ROW_SIZE] = {0};
  *     row[HEROVINGA_NAME_SIZE_AT] = 4;
@@ -156,11 +171,17 @@ typedef struct herovinga_settings {
  *     row[HEROVINGA_COEFFICIENT_AT] = 123;
  *     row[HEROVINGA_POWER_AT] = 0xff;
  *     row[HEROVINGA_POWER_AT + 1] = 0xff;
+ *     c.hall = row;
+ *     c.hall_size = sizeof row;
  *
- * A name holds no delimiter of either set, no digit, no '+', '-' or '.', and no two rows have the same. Names are compared byte for byte,
- * so "S" is not "s". A name led by 'e' or 'E' needs exponents on ("3e0eon"), or before_unit on and an inner set that is not empty ("3 eon"):
- * straight after a number such a letter begins an exponent, and nobody could type the unit. Kind times row, coefficients multiplied and
- * powers added, lies within plus or minus 9223372036854775807 and -32768 to 32767.
+ * There are two such tables: the hall's, and the line's own. A unit is looked for in the line's first and then in the hall's, so the line's
+ * rows win: with a row "turn" of 15 ms in c.line, "1turn" is that, and behind it all else is the hall's. Each table is checked by itself,
+ * and may have up to 64 rows beside the other's; a name may stand in both.
+ *
+ * A name holds no delimiter of either set, no digit, no '+', '-' or '.', and no two rows of a table have the same. Names are compared byte
+ * for byte, so "S" is not "s". A name led by 'e' or 'E' needs exponents on ("3e0eon"), or before_unit on and an inner set that is not empty
+ * ("3 eon"): straight after a number such a letter begins an exponent, and nobody could type the unit. Kind times row, coefficients
+ * multiplied and powers added, lies within plus or minus 9223372036854775807 and -32768 to 32767.
  *
  * Numerals are words for numbers: up to 32 rows of the same form, or none. A numeral's name is ASCII letters alone, its kind is
  * HEROVINGA_SECOND, and it stands for its coefficient times ten to its power, in the same ranges: with the name "half", 5 and -1 are 0.5. No
@@ -171,25 +192,48 @@ typedef struct herovinga_settings {
  * Every call checks the card, and a wrong one is 7 whatever the text is. examples/c/read_line.c makes a whole card.
  */
 
-/* Reads one part of a text from a place on, what connects it with the next one included, under a card of settings, table and numerals.
- * Position: the place where the next part begins, which is the text's size after the last one. Length: the part's. */
-uint8_t herovinga_read_part(const herovinga_settings *settings, const uint8_t *table, size_t table_size, const uint8_t *numerals,
-                            size_t numerals_size, const uint8_t *text, size_t text_size, size_t place, herovinga_answer *answer);
+/* Reads one part of a text from a place on, what connects it with the next one included, under settings, the hall's table, the line's and
+ * numerals. Position: the place where the next part begins, which is the text's size after the last one. Length: the part's. */
+uint8_t herovinga_read_part(const herovinga_settings *settings, const uint8_t *hall, size_t hall_size, const uint8_t *line,
+                            size_t line_size, const uint8_t *numerals, size_t numerals_size, const uint8_t *text, size_t text_size,
+                            size_t place, herovinga_answer *answer);
 
-/* Reads all parts of a text under a card. Position: the text's size. Length: their sum, each sum on the way held between the least and the
- * largest length. */
-uint8_t herovinga_read_total(const herovinga_settings *settings, const uint8_t *table, size_t table_size, const uint8_t *numerals,
-                             size_t numerals_size, const uint8_t *text, size_t text_size, herovinga_answer *answer);
+/* Reads all parts of a text under the same settings and tables. Position: the text's size. Length: their sum, each sum on the way held
+ * between the least and the largest length. */
+uint8_t herovinga_read_total(const herovinga_settings *settings, const uint8_t *hall, size_t hall_size, const uint8_t *line,
+                             size_t line_size, const uint8_t *numerals, size_t numerals_size, const uint8_t *text, size_t text_size,
+                             herovinga_answer *answer);
 
 /* Writes a length at a place of the buffer, as "+0.0617": its sign, its seconds and, if there are nanoseconds, a point and nine digits less
  * trailing zeros. Position: the place behind it. Length: the one written. No other byte of the buffer changes, and none on a refusal. */
 uint8_t herovinga_write(const herovinga_length *length, uint8_t *buffer, size_t buffer_size, size_t place, herovinga_answer *answer);
 
-/* Adds a text's total under a card to the shift total that is lent, held between the least and the largest length. Position: the text's
- * size. Length: the new total, which then also stands in *total. A refusal leaves *total as it was. */
-uint8_t herovinga_add_total(herovinga_length *total, const herovinga_settings *settings, const uint8_t *table, size_t table_size,
-                            const uint8_t *numerals, size_t numerals_size, const uint8_t *text, size_t text_size,
-                            herovinga_answer *answer);
+/* Adds a text's total, read under such settings and tables, to the shift total that is lent, held between the least and the largest length.
+ * Position: the text's size. Length: the new total, which then also stands in *total. A refusal leaves *total as it was. */
+uint8_t herovinga_add_total(herovinga_length *total, const herovinga_settings *settings, const uint8_t *hall, size_t hall_size,
+                            const uint8_t *line, size_t line_size, const uint8_t *numerals, size_t numerals_size, const uint8_t *text,
+                            size_t text_size, herovinga_answer *answer);
+
+/* These three under a card, so that no two tables are mixed up: herovinga_read_part, herovinga_read_total and herovinga_add_total. */
+static inline uint8_t herovinga_card_read_part(const herovinga_card *card, const uint8_t *text, size_t text_size, size_t place,
+                                               herovinga_answer *answer)
+{
+    return herovinga_read_part(&card->settings, card->hall, card->hall_size, card->line, card->line_size, card->numerals,
+                               card->numerals_size, text, text_size, place, answer);
+}
+
+static inline uint8_t herovinga_card_read_total(const herovinga_card *card, const uint8_t *text, size_t text_size, herovinga_answer *answer)
+{
+    return herovinga_read_total(&card->settings, card->hall, card->hall_size, card->line, card->line_size, card->numerals,
+                                card->numerals_size, text, text_size, answer);
+}
+
+static inline uint8_t herovinga_card_add_total(herovinga_length *total, const herovinga_card *card, const uint8_t *text, size_t text_size,
+                                               herovinga_answer *answer)
+{
+    return herovinga_add_total(total, &card->settings, card->hall, card->hall_size, card->line, card->line_size, card->numerals,
+                               card->numerals_size, text, text_size, answer);
+}
 
 /* Reads an ISO 8601 duration, as "P2W", "P1DT12H" or "PT1H30M0,5S": weeks alone; or days, hours, minutes and seconds in that order, at least
  * one of them, with a 'T' before the first that is below days. The last number may have decimals, behind '.' or ','. A day has 24 hours.

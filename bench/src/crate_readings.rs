@@ -10,6 +10,8 @@ mod often;
 
 use std::process::ExitCode;
 
+use card_a::Units;
+
 fn main() -> ExitCode {
-    often::run(None)
+    often::run(Units, None)
 }

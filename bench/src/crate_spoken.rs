@@ -12,6 +12,8 @@ use std::process::ExitCode;
 use fundu_core::config::NumbersLike;
 use fundu_core::time::Multiplier;
 
+use card_a::Units;
+
 struct Five;
 
 impl NumbersLike for Five {
@@ -24,5 +26,5 @@ impl NumbersLike for Five {
 }
 
 fn main() -> ExitCode {
-    often::run(Some(&Five))
+    often::run(Units, Some(&Five))
 }

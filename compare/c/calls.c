@@ -1,6 +1,7 @@
 /* Calls the entries as C calls them, with what only C can pass (null, odd switches, counts that no byte holds, words that are no length) and
- * with every number that is handed back, and holds each answer, the buffer and the total to what must be there. Prints how many answers
- * were held so, and each that is wrong; exits 1 if one is. */
+ * with every number that is handed back, and holds each answer, the buffer and the total to what must be there. Those that take a card are
+ * called by their own parameters and by the card's functions. Prints how many answers were held so, and each that is wrong; exits 1 if one
+ * is. */
 #include <inttypes.h>
 #include <stdint.h>
 #include <stdio.h>
@@ -16,11 +17,15 @@ static unsigned long checks, wrong, answers[NUMBERS];
 
 static const herovinga_length zero = {0, 0, 0};
 
+/* The line's table that is passed wherever no other is: a unit that card A has not. */
+static uint8_t own[HEROVINGA_ROW_SIZE];
+
 /* The numerals that are passed wherever no others are: numbers, products that leave their range, and the name of a unit. */
 static uint8_t words[8 * HEROVINGA_ROW_SIZE];
 
-static void make_words(void)
+static void make_tables(void)
 {
+    put_row(own, "jaw", HEROVINGA_MILLISECOND, 40, 0);
     put_row(words, "five", HEROVINGA_SECOND, 5, 0);
     put_row(words + HEROVINGA_ROW_SIZE, "half", HEROVINGA_SECOND, 5, -1);
     put_row(words + 2 * HEROVINGA_ROW_SIZE, "less", HEROVINGA_SECOND, -2, 0);
@@ -60,50 +65,160 @@ static void check_answer(const char *what, uint8_t number, herovinga_answer answ
     check(what, number == wanted && answer.position == position && same_length(answer.length, length));
 }
 
-/* ---- a text under a card: its total, and that total added to a shift total */
+/* ---- the entries that take a card, by their own parameters and by the card's functions */
 
-static void check_total_with(const uint8_t *numerals, size_t numerals_size, const card *c, size_t rows, const char *text, size_t size,
-                             uint8_t number, uint64_t position, herovinga_length length)
+enum way { BY_PARAMETERS, BY_CARD, WAYS };
+
+static uint8_t read_part(int way, const herovinga_card *c, const char *text, size_t size, size_t place, herovinga_answer *answer)
+{
+    const uint8_t *bytes = (const uint8_t *)text;
+    *answer = unwritten();
+    return way == BY_CARD ? herovinga_card_read_part(c, bytes, size, place, answer)
+                          : herovinga_read_part(&c->settings, c->hall, c->hall_size, c->line, c->line_size, c->numerals, c->numerals_size,
+                                                bytes, size, place, answer);
+}
+
+static uint8_t read_total(int way, const herovinga_card *c, const char *text, size_t size, herovinga_answer *answer)
+{
+    const uint8_t *bytes = (const uint8_t *)text;
+    *answer = unwritten();
+    return way == BY_CARD ? herovinga_card_read_total(c, bytes, size, answer)
+                          : herovinga_read_total(&c->settings, c->hall, c->hall_size, c->line, c->line_size, c->numerals, c->numerals_size,
+                                                 bytes, size, answer);
+}
+
+static uint8_t add_total(int way, herovinga_length *total, const herovinga_card *c, const char *text, size_t size, herovinga_answer *answer)
+{
+    const uint8_t *bytes = (const uint8_t *)text;
+    *answer = unwritten();
+    return way == BY_CARD ? herovinga_card_add_total(total, c, bytes, size, answer)
+                          : herovinga_add_total(total, &c->settings, c->hall, c->hall_size, c->line, c->line_size, c->numerals,
+                                                c->numerals_size, bytes, size, answer);
+}
+
+/* A card with the first rows of the hall's table, and what is passed beside it wherever nothing else is. */
+static herovinga_card with_rows(const card_a *a, size_t rows)
+{
+    herovinga_card c = lent(a);
+    c.hall_size = rows * HEROVINGA_ROW_SIZE;
+    c.line = own;
+    c.line_size = sizeof own;
+    c.numerals = words;
+    c.numerals_size = sizeof words;
+    return c;
+}
+
+static herovinga_card of(const card_a *a)
+{
+    return with_rows(a, 6);
+}
+
+static herovinga_card with_hall(herovinga_card c, const uint8_t *hall, size_t size)
+{
+    c.hall = hall;
+    c.hall_size = size;
+    return c;
+}
+
+static herovinga_card with_line(herovinga_card c, const uint8_t *line, size_t size)
+{
+    c.line = line;
+    c.line_size = size;
+    return c;
+}
+
+static herovinga_card with_numerals(herovinga_card c, const uint8_t *numerals, size_t size)
+{
+    c.numerals = numerals;
+    c.numerals_size = size;
+    return c;
+}
+
+/* ---- a text under a card: its total, that total added to a shift total, and a part of it */
+
+static void check_total(herovinga_card c, const char *what, const char *text, size_t size, uint8_t number, uint64_t position,
+                        herovinga_length length)
 {
     const herovinga_length odd = {5, 7, 0};
-    const size_t table_size = rows * HEROVINGA_ROW_SIZE;
-    const uint8_t *bytes = (const uint8_t *)text;
-    herovinga_answer answer = unwritten();
-    herovinga_length total = zero;
-    uint8_t got = herovinga_read_total(&c->settings, c->table, table_size, numerals, numerals_size, bytes, size, &answer);
-    check_answer(text, got, answer, number, position, length);
-
-    answer = unwritten();
-    got = herovinga_add_total(&total, &c->settings, c->table, table_size, numerals, numerals_size, bytes, size, &answer);
-    check_answer(text, got, answer, number, position, length);
-    check(text, same_length(total, length));
-
-    if (number != HEROVINGA_DONE) {
-        total = odd;
-        answer = unwritten();
-        got = herovinga_add_total(&total, &c->settings, c->table, table_size, numerals, numerals_size, bytes, size, &answer);
-        check_answer(text, got, answer, number, position, zero);
-        check("a refusal leaves the total", same_length(total, odd));
+    int way;
+    for (way = 0; way < WAYS; way++) {
+        herovinga_answer answer;
+        herovinga_length total = zero;
+        uint8_t got = read_total(way, &c, text, size, &answer);
+        check_answer(what, got, answer, number, position, length);
+        got = add_total(way, &total, &c, text, size, &answer);
+        check_answer(what, got, answer, number, position, length);
+        check(what, same_length(total, length));
+        if (number != HEROVINGA_DONE) {
+            total = odd;
+            got = add_total(way, &total, &c, text, size, &answer);
+            check_answer(what, got, answer, number, position, zero);
+            check("a refusal leaves the total", same_length(total, odd));
+        }
     }
 }
 
-static void check_total(const card *c, size_t rows, const char *text, size_t size, uint8_t number, uint64_t position, herovinga_length length)
+/* A text that is read under a card to whole seconds and milliseconds, or refused. */
+static void reads_under(herovinga_card c, const char *text, uint64_t milliseconds)
 {
-    check_total_with(words, sizeof words, c, rows, text, size, number, position, length);
+    herovinga_length length = {0, 0, 0};
+    length.seconds = milliseconds / 1000;
+    length.nanoseconds = milliseconds % 1000 * 1000000;
+    check_total(c, text, text, strlen(text), HEROVINGA_DONE, strlen(text), length);
 }
 
-static void reads(const card *c, const char *text, uint64_t negative, uint64_t seconds, uint64_t nanoseconds)
+static void fails_under(herovinga_card c, const char *text, uint8_t number, uint64_t position)
+{
+    check_total(c, text, text, strlen(text), number, position, zero);
+}
+
+/* A part of a text from a place on, of whole seconds. */
+static void part_under(herovinga_card c, const char *text, size_t place, uint8_t number, uint64_t position, uint64_t seconds)
+{
+    herovinga_length length = {0, 0, 0};
+    int way;
+    length.seconds = seconds;
+    for (way = 0; way < WAYS; way++) {
+        herovinga_answer answer;
+        uint8_t got = read_part(way, &c, text, strlen(text), place, &answer);
+        check_answer(text, got, answer, number, position, length);
+    }
+}
+
+/* A card that every entry refuses, whatever text, place and total are. */
+static void refused(herovinga_card c, uint64_t position)
+{
+    const herovinga_length minus_zero = {1, 0, 0};
+    static const char text[HEROVINGA_LONGEST_TEXT + 1];
+    int way;
+    for (way = 0; way < WAYS; way++) {
+        herovinga_length total = minus_zero;
+        herovinga_answer answer;
+        uint8_t got = add_total(way, &total, &c, text, sizeof text, &answer);
+        check_answer("the card_a before total and text", got, answer, HEROVINGA_CARD, position, zero);
+        check("a wrong card leaves the total", same_length(total, minus_zero));
+    }
+    fails_under(c, "1s", HEROVINGA_CARD, position);
+    part_under(c, "1s", SIZE_MAX, HEROVINGA_CARD, position, 0);
+}
+
+static void reads(const card_a *c, const char *text, uint64_t negative, uint64_t seconds, uint64_t nanoseconds)
 {
     herovinga_length length;
     length.negative = negative;
     length.seconds = seconds;
     length.nanoseconds = nanoseconds;
-    check_total(c, 6, text, strlen(text), HEROVINGA_DONE, strlen(text), length);
+    check_total(of(c), text, text, strlen(text), HEROVINGA_DONE, strlen(text), length);
 }
 
-static void fails(const card *c, const char *text, uint8_t number, uint64_t position)
+static void fails(const card_a *c, const char *text, uint8_t number, uint64_t position)
 {
-    check_total(c, 6, text, strlen(text), number, position, zero);
+    fails_under(of(c), text, number, position);
+}
+
+static void part(const card_a *c, const char *text, size_t place, uint8_t number, uint64_t position, uint64_t seconds)
+{
+    part_under(of(c), text, place, number, position, seconds);
 }
 
 /* ---- the tests */
@@ -121,9 +236,9 @@ static void layout(void)
     check("a size is a word", sizeof(size_t) == sizeof(uint64_t));
 }
 
-static void readings(const card *a)
+static void readings(const card_a *a)
 {
-    card forbidden = *a;
+    card_a forbidden = *a;
     char text[HEROVINGA_LONGEST_TEXT + 2];
 
     reads(a, "61.7ms", 0, 0, 61700000);
@@ -140,29 +255,13 @@ static void readings(const card *a)
     fails(&forbidden, "1s -1s", HEROVINGA_NEGATIVE, 0);
 
     memset(text, '0', sizeof text);
-    check_total(a, 6, text, HEROVINGA_LONGEST_TEXT, HEROVINGA_DONE, HEROVINGA_LONGEST_TEXT, zero);
-    check_total(a, 6, text, HEROVINGA_LONGEST_TEXT + 1, HEROVINGA_TEXT_TOO_LONG, 4096, zero);
+    check_total(of(a), "the longest text", text, HEROVINGA_LONGEST_TEXT, HEROVINGA_DONE, HEROVINGA_LONGEST_TEXT, zero);
+    check_total(of(a), "a longer text", text, HEROVINGA_LONGEST_TEXT + 1, HEROVINGA_TEXT_TOO_LONG, 4096, zero);
 }
 
-static void part_with(const uint8_t *numerals, size_t numerals_size, const card *c, const char *text, size_t place, uint8_t number,
-                      uint64_t position, uint64_t seconds)
+static void parts(const card_a *a)
 {
-    herovinga_answer answer = unwritten();
-    herovinga_length length = zero;
-    uint8_t got = herovinga_read_part(&c->settings, c->table, sizeof c->table, numerals, numerals_size, (const uint8_t *)text, strlen(text),
-                                      place, &answer);
-    length.seconds = seconds;
-    check_answer(text, got, answer, number, position, length);
-}
-
-static void part(const card *c, const char *text, size_t place, uint8_t number, uint64_t position, uint64_t seconds)
-{
-    part_with(words, sizeof words, c, text, place, number, position, seconds);
-}
-
-static void parts(const card *a)
-{
-    card worse = *a;
+    card_a worse = *a;
     part(a, "1s and 2s", 0, HEROVINGA_DONE, 7, 1);
     part(a, "1s and 2s", 7, HEROVINGA_DONE, 9, 2);
     part(a, "1s and 2s", 9, HEROVINGA_NOTHING, 9, 0);
@@ -174,7 +273,7 @@ static void parts(const card *a)
 }
 
 /* An exponent out of range is refused at the digit that passes it, counted in the whole text: by a total, a shift total and a part. */
-static void exponents(const card *a)
+static void exponents(const card_a *a)
 {
     const size_t last = HEROVINGA_LONGEST_TEXT - 1;
     char text[HEROVINGA_LONGEST_TEXT + 1] = "";
@@ -202,30 +301,36 @@ static void exponents(const card *a)
 }
 
 /* Null with size 0 is an empty table, text or buffer, or no numerals. */
-static void nothing_there(const card *a)
+static void nothing_there(const card_a *a)
 {
     const herovinga_length second = {0, 1, 0};
-    herovinga_length total = {0, 1, 0};
+    const herovinga_card all = of(a), no_hall = with_hall(all, NULL, 0), no_line = with_line(all, NULL, 0);
+    const herovinga_card no_numerals = with_numerals(all, NULL, 0), none = with_numerals(with_line(no_hall, NULL, 0), NULL, 0);
     herovinga_answer answer = unwritten();
-    uint8_t got = herovinga_read_total(&a->settings, NULL, 0, words, sizeof words, (const uint8_t *)"1", 1, &answer);
-    check_answer("null table", got, answer, HEROVINGA_DONE, 1, second);
-    answer = unwritten();
-    got = herovinga_read_total(&a->settings, a->table, sizeof a->table, words, sizeof words, NULL, 0, &answer);
-    check_answer("null text", got, answer, HEROVINGA_NOTHING, 0, zero);
-    answer = unwritten();
-    got = herovinga_read_part(&a->settings, NULL, 0, NULL, 0, NULL, 0, 0, &answer);
-    check_answer("part of null", got, answer, HEROVINGA_NOTHING, 0, zero);
-    answer = unwritten();
-    got = herovinga_read_part(&a->settings, NULL, 0, NULL, 0, NULL, 0, 1, &answer);
-    check_answer("part beyond null", got, answer, HEROVINGA_BEYOND, 1, zero);
-    answer = unwritten();
-    got = herovinga_add_total(&total, &a->settings, NULL, 0, NULL, 0, NULL, 0, &answer);
-    check_answer("null added", got, answer, HEROVINGA_NOTHING, 0, zero);
-    check("null leaves the total", same_length(total, second));
-    check_total_with(NULL, 0, a, 6, "1s", 2, HEROVINGA_DONE, 2, second);
-    check_total_with(NULL, 0, a, 6, "five min", 8, HEROVINGA_NO_NUMBER, 0, zero);
-    part_with(NULL, 0, a, "1s and 2s", 7, HEROVINGA_DONE, 9, 2);
-    part_with(NULL, 0, a, "1s five min", 3, HEROVINGA_NO_NUMBER, 3, 0);
+    uint8_t got;
+    int way;
+    reads_under(no_hall, "1", 1000);
+    reads_under(no_hall, "1jaw", 40);
+    fails_under(no_hall, "1s", HEROVINGA_NO_NUMBER, 1);
+    reads_under(no_line, "1s", 1000);
+    reads_under(no_line, "10turn", 123);
+    fails_under(no_line, "1jaw", HEROVINGA_NO_NUMBER, 1);
+    part_under(no_line, "1s and 2s", 7, HEROVINGA_DONE, 9, 2);
+    part_under(no_line, "1s 1jaw", 4, HEROVINGA_NO_NUMBER, 4, 0);
+    reads_under(no_numerals, "1s", 1000);
+    fails_under(no_numerals, "five min", HEROVINGA_NO_NUMBER, 0);
+    part_under(no_numerals, "1s and 2s", 7, HEROVINGA_DONE, 9, 2);
+    part_under(no_numerals, "1s five min", 3, HEROVINGA_NO_NUMBER, 3, 0);
+    reads_under(none, "1", 1000);
+    fails_under(none, "1jaw", HEROVINGA_NO_NUMBER, 1);
+    check_total(all, "null text", NULL, 0, HEROVINGA_NOTHING, 0, zero);
+    check_total(none, "null everywhere", NULL, 0, HEROVINGA_NOTHING, 0, zero);
+    for (way = 0; way < WAYS; way++) {
+        got = read_part(way, &none, NULL, 0, 0, &answer);
+        check_answer("part of null", got, answer, HEROVINGA_NOTHING, 0, zero);
+        got = read_part(way, &none, NULL, 0, 1, &answer);
+        check_answer("part beyond null", got, answer, HEROVINGA_BEYOND, 1, zero);
+    }
     answer = unwritten();
     got = herovinga_write(&second, NULL, 0, 0, &answer);
     check_answer("null buffer", got, answer, HEROVINGA_NO_ROOM, 0, zero);
@@ -235,13 +340,13 @@ static void nothing_there(const card *a)
 }
 
 /* The words of the settings by number: the switches are the first seven. */
-static void set_word(card *c, size_t i, uint64_t word)
+static void set_word(card_a *c, size_t i, uint64_t word)
 {
     memcpy((unsigned char *)&c->settings + i * sizeof word, &word, sizeof word);
 }
 
 /* A switch is on for every word but 0. Each has a text that is read while it is on, and refused while it is off. */
-static void switches(const card *a)
+static void switches(const card_a *a)
 {
     static const uint64_t on[] = {1, 2, 256, (uint64_t)1 << 32, (uint64_t)1 << 63, LARGEST};
     static const struct {
@@ -260,7 +365,7 @@ static void switches(const card *a)
     };
     size_t i, j;
     for (i = 0; i < 7; i++) {
-        card c = *a;
+        card_a c = *a;
         set_word(&c, i, 0);
         fails(&c, of[i].text, of[i].number, of[i].position);
         for (j = 0; j < sizeof on / sizeof on[0]; j++) {
@@ -271,11 +376,11 @@ static void switches(const card *a)
 }
 
 /* Counts and kinds that are right, and the first that is not. */
-static void counts(const card *a)
+static void counts(const card_a *a)
 {
     static const uint64_t seconds[8] = {0, 0, 0, 1, 60, 3600, 86400, 604800};
     static const uint64_t nanoseconds[8] = {1, 1000, 1000000, 0, 0, 0, 0, 0};
-    card c = *a;
+    card_a c = *a;
     size_t i;
     for (i = 1; i < 4; i++)
         c.settings.conjunction[i] = conjunction("then");
@@ -298,12 +403,12 @@ static void counts(const card *a)
 }
 
 /* Counts, sizes and kinds that no byte holds, also where their low byte would be right. What does not count is not looked at. */
-static void too_large(const card *a)
+static void too_large(const card_a *a)
 {
     static const uint64_t words[] = {255, 256, 257, 256 + 3, (uint64_t)1 << 32, ((uint64_t)1 << 32) + 3, ((uint64_t)1 << 63) + 1, LARGEST};
     size_t i;
     for (i = 0; i < sizeof words / sizeof words[0]; i++) {
-        card c = *a;
+        card_a c = *a;
         c.settings.conjunctions = words[i];
         fails(&c, "1s", HEROVINGA_CARD, HEROVINGA_WRONG_CONJUNCTIONS);
         c = *a;
@@ -319,9 +424,9 @@ static void too_large(const card *a)
 }
 
 /* Delimiters, conjunctions and tables that are refused, and the order of the refusals. */
-static void cards(const card *a)
+static void cards(const card_a *a)
 {
-    card c = *a;
+    card_a c = *a;
     size_t i;
     c.settings.conjunction[0].size = 0;
     fails(&c, "1s", HEROVINGA_CARD, HEROVINGA_WRONG_CONJUNCTIONS);
@@ -339,18 +444,18 @@ static void cards(const card *a)
     c.settings.default_kind = LARGEST;
     fails(&c, "1s", HEROVINGA_CARD, HEROVINGA_WRONG_DELIMITERS);
     c = *a;
-    c.table[5 * HEROVINGA_ROW_SIZE + HEROVINGA_ZEROS_AT] = 1;
+    c.hall[5 * HEROVINGA_ROW_SIZE + HEROVINGA_ZEROS_AT] = 1;
     fails(&c, "1s", HEROVINGA_CARD, 5);
-    check_total(&c, 5, "1s", 2, HEROVINGA_DONE, 2, (herovinga_length){0, 1, 0});
-    c.table[HEROVINGA_KIND_AT] = 8;
+    reads_under(with_rows(&c, 5), "1s", 1000);
+    c.hall[HEROVINGA_KIND_AT] = 8;
     fails(&c, "1s", HEROVINGA_CARD, 0);
 }
 
 /* Card A with a name led by 'e' or 'E' in its third row, and with the switches and the inner set that such a name depends on. */
-static card with_e(const card *a, const char *name, uint64_t exponents, uint64_t before_unit, uint64_t inner)
+static card_a with_e(const card_a *a, const char *name, uint64_t exponents, uint64_t before_unit, uint64_t inner)
 {
-    card c = *a;
-    put_row(c.table + 2 * HEROVINGA_ROW_SIZE, name, HEROVINGA_SECOND, 5, 0);
+    card_a c = *a;
+    put_row(c.hall + 2 * HEROVINGA_ROW_SIZE, name, HEROVINGA_SECOND, 5, 0);
     c.settings.exponents = exponents;
     c.settings.before_unit = before_unit;
     memset(c.settings.inner, 0, sizeof c.settings.inner);
@@ -359,10 +464,10 @@ static card with_e(const card *a, const char *name, uint64_t exponents, uint64_t
 }
 
 /* Such a name needs exponents on, or delimiters before a unit; else nobody could type it, and its row is refused. */
-static void names_led_by_e(const card *a)
+static void names_led_by_e(const card_a *a)
 {
     const uint64_t underscore = (uint64_t)1 << ('_' % 64);
-    card c = with_e(a, "eon", 0, 0, underscore);
+    card_a c = with_e(a, "eon", 0, 0, underscore);
     fails(&c, "3ms", HEROVINGA_CARD, 2);
     c = with_e(a, "Eon", 0, 0, underscore);
     fails(&c, "3ms", HEROVINGA_CARD, 2);
@@ -377,39 +482,169 @@ static void names_led_by_e(const card *a)
     reads(&c, "3neon", 0, 15, 0);
 }
 
-static void tables(const card *a)
+/* Rows with the names "aA" to "zA", "aB" and on, all of the same worth. */
+static void put_rows(uint8_t *table, size_t first, size_t count, int64_t seconds)
 {
-    static uint8_t table[(HEROVINGA_MOST_ROWS + 1) * HEROVINGA_ROW_SIZE];
-    const herovinga_length second = {0, 1, 0};
-    herovinga_answer answer;
-    uint8_t got;
     char name[3] = "aA";
     size_t i;
-    for (i = 0; i <= HEROVINGA_MOST_ROWS; i++) {
-        name[0] = (char)('a' + i % 26);
-        name[1] = (char)('A' + i / 26);
-        put_row(table + i * HEROVINGA_ROW_SIZE, name, HEROVINGA_SECOND, 1, 0);
+    for (i = 0; i < count; i++) {
+        name[0] = (char)('a' + (first + i) % 26);
+        name[1] = (char)('A' + (first + i) / 26);
+        put_row(table + i * HEROVINGA_ROW_SIZE, name, HEROVINGA_SECOND, seconds, 0);
     }
-    answer = unwritten();
-    got = herovinga_read_total(&a->settings, table, sizeof table - HEROVINGA_ROW_SIZE, NULL, 0, (const uint8_t *)"1lC", 3, &answer);
-    check_answer("64 rows, the last one", got, answer, HEROVINGA_DONE, 3, second);
-    answer = unwritten();
-    got = herovinga_read_total(&a->settings, table, sizeof table, NULL, 0, (const uint8_t *)"1lC", 3, &answer);
-    check_answer("65 rows", got, answer, HEROVINGA_CARD, HEROVINGA_WRONG_TABLE_SIZE, zero);
-    answer = unwritten();
-    got = herovinga_read_total(&a->settings, table, HEROVINGA_ROW_SIZE - 1, NULL, 0, (const uint8_t *)"1", 1, &answer);
-    check_answer("no whole row", got, answer, HEROVINGA_CARD, HEROVINGA_WRONG_TABLE_SIZE, zero);
-    answer = unwritten();
-    got = herovinga_read_total(&a->settings, table, HEROVINGA_ROW_SIZE - 1, table, HEROVINGA_ROW_SIZE - 1, (const uint8_t *)"1", 1, &answer);
-    check_answer("no whole row, and no whole numeral", got, answer, HEROVINGA_CARD, HEROVINGA_WRONG_TABLE_SIZE, zero);
+}
+
+/* As many units as a table may have, and one more. */
+enum { FULL = HEROVINGA_MOST_ROWS * HEROVINGA_ROW_SIZE, MORE = FULL + HEROVINGA_ROW_SIZE };
+
+static void tables(const card_a *a)
+{
+    static uint8_t table[MORE];
+    herovinga_card c = with_hall(of(a), table, FULL);
+    put_rows(table, 0, HEROVINGA_MOST_ROWS + 1, 1);
+    reads_under(c, "1lC", 1000);
+    refused(with_hall(c, table, MORE), HEROVINGA_WRONG_HALL_SIZE);
+    refused(with_hall(c, table, FULL + 1), HEROVINGA_WRONG_HALL_SIZE);
+    refused(with_hall(c, table, FULL - 1), HEROVINGA_WRONG_HALL_SIZE);
+    refused(with_hall(c, table, HEROVINGA_ROW_SIZE - 1), HEROVINGA_WRONG_HALL_SIZE);
+    c = with_numerals(c, table, HEROVINGA_ROW_SIZE - 1);
+    refused(with_hall(c, table, HEROVINGA_ROW_SIZE - 1), HEROVINGA_WRONG_HALL_SIZE);
+}
+
+/* ---- the line's own units */
+
+static void line_wins(const card_a *a)
+{
+    static uint8_t line[2 * HEROVINGA_ROW_SIZE];
+    const herovinga_card hall = of(a);
+    herovinga_card c = with_line(hall, line, sizeof line);
+    put_row(line, "jaw", HEROVINGA_MILLISECOND, 40, 0);
+    put_row(line + HEROVINGA_ROW_SIZE, "turn", HEROVINGA_MILLISECOND, 15, 0);
+
+    reads_under(c, "1jaw", 40);
+    reads_under(c, "1turn", 15);
+    reads_under(c, "-1turn ago", 15);
+    reads_under(c, "1min and 1s 1jaw1turn", 61055);
+    reads_under(c, "five jaw", 200);
+    reads_under(c, "five turn and five s", 5075);
+    reads_under(hall, "10turn", 123);
+    fails_under(c, "1ja", HEROVINGA_NO_NUMBER, 1);
+    fails_under(c, "1jaws", HEROVINGA_NO_NUMBER, 1);
+    fails_under(c, "1Jaw", HEROVINGA_NO_NUMBER, 1);
+    fails_under(c, "five jaws", HEROVINGA_NO_UNIT, 5);
+    part_under(c, "1jaw 1000turn", 5, HEROVINGA_DONE, 13, 15);
+    part_under(c, "1jaw 1000turn", 13, HEROVINGA_NOTHING, 13, 0);
+    part_under(c, "1jaw 2s", 5, HEROVINGA_DONE, 7, 2);
+
+    /* The line's alone, and one of its rows alone. */
+    c = with_hall(c, NULL, 0);
+    reads_under(c, "1jaw1turn", 55);
+    fails_under(c, "1s", HEROVINGA_NO_NUMBER, 1);
+    c = with_line(hall, line, HEROVINGA_ROW_SIZE);
+    reads_under(c, "10turn", 123);
+
+    /* A name in both tables; twice in one it is wrong. */
+    put_row(line, "turn", HEROVINGA_MILLISECOND, 20, 0);
+    reads_under(c, "1turn", 20);
+    refused(with_line(hall, line, sizeof line), HEROVINGA_FIRST_LINE_ROW + 1);
+    put_row(line, "s", HEROVINGA_WEEK, 1, 0);
+    reads_under(c, "1s", 604800000);
+    put_row(line, "min", HEROVINGA_SECOND, 2, 0);
+    fails_under(c, "most min", HEROVINGA_OUT_OF_RANGE, 0);
+    put_row(line, "min", HEROVINGA_NANOSECOND, 0, 0);
+    reads_under(c, "most min", 0);
+}
+
+static void line_names(const card_a *a)
+{
+    static uint8_t eon[HEROVINGA_ROW_SIZE];
+    card_a settings = *a;
+    put_row(eon, "eon", HEROVINGA_SECOND, 5, 0);
+    reads_under(with_line(of(a), eon, sizeof eon), "3e0eon", 15000);
+    settings.settings.exponents = 0;
+    reads_under(with_line(of(&settings), eon, sizeof eon), "3 eon", 15000);
+    settings.settings.before_unit = 0;
+    refused(with_line(of(&settings), eon, sizeof eon), HEROVINGA_FIRST_LINE_ROW);
+}
+
+/* A full table of the line's with one byte of a row changed, by which it is a bad one. */
+static void refused_line(const card_a *a, uint8_t *line, size_t row, size_t at, uint8_t byte)
+{
+    uint8_t *changed = line + row * HEROVINGA_ROW_SIZE + at;
+    const uint8_t before = *changed;
+    *changed = byte;
+    refused(with_line(of(a), line, FULL), HEROVINGA_FIRST_LINE_ROW + row);
+    *changed = before;
+}
+
+static void line_tables(const card_a *a)
+{
+    static uint8_t line[MORE], hall[MORE];
+    static const size_t wrong_sizes[] = {1, HEROVINGA_ROW_SIZE - 1, HEROVINGA_ROW_SIZE + 1, FULL - 1, FULL + 1, MORE};
+    const size_t last = HEROVINGA_MOST_ROWS - 1;
+    herovinga_card c = with_line(of(a), line, FULL);
+    size_t row, i;
+    put_rows(line, 0, HEROVINGA_MOST_ROWS + 1, 5);
+    reads_under(c, "1aA1lC1s", 11000);
+    for (i = 0; i < sizeof wrong_sizes / sizeof wrong_sizes[0]; i++)
+        refused(with_line(c, line, wrong_sizes[i]), HEROVINGA_WRONG_LINE_SIZE);
+    for (row = 0; row <= last; row += last) {
+        refused_line(a, line, row, HEROVINGA_KIND_AT, 8);
+        refused_line(a, line, row, HEROVINGA_KIND_AT, 255);
+        refused_line(a, line, row, HEROVINGA_NAME_AT, '1');
+        refused_line(a, line, row, HEROVINGA_NAME_AT, ' ');
+        refused_line(a, line, row, HEROVINGA_NAME_SIZE_AT, 0);
+        refused_line(a, line, row, HEROVINGA_NAME_SIZE_AT, 1);
+        refused_line(a, line, row, HEROVINGA_NAME_SIZE_AT, HEROVINGA_NAME_ROOM + 1);
+        refused_line(a, line, row, HEROVINGA_ZEROS_AT, 1);
+        refused_line(a, line, row, HEROVINGA_ROW_SIZE - 1, 1);
+    }
+    /* The later of two equal names is the bad one: "lC" is the last row's, "kC" the one before. */
+    refused_line(a, line, last, HEROVINGA_NAME_AT, 'k');
+
+    /* Both full: the same names, some the same, and none. */
+    put_rows(hall, 0, HEROVINGA_MOST_ROWS, 1);
+    c = with_hall(c, hall, FULL);
+    reads_under(c, "1aA1lC", 10000);
+    put_rows(hall, 40, HEROVINGA_MOST_ROWS, 1);
+    reads_under(c, "1aA1lC1mC1zD", 12000);
+    put_rows(hall, 64, HEROVINGA_MOST_ROWS, 1);
+    reads_under(c, "1aA1lC1mC1xE", 12000);
+    fails_under(c, "1yE", HEROVINGA_NO_NUMBER, 1);
+    refused(with_hall(c, hall, MORE), HEROVINGA_WRONG_HALL_SIZE);
+}
+
+/* What is wrong first, in the order settings, hall, line, numerals, and of each table its size before its rows. Each card has all that the
+ * one before has wrong. */
+static void order_of_tables(const card_a *a)
+{
+    static uint8_t bad[MORE];
+    herovinga_card c = with_numerals(of(a), bad, HEROVINGA_ROW_SIZE);
+    refused(c, HEROVINGA_FIRST_NUMERAL);
+    c.numerals_size = MORE;
+    refused(c, HEROVINGA_WRONG_NUMERALS_SIZE);
+    c = with_line(c, bad, HEROVINGA_ROW_SIZE);
+    refused(c, HEROVINGA_FIRST_LINE_ROW);
+    c.line_size = MORE;
+    refused(c, HEROVINGA_WRONG_LINE_SIZE);
+    c = with_hall(c, bad, HEROVINGA_ROW_SIZE);
+    refused(c, 0);
+    c.hall_size = MORE;
+    refused(c, HEROVINGA_WRONG_HALL_SIZE);
+    c.settings.default_kind = 8;
+    refused(c, HEROVINGA_WRONG_DEFAULT_KIND);
+    c.settings.conjunctions = 5;
+    refused(c, HEROVINGA_WRONG_CONJUNCTIONS);
+    c.settings.inner[0] |= (uint64_t)1 << '+';
+    refused(c, HEROVINGA_WRONG_DELIMITERS);
 }
 
 /* ---- spoken numbers */
 
-static void spoken(const card *a)
+static void spoken(const card_a *a)
 {
     const uint64_t comma = (uint64_t)1 << ',';
-    card c = *a;
+    card_a c = *a;
 
     reads(a, "five min", 0, 300, 0);
     reads(a, "-five min", 1, 300, 0);
@@ -445,7 +680,7 @@ static void spoken(const card *a)
 }
 
 /* A numeral that nothing follows, or no unit. */
-static void numerals_alone(const card *a)
+static void numerals_alone(const card_a *a)
 {
     fails(a, "five", HEROVINGA_NO_NUMBER, 0);
     fails(a, "1s five", HEROVINGA_NO_NUMBER, 3);
@@ -461,19 +696,19 @@ static void numerals_alone(const card *a)
     fails(a, "1s and -five x", HEROVINGA_NO_UNIT, 13);
     part(a, "1s and -five x", 7, HEROVINGA_NO_UNIT, 13, 0);
     part(a, "five min and half min", 5, HEROVINGA_NO_UNIT, 9, 0);
-    check_total(a, 0, "five min", 8, HEROVINGA_NO_UNIT, 5, zero);
+    fails_under(with_rows(a, 0), "five min", HEROVINGA_NO_UNIT, 5);
 }
 
 /* Numeral times kind, and that times row, at the ends of their range. */
-static void products(const card *a)
+static void products(const card_a *a)
 {
-    card c = *a, forbidden = *a;
-    put_row(c.table, "nano", HEROVINGA_NANOSECOND, 1, 9);
-    put_row(c.table + HEROVINGA_ROW_SIZE, "none", HEROVINGA_MINUTE, 0, 0);
-    put_row(c.table + 2 * HEROVINGA_ROW_SIZE, "back", HEROVINGA_SECOND, -1, 0);
-    put_row(c.table + 3 * HEROVINGA_ROW_SIZE, "twice", HEROVINGA_SECOND, -2, 0);
-    put_row(c.table + 4 * HEROVINGA_ROW_SIZE, "ten", HEROVINGA_SECOND, 1, 1);
-    put_row(c.table + 5 * HEROVINGA_ROW_SIZE, "tenth", HEROVINGA_SECOND, 1, -1);
+    card_a c = *a, forbidden = *a;
+    put_row(c.hall, "nano", HEROVINGA_NANOSECOND, 1, 9);
+    put_row(c.hall + HEROVINGA_ROW_SIZE, "none", HEROVINGA_MINUTE, 0, 0);
+    put_row(c.hall + 2 * HEROVINGA_ROW_SIZE, "back", HEROVINGA_SECOND, -1, 0);
+    put_row(c.hall + 3 * HEROVINGA_ROW_SIZE, "twice", HEROVINGA_SECOND, -2, 0);
+    put_row(c.hall + 4 * HEROVINGA_ROW_SIZE, "ten", HEROVINGA_SECOND, 1, 1);
+    put_row(c.hall + 5 * HEROVINGA_ROW_SIZE, "tenth", HEROVINGA_SECOND, 1, -1);
 
     reads(a, "most s", 0, INT64_MAX, 0);
     fails(a, "most min", HEROVINGA_OUT_OF_RANGE, 0);
@@ -505,33 +740,19 @@ static void products(const card *a)
     fails(&forbidden, "-five min most min", HEROVINGA_NEGATIVE, 0);
 }
 
-/* Numerals that every entry refuses, whatever the text is. */
-static void fails_numerals(const card *c, const uint8_t *numerals, size_t size, uint64_t position)
-{
-    const herovinga_length minus_zero = {1, 0, 0};
-    static const uint8_t text[HEROVINGA_LONGEST_TEXT + 1];
-    herovinga_length total = minus_zero;
-    herovinga_answer answer = unwritten();
-    uint8_t got = herovinga_add_total(&total, &c->settings, c->table, sizeof c->table, numerals, size, text, sizeof text, &answer);
-    check_answer("numerals before total and text", got, answer, HEROVINGA_CARD, position, zero);
-    check("wrong numerals leave the total", same_length(total, minus_zero));
-    check_total_with(numerals, size, c, 6, "1s", 2, HEROVINGA_CARD, position, zero);
-    part_with(numerals, size, c, "1s", SIZE_MAX, HEROVINGA_CARD, position, 0);
-}
-
 /* As many numerals as may be, each with another name; one byte of a row changed, by which it is a bad one. */
 static uint8_t many[(HEROVINGA_MOST_NUMERALS + 1) * HEROVINGA_ROW_SIZE];
 
-static void fails_changed(const card *a, size_t row, size_t at, uint8_t byte)
+static void fails_changed(const card_a *a, size_t row, size_t at, uint8_t byte)
 {
     uint8_t *changed = many + row * HEROVINGA_ROW_SIZE + at;
     const uint8_t before = *changed;
     *changed = byte;
-    fails_numerals(a, many, HEROVINGA_MOST_NUMERALS * HEROVINGA_ROW_SIZE, HEROVINGA_FIRST_NUMERAL + row);
+    refused(with_numerals(of(a), many, HEROVINGA_MOST_NUMERALS * HEROVINGA_ROW_SIZE), HEROVINGA_FIRST_NUMERAL + row);
     *changed = before;
 }
 
-static void numeral_rows(const card *a)
+static void numeral_rows(const card_a *a)
 {
     static const uint8_t kinds[] = {0, 1, 2, 4, 5, 6, 7, 8, 255}, no_letters[] = {0, ' ', '0', '.', '@', '[', '_', '`', '{', 128, 0xc3, 255};
     const size_t last = HEROVINGA_MOST_NUMERALS - 1;
@@ -555,43 +776,38 @@ static void numeral_rows(const card *a)
     fails_changed(a, last, HEROVINGA_NAME_AT + 1, 'A');
 }
 
-static void numeral_tables(const card *a)
+static void numeral_tables(const card_a *a)
 {
-    const herovinga_length minute = {0, 60, 0}, most = {0, 60 * HEROVINGA_MOST_NUMERALS, 0}, minus = {1, INT64_MAX, 0};
     const size_t full = HEROVINGA_MOST_NUMERALS * HEROVINGA_ROW_SIZE;
+    const herovinga_length minus = {1, INT64_MAX, 0};
+    const herovinga_card c = of(a);
     uint8_t longest[HEROVINGA_ROW_SIZE];
-    card worse = *a;
-    char name[3] = "aA";
-    size_t i;
-    for (i = 0; i <= HEROVINGA_MOST_NUMERALS; i++) {
-        name[0] = (char)('a' + i % 26);
-        name[1] = (char)('A' + i / 26);
-        put_row(many + i * HEROVINGA_ROW_SIZE, name, HEROVINGA_SECOND, (int64_t)i + 1, 0);
-    }
-    check_total_with(many, full, a, 6, "fB min", 6, HEROVINGA_DONE, 6, most);
-    part_with(many, full, a, "1s fB min", 3, HEROVINGA_DONE, 9, most.seconds);
-    check_total_with(many, HEROVINGA_ROW_SIZE, a, 6, "aA min", 6, HEROVINGA_DONE, 6, minute);
-    check_total_with(many, HEROVINGA_ROW_SIZE, a, 6, "bA min", 6, HEROVINGA_NO_NUMBER, 0, zero);
-    fails_numerals(a, many, 1, HEROVINGA_WRONG_NUMERALS_SIZE);
-    fails_numerals(a, many, HEROVINGA_ROW_SIZE - 1, HEROVINGA_WRONG_NUMERALS_SIZE);
-    fails_numerals(a, many, HEROVINGA_ROW_SIZE + 1, HEROVINGA_WRONG_NUMERALS_SIZE);
-    fails_numerals(a, many, full + 1, HEROVINGA_WRONG_NUMERALS_SIZE);
-    fails_numerals(a, many, sizeof many, HEROVINGA_WRONG_NUMERALS_SIZE);
+    card_a worse = *a;
+    put_rows(many, 0, HEROVINGA_MOST_NUMERALS + 1, 3);
+    reads_under(with_numerals(c, many, full), "fB min", 180000);
+    part_under(with_numerals(c, many, full), "1s fB min", 3, HEROVINGA_DONE, 9, 180);
+    reads_under(with_numerals(c, many, HEROVINGA_ROW_SIZE), "aA min", 180000);
+    fails_under(with_numerals(c, many, HEROVINGA_ROW_SIZE), "bA min", HEROVINGA_NO_NUMBER, 0);
+    refused(with_numerals(c, many, 1), HEROVINGA_WRONG_NUMERALS_SIZE);
+    refused(with_numerals(c, many, HEROVINGA_ROW_SIZE - 1), HEROVINGA_WRONG_NUMERALS_SIZE);
+    refused(with_numerals(c, many, HEROVINGA_ROW_SIZE + 1), HEROVINGA_WRONG_NUMERALS_SIZE);
+    refused(with_numerals(c, many, full + 1), HEROVINGA_WRONG_NUMERALS_SIZE);
+    refused(with_numerals(c, many, sizeof many), HEROVINGA_WRONG_NUMERALS_SIZE);
     numeral_rows(a);
 
     put_row(longest, "ABCXYZabcdefgxyz", HEROVINGA_SECOND, -INT64_MAX, 0);
-    check_total_with(longest, sizeof longest, a, 6, "ABCXYZabcdefgxyz s", 18, HEROVINGA_DONE, 18, minus);
+    check_total(with_numerals(c, longest, sizeof longest), "the longest name", "ABCXYZabcdefgxyz s", 18, HEROVINGA_DONE, 18, minus);
     put_row(longest, "ABCXYZabcdefgxyz", HEROVINGA_SECOND, INT64_MIN, 0);
-    fails_numerals(a, longest, sizeof longest, HEROVINGA_FIRST_NUMERAL);
+    refused(with_numerals(c, longest, sizeof longest), HEROVINGA_FIRST_NUMERAL);
 
-    /* The size comes before the rows, all else of the card before both. */
+    /* The size comes before the rows, all else of the card_a before both. */
     many[HEROVINGA_KIND_AT] = 2;
-    fails_numerals(a, many, sizeof many, HEROVINGA_WRONG_NUMERALS_SIZE);
-    worse.table[5 * HEROVINGA_ROW_SIZE + HEROVINGA_ZEROS_AT] = 1;
-    fails_numerals(&worse, many, sizeof many, 5);
-    fails_numerals(&worse, many, full, 5);
+    refused(with_numerals(c, many, sizeof many), HEROVINGA_WRONG_NUMERALS_SIZE);
+    worse.hall[5 * HEROVINGA_ROW_SIZE + HEROVINGA_ZEROS_AT] = 1;
+    refused(with_numerals(of(&worse), many, sizeof many), 5);
+    refused(with_numerals(of(&worse), many, full), 5);
     worse.settings.default_kind = 8;
-    fails_numerals(&worse, many, full, HEROVINGA_WRONG_DEFAULT_KIND);
+    refused(with_numerals(of(&worse), many, full), HEROVINGA_WRONG_DEFAULT_KIND);
 }
 
 /* One of the two writers. */
@@ -646,21 +862,25 @@ static void writings(void)
 }
 
 /* A text added to a total: what is handed back, and what the total is then. */
-static void adds(const card *a, herovinga_length total, const char *text, uint8_t number, uint64_t position, herovinga_length then)
+static void adds(const card_a *a, herovinga_length before, const char *text, uint8_t number, uint64_t position, herovinga_length then)
 {
-    herovinga_answer answer = unwritten();
-    uint8_t got = herovinga_add_total(&total, &a->settings, a->table, sizeof a->table, words, sizeof words, (const uint8_t *)text,
-                                      strlen(text), &answer);
-    check_answer(text, got, answer, number, position, number == HEROVINGA_DONE ? then : zero);
-    check("the total then", same_length(total, then));
+    const herovinga_card c = of(a);
+    int way;
+    for (way = 0; way < WAYS; way++) {
+        herovinga_length total = before;
+        herovinga_answer answer;
+        uint8_t got = add_total(way, &total, &c, text, strlen(text), &answer);
+        check_answer(text, got, answer, number, position, number == HEROVINGA_DONE ? then : zero);
+        check("the total then", same_length(total, then));
+    }
 }
 
-static void shift_totals(const card *a)
+static void shift_totals(const card_a *a)
 {
     static const uint64_t too_many[] = {1000000000, 0xffffffff, (uint64_t)1 << 32, ((uint64_t)1 << 32) + 5, LARGEST};
     const herovinga_length second = {0, 1, 0}, less = {1, 0, 938300000}, odd = {5, 1, 0}, largest = {0, LARGEST, 999999999};
     const herovinga_length odd_zero = {5, 0, 0}, minus_zero = {1, 0, 0}, later = {0, 299, 0};
-    card worse = *a;
+    card_a worse = *a;
     size_t i;
     adds(a, zero, "1s", HEROVINGA_DONE, 2, second);
     adds(a, odd, "five min", HEROVINGA_DONE, 8, later);
@@ -668,6 +888,7 @@ static void shift_totals(const card *a)
     adds(a, odd, "five min most min", HEROVINGA_OUT_OF_RANGE, 0, odd);
     adds(a, minus_zero, "five x", HEROVINGA_MALFORMED, 0, minus_zero);
     adds(a, odd, "61.7ms", HEROVINGA_DONE, 6, less);
+    adds(a, odd, "25jaw", HEROVINGA_DONE, 5, zero);
     adds(a, odd, "1s", HEROVINGA_DONE, 2, zero);
     adds(a, odd, ".", HEROVINGA_SYNTAX, 0, odd);
     adds(a, largest, "1ns", HEROVINGA_DONE, 3, largest);
@@ -798,13 +1019,14 @@ static void iso_writings(void)
 
 int main(void)
 {
-    card a, before;
-    uint8_t words_before[sizeof words];
+    card_a a, before;
+    uint8_t own_before[sizeof own], words_before[sizeof words];
     unsigned long sum = 0;
     int i;
     make_card_a(&a);
-    make_words();
+    make_tables();
     before = a;
+    memcpy(own_before, own, sizeof own);
     memcpy(words_before, words, sizeof words);
     layout();
     readings(&a);
@@ -817,6 +1039,10 @@ int main(void)
     cards(&a);
     names_led_by_e(&a);
     tables(&a);
+    line_wins(&a);
+    line_names(&a);
+    line_tables(&a);
+    order_of_tables(&a);
     spoken(&a);
     numerals_alone(&a);
     products(&a);
@@ -826,6 +1052,7 @@ int main(void)
     iso_readings();
     iso_writings();
     check("the card is as it was", memcmp(&a, &before, sizeof a) == 0);
+    check("the line's table is as it was", memcmp(own, own_before, sizeof own) == 0);
     check("the numerals are as they were", memcmp(words, words_before, sizeof words) == 0);
     for (i = 0; i < NUMBERS; i++) {
         sum += answers[i];

@@ -12,7 +12,8 @@ const MOST_SHOWN: u64 = 10;
 
 /// True if plain and crate agree wherever they are compared.
 pub fn agree(seed: u64, count: u64) -> bool {
-    let (mut compared, mut with_numerals, mut differing) = (0_u64, 0_u64, 0_u64);
+    let (mut compared, mut differing) = (0_u64, 0_u64);
+    let (mut with_numerals, mut with_a_line) = (0_u64, 0_u64);
     let mut left_out = LeftOut::default();
     for made in Maker::new(seed).take(count as usize) {
         let Some(request) = through_a_line(&made) else {
@@ -36,7 +37,10 @@ pub fn agree(seed: u64, count: u64) -> bool {
             CrateAnswer::Unasked(_) | CrateAnswer::Loud(_) => false,
         };
         compared += 1;
-        with_numerals += u64::from(request.card().is_some_and(|card| !card.numerals.is_empty()));
+        if let Some(card) = request.card() {
+            with_numerals += u64::from(!card.numerals.is_empty());
+            with_a_line += u64::from(!card.line.is_empty());
+        }
         if same {
             continue;
         }
@@ -48,7 +52,7 @@ pub fn agree(seed: u64, count: u64) -> bool {
         }
     }
     println!(
-        "seed {seed}: {compared} compared, {with_numerals} of them under cards with numerals, {left_out}, {differing} differing"
+        "seed {seed}: {compared} compared, {with_numerals} of them under cards with numerals, {with_a_line} under cards with a line's table, {left_out}, {differing} differing"
     );
     differing == 0
 }

@@ -51,11 +51,12 @@ fn count_up(digits: &mut [usize]) {
 }
 
 /// Card A; all switches on, two sets that share nothing, and words and names
-/// that are prefixes of each other and of `inf`; all switches off; negatives
-/// and infinity forbidden, one set within the other, and a unit `inf`; and two
-/// with numerals, which are also names of units, of a word and of infinity, and
-/// whose products come to the limits: all switches on, and ago, infinity and
-/// negatives forbidden.
+/// that are prefixes of each other and of `inf`, some of them the line's alone,
+/// the hall's alone and of both; all switches off; negatives and infinity
+/// forbidden, one set within the other, and a unit `inf`, all units the line's;
+/// and two with numerals, which are also names of units, of a word and of
+/// infinity, and whose products come to the limits: all switches on and names of
+/// both tables, and ago, infinity and negatives forbidden.
 fn cards() -> [Card; 6] {
     let all_on = Switches {
         sign_delimiter: true,
@@ -96,29 +97,36 @@ fn cards() -> [Card; 6] {
         row("n", 2, 1, 3),
         row("f", 0, -1, 0),
     ];
+    let own = [row("n", 2, -1, 3), row("e", 0, 9, 9), row("a", 3, 1, 0)];
     [
         card_a(),
         card(
             (all_on.clone(), b",", b" ", 2),
             &["a", "am", "i"],
             &[
-                row("s", 3, 1, 0),
+                row("s", 4, 3, 0),
                 row("e", 0, 7, 3),
-                row("i", 1, -3, 0),
                 row("in", 4, 1, -1),
                 row("a", 2, 1, 0),
+                row("A", 1, 1, 0),
+            ],
+            &[
                 row("A", 5, 0, 0),
                 row("fs", 7, -1, -20),
+                row("i", 1, -3, 0),
+                row("s", 3, 1, 0),
             ],
         ),
         card(
             (all_off, b" ", b",", 4),
             &["s", "m"],
             &[row("s", 3, -1, 0), row("m", 4, 1, 0), row("ms", 2, 1, 0)],
+            &[],
         ),
         card(
             (no_negatives, b" ,", b" ", 7),
             &["am", "a"],
+            &[],
             &[
                 row("inf", 3, i64::MAX, 0),
                 row("n", 6, -5, 4),
@@ -128,11 +136,11 @@ fn cards() -> [Card; 6] {
         ),
         Card {
             numerals: numerals.clone(),
-            ..card((all_on, b" ,", b" ", 3), &["a", "i"], &units)
+            ..card((all_on, b" ,", b" ", 3), &["a", "i"], &units, &own)
         },
         Card {
             numerals,
-            ..card((no_ago, b",", b" ", 3), &["m"], &units)
+            ..card((no_ago, b",", b" ", 3), &["m"], &units, &[])
         },
     ]
 }
@@ -140,7 +148,8 @@ fn cards() -> [Card; 6] {
 fn card(
     (switches, inner, outer, kind): (Switches, &[u8], &[u8], u8),
     words: &[&str],
-    rows: &[Row],
+    hall: &[Row],
+    line: &[Row],
 ) -> Card {
     let words: Vec<Vec<u8>> = words.iter().map(|word| word.as_bytes().to_vec()).collect();
     Card {
@@ -149,7 +158,8 @@ fn card(
         outer: ByteSet::of(outer),
         conjunctions: Conjunctions::of(&words),
         kind,
-        table: table_bytes(rows),
+        hall: table_bytes(hall),
+        line: table_bytes(line),
         numerals: Vec::new(),
     }
 }

@@ -103,9 +103,10 @@ fn module(chunk: &[(usize, Request, &str)]) -> Result<String, String> {
 fn declare_card(out: &mut String, number: usize, card: &Card) {
     let _ = writeln!(
         out,
-        "c{number} : Card\nc{number} = record {{ settings = {}; units = {}; numerals = {} }}\n",
+        "c{number} : Card\nc{number} = record {{ settings = {}; hall = {}; line = {}; numerals = {} }}\n",
         settings(card),
-        bytes(&card.table),
+        bytes(&card.hall),
+        bytes(&card.line),
         bytes(&card.numerals)
     );
 }

@@ -28,8 +28,18 @@ pub fn card_a() -> Card {
         outer: ByteSet::of(b" "),
         conjunctions: Conjunctions::of(&[b"and".to_vec()]),
         kind: 3,
-        table: table_bytes(&rows),
+        hall: table_bytes(&rows),
+        line: Vec::new(),
         numerals: Vec::new(),
+    }
+}
+
+/// Card A on line 7, which has a jaw stroke of 40 ms and a turn of its own.
+pub fn line_7() -> Card {
+    let rows = [row("jaw", 2, 40, 0), row("turn", 2, 15, 0)];
+    Card {
+        line: table_bytes(&rows),
+        ..card_a()
     }
 }
 

@@ -29,31 +29,43 @@ pub fn write_files(cards_path: &str, found_path: &str) -> Result<bool, String> {
 
 /// The hand-written limits, every byte as a delimiter of either set, in a name
 /// and at its front, in a numeral's name and as its kind, and every kind at both
-/// ends of its coefficients and powers.
+/// ends of its coefficients and powers; each unit in the hall's table and in the
+/// line's.
 fn cards() -> Vec<Card> {
     let mut cards = limits::cards();
     for byte in 0..=255 {
-        cards.push(Card {
+        cards.extend(in_either_table(Card {
             inner: ByteSet::of(&[byte]),
             ..without_exponents(b"eon")
-        });
+        }));
         cards.push(Card {
             outer: ByteSet::of(&[byte]),
-            table: Vec::new(),
+            hall: Vec::new(),
             ..card_a()
         });
-        cards.push(Card {
-            table: one_second(&[b'm', byte]),
+        cards.extend(in_either_table(Card {
+            hall: one_second(&[b'm', byte]),
             ..card_a()
-        });
-        cards.push(led_by(byte));
+        }));
+        cards.extend(in_either_table(led_by(byte)));
         cards.push(with_numeral(&[b'm', byte], NUMERAL_KIND));
         cards.push(with_numeral(b"m", byte));
     }
     for kind in 0..KINDS.len() {
-        cards.extend(ends_of_kind(kind));
+        cards.extend(ends_of_kind(kind).into_iter().flat_map(in_either_table));
     }
     cards
+}
+
+/// A card without a line's table, and the same with the hall's table as the
+/// line's.
+fn in_either_table(card: Card) -> [Card; 2] {
+    let on_the_line = Card {
+        hall: Vec::new(),
+        line: card.hall.clone(),
+        ..card.clone()
+    };
+    [card, on_the_line]
 }
 
 /// Card A without exponents and with one row; its name may be led by `e` only
@@ -61,7 +73,7 @@ fn cards() -> Vec<Card> {
 fn without_exponents(name: &[u8]) -> Card {
     let mut card = card_a();
     card.switches.exponents = false;
-    card.table = one_second(name);
+    card.hall = one_second(name);
     card
 }
 
@@ -80,7 +92,7 @@ fn with_numeral(name: &[u8], kind: u8) -> Card {
         ..row("", 3, 1, 0)
     };
     Card {
-        table: Vec::new(),
+        hall: Vec::new(),
         numerals: table_bytes(&[numeral]),
         ..card_a()
     }
@@ -119,7 +131,7 @@ fn ends_of_kind(kind: usize) -> Vec<Card> {
     }
     rows.into_iter()
         .map(|(coefficient, power)| Card {
-            table: table_bytes(&[row("u", kind as u8, coefficient, power)]),
+            hall: table_bytes(&[row("u", kind as u8, coefficient, power)]),
             ..card_a()
         })
         .collect()

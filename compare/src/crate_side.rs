@@ -1,6 +1,7 @@
 //! Asking fundu-core.
 //!
-//! The crate reads text that is UTF-8, under settings that it cannot refuse, so
+//! The crate has one table of units, so of a hall's and a line's it is given the
+//! merged one. It reads text that is UTF-8, under settings that it cannot refuse, so
 //! only accepted cards with UTF-8 names and texts of at most 4,096 bytes may be
 //! asked about. Everything else, and whatever the crate should never do, is
 //! said aloud by a line that begins with `crate`.
@@ -19,7 +20,7 @@ use fundu_core::time::{Duration, Multiplier, TimeUnit, TimeUnitsLike};
 use crate::left_out::Reason;
 use crate::plain;
 use crate::request::{Answer, ByteSet, Card, Length, Request};
-use crate::table::{ROW_BYTES, Row};
+use crate::table::{Row, merged, rows_of};
 
 const KINDS: [TimeUnit; 8] = [
     TimeUnit::NanoSecond,
@@ -323,7 +324,7 @@ pub fn under<Answered>(
     questions: impl FnOnce(&SetUp) -> Answered,
 ) -> Result<Answered, String> {
     if !plain::accepts(card) {
-        return Err("the settings or the table are not accepted".to_string());
+        return Err("the settings or a table are not accepted".to_string());
     }
     set_up(card, questions)
 }
@@ -349,11 +350,10 @@ fn set_up<Answered>(
 ) -> Result<Answered, String> {
     INNER.set(card.inner.clone());
     OUTER.set(card.outer.clone());
-    let units = Units::from_table(&card.table)?;
-    let numerals = match card.numerals.as_slice() {
-        [] => None,
-        table => Some(Numerals::from_table(table)?),
-    };
+    let units = merged(&card.hall, &card.line).ok_or("a row is malformed")?;
+    let units = Units::of(units)?;
+    let numerals = rows_of(&card.numerals).ok_or("a numeral's row is malformed")?;
+    let numerals = (!numerals.is_empty()).then(|| Numerals::of(numerals));
     be_quiet_about_overflows();
     let mut words = Vec::new();
     for word in card.conjunctions.words() {
@@ -386,16 +386,15 @@ fn set_up<Answered>(
     }))
 }
 
-/// The table's rows as the crate looks units up.
+/// The merged table's rows as the crate looks units up.
 struct Units {
     rows: Vec<(String, TimeUnit, Multiplier)>,
 }
 
 impl Units {
-    fn from_table(table: &[u8]) -> Result<Self, String> {
+    fn of(table: Vec<Row>) -> Result<Self, String> {
         let mut rows = Vec::new();
-        for bytes in table.chunks(ROW_BYTES) {
-            let row = Row::from_bytes(bytes).ok_or("a row is malformed")?;
+        for row in table {
             let kind = *KINDS
                 .get(usize::from(row.kind))
                 .ok_or("a row has no such kind")?;
@@ -425,13 +424,11 @@ struct Numerals {
 }
 
 impl Numerals {
-    fn from_table(table: &[u8]) -> Result<Self, String> {
-        let mut rows = Vec::new();
-        for bytes in table.chunks(ROW_BYTES) {
-            let row = Row::from_bytes(bytes).ok_or("a numeral's row is malformed")?;
-            rows.push((row.name, Multiplier(row.coefficient, row.power)));
+    fn of(table: Vec<Row>) -> Self {
+        let row_of = |row: Row| (row.name, Multiplier(row.coefficient, row.power));
+        Self {
+            rows: table.into_iter().map(row_of).collect(),
         }
-        Ok(Self { rows })
     }
 
     fn has(&self, name: &[u8]) -> bool {

@@ -1,5 +1,5 @@
 //! The list of texts that the program `day` adds to the shift total one after
-//! another, and what it prints of each.
+//! another, on line 7, which has a table of its own, and what it prints of each.
 //!
 //! The total is computed otherwise: the crate's length of each text as one
 //! whole number of nanoseconds, summed in 128 bits and held between the
@@ -7,7 +7,7 @@
 
 use std::fmt::Write as _;
 
-use crate::card_a::card_a;
+use crate::card_a::line_7;
 use crate::chosen::{Chosen, reading};
 use crate::make_text::{Offer, make_text};
 use crate::nanoseconds::{clamped_sum, nanoseconds, written};
@@ -29,15 +29,13 @@ const ROOM: usize = 16_384;
 pub fn write_files(texts_path: &str, found_path: &str) -> Result<bool, String> {
     let mut chosen = Chosen::default();
     let mut day = Day::new();
-    let mut lines = ONCE.to_string() + &card_lines(&card_a());
+    let mut lines = ONCE.to_string() + &card_lines(&line_7());
     let mut found = String::new();
     for _ in 0..TEXTS {
         let text = day.next_text();
-        let card = card_a();
+        let card = line_7();
         let request = Request::Total { card, text };
-        let answer = chosen
-            .answer(&request, None)?
-            .ok_or("a text under card A is left out")?;
+        let answer = chosen.answer(&request, None)?.ok_or("a text is left out")?;
         day.add(&answer);
         let (_, _, text) = reading(&request)?;
         let (sizes, bytes) = stored::text(text, ROOM)?;
@@ -64,7 +62,7 @@ impl Day {
     fn new() -> Self {
         Self {
             random: Random::new(SEED),
-            offer: Offer::new(card_a()),
+            offer: Offer::new(line_7()),
             total: 0,
             texts: 0,
             refused: 0,
@@ -88,12 +86,13 @@ impl Day {
         let random = &mut self.random;
         let tenths = random.below(5_000);
         let seconds = random.below(100);
-        match random.below(6) {
+        match random.below(7) {
             0 => format!("{}.{}ms", tenths / 10, tenths % 10),
             1 => format!("{tenths}ms ago"),
             2 => format!("{seconds}s and {tenths}ms"),
             3 => format!("-{seconds}.{tenths:04}"),
             4 => format!("{seconds}min {seconds}s {tenths}ns"),
+            5 => format!("{seconds}jaw {seconds}turn"),
             _ => format!("{seconds} and {tenths}"),
         }
     }

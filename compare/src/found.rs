@@ -8,6 +8,7 @@ use crate::left_out::LeftOut;
 use crate::progress::Progress;
 use crate::request::{Answer, Card, Request};
 use crate::spoil::Spoiler;
+use crate::table::{MOST_ROWS, ROW_BYTES, merged};
 
 /// So many differing requests are shown in full.
 const MOST_SHOWN: u64 = 50;
@@ -19,8 +20,6 @@ pub struct Found {
     wanted: u64,
     progress: Progress,
     spoiler: Option<Spoiler>,
-    /// Whether the card that is asked about has numerals.
-    has_numerals: bool,
     cards: u64,
     pub readings: u64,
     /// Of the readings those of a part from a place.
@@ -28,10 +27,8 @@ pub struct Found {
     left_out: LeftOut,
     /// The port's answers by number.
     numbers: Numbers,
-    /// Of cards, answers and differing readings those with numerals.
-    cards_with_numerals: u64,
-    numbers_with_numerals: Numbers,
-    differing_with_numerals: u64,
+    /// Of cards, answers and differing readings those under cards of a kind.
+    kinds: [OfAKind; 4],
     /// The readings, counted from 0, in which port and crate differ.
     differing: Vec<u64>,
     /// The port's places of 3 and 4, which the crate does not give, and those of
@@ -74,6 +71,74 @@ impl fmt::Display for Numbers {
     }
 }
 
+/// What is counted again of the cards that have something.
+struct OfAKind {
+    name: &'static str,
+    is_of_it: fn(&Card) -> bool,
+    /// Whether the card that is asked about is.
+    now: bool,
+    cards: u64,
+    numbers: Numbers,
+    differing: u64,
+}
+
+impl OfAKind {
+    fn new(name: &'static str, is_of_it: fn(&Card) -> bool) -> Self {
+        Self {
+            name,
+            is_of_it,
+            now: false,
+            cards: 0,
+            numbers: Numbers::default(),
+            differing: 0,
+        }
+    }
+
+    fn begin_card(&mut self, card: &Card) {
+        self.now = (self.is_of_it)(card);
+        self.cards += u64::from(self.now);
+    }
+}
+
+impl fmt::Display for OfAKind {
+    fn fmt(&self, out: &mut fmt::Formatter<'_>) -> fmt::Result {
+        write!(
+            out,
+            "under cards with {}: {} readings under {} cards, {} differ; by number: {}",
+            self.name,
+            self.numbers.all(),
+            self.cards,
+            self.differing,
+            self.numbers
+        )
+    }
+}
+
+fn has_numerals(card: &Card) -> bool {
+    !card.numerals.is_empty()
+}
+
+fn has_a_line(card: &Card) -> bool {
+    !card.line.is_empty()
+}
+
+/// How many rows the merged table has, and how many the two have.
+fn merged_and_both(card: &Card) -> (usize, usize) {
+    let rows = merged(&card.hall, &card.line).unwrap_or_default();
+    let both = card.hall.len() + card.line.len();
+    (rows.len(), both / ROW_BYTES)
+}
+
+fn shares_a_name(card: &Card) -> bool {
+    let (rows, both) = merged_and_both(card);
+    rows < both
+}
+
+fn merges_to_more(card: &Card) -> bool {
+    let (rows, _) = merged_and_both(card);
+    rows > MOST_ROWS
+}
+
 impl Found {
     pub fn new(name: String, wanted: u64, spoiler: Option<Spoiler>) -> Self {
         Self {
@@ -81,15 +146,17 @@ impl Found {
             wanted,
             progress: Progress::begin(),
             spoiler,
-            has_numerals: false,
             cards: 0,
             readings: 0,
             parts: 0,
             left_out: LeftOut::default(),
             numbers: Numbers::default(),
-            cards_with_numerals: 0,
-            numbers_with_numerals: Numbers::default(),
-            differing_with_numerals: 0,
+            kinds: [
+                OfAKind::new("numerals", has_numerals),
+                OfAKind::new("a line's table", has_a_line),
+                OfAKind::new("a name in both unit tables", shares_a_name),
+                OfAKind::new("more than 64 units in both", merges_to_more),
+            ],
             differing: Vec::new(),
             places: 0,
             differing_places: 0,
@@ -102,9 +169,10 @@ impl Found {
 
     /// Counts a card, under which readings follow.
     pub fn begin_card(&mut self, card: &Card) {
-        self.has_numerals = !card.numerals.is_empty();
         self.cards += 1;
-        self.cards_with_numerals += u64::from(self.has_numerals);
+        for kind in &mut self.kinds {
+            kind.begin_card(card);
+        }
     }
 
     /// Counts a reading and compares its answers; true if the port's is the
@@ -114,9 +182,6 @@ impl Found {
         self.readings += 1;
         self.parts += u64::from(is_part);
         self.numbers.count(port.number);
-        if self.has_numerals {
-            self.numbers_with_numerals.count(port.number);
-        }
         let same = match said {
             CrateAnswer::Says(answer) => {
                 if let Some(spoiler) = &mut self.spoiler {
@@ -132,7 +197,10 @@ impl Found {
         };
         if !same {
             self.differing.push(reading);
-            self.differing_with_numerals += u64::from(self.has_numerals);
+        }
+        for kind in self.kinds.iter_mut().filter(|kind| kind.now) {
+            kind.numbers.count(port.number);
+            kind.differing += u64::from(!same);
         }
         same
     }
@@ -193,13 +261,9 @@ impl Found {
             self.differing.len()
         );
         println!("by number: {}", self.numbers);
-        println!(
-            "under cards with numerals: {} readings under {} cards, {} differ; by number: {}",
-            self.numbers_with_numerals.all(),
-            self.cards_with_numerals,
-            self.differing_with_numerals,
-            self.numbers_with_numerals
-        );
+        for kind in &self.kinds {
+            println!("{kind}");
+        }
         println!(
             "places of 3 and 4: {} held against the plain reading, {} differ",
             self.places, self.differing_places

@@ -1,13 +1,14 @@
 //! Cases at the limits, with answers written by hand from document 01 and
-//! requests two, three and four: for the numbers the crate does not have, 7 to
-//! 11, for the places of 3 and 4, which it does not have either, for spoken
-//! numbers, and for what a lent record or buffer holds afterwards. Each limit is
-//! tried from both sides.
+//! requests two to five: for the numbers the crate does not have, 7 to 11, for
+//! the places of 3 and 4, which it does not have either, for spoken numbers, for
+//! the line's own units, and for what a lent record or buffer holds afterwards.
+//! Each limit is tried from both sides.
 
 use std::fmt::Write as _;
 use std::fs;
+use std::ops::Range;
 
-use crate::card_a::{card_a, row};
+use crate::card_a::{card_a, line_7, row};
 use crate::plain;
 use crate::request::{
     Answer, ByteSet, Card, Conjunctions, Length, Request, bytes_field, parse_bytes,
@@ -86,6 +87,25 @@ fn cases() -> Vec<Case> {
         ("spoken worth", spoken_worth()),
         ("spoken negative", spoken_negatives()),
         ("where a unit's lookup failed", where_a_lookup_failed()),
+        ("line's table size", on_the_line(table_size())),
+        ("line's row layout", on_the_line(row_layout())),
+        ("line's row name", on_the_line(row_names())),
+        ("line's name led by e", on_the_line(names_led_by_e())),
+        (
+            "line's name not led by e",
+            on_the_line(names_not_led_by_e()),
+        ),
+        ("line's row led by e", on_the_line(rows_led_by_e())),
+        ("line's equal names", on_the_line(equal_names())),
+        ("line's coefficient", on_the_line(coefficients())),
+        ("line's power", on_the_line(powers())),
+        ("line's first bad row", on_the_line(first_bad_row())),
+        ("size of the line's table", line_size()),
+        ("both tables full", both_full()),
+        ("bad row of the line's", bad_line_rows()),
+        ("order with a line's table", order_with_a_line()),
+        ("line's own", lines_own_units()),
+        ("line's own, spoken", lines_own_units_spoken()),
     ];
     let mut list = Vec::new();
     for (group, cases) in groups {
@@ -294,20 +314,31 @@ impl Card {
         self
     }
 
+    /// Rows of the hall's.
     fn with_rows(mut self, rows: &[[u8; ROW_BYTES]]) -> Self {
-        self.table = rows.concat();
+        self.hall = rows.concat();
         self
     }
 
-    /// A table of so many bytes, cut from good rows.
+    /// A table of the hall's of so many bytes.
     fn with_size(mut self, size: usize) -> Self {
-        self.table = rows(size.div_ceil(ROW_BYTES)).concat();
-        self.table.truncate(size);
+        self.hall = cut(size);
         self
     }
 
     fn with_more_rows(mut self, rows: &[[u8; ROW_BYTES]]) -> Self {
-        self.table.extend(rows.concat());
+        self.hall.extend(rows.concat());
+        self
+    }
+
+    /// Rows of the line's, behind which card A's are the hall's.
+    fn with_line(mut self, rows: &[[u8; ROW_BYTES]]) -> Self {
+        self.line = rows.concat();
+        self
+    }
+
+    fn with_line_size(mut self, size: usize) -> Self {
+        self.line = cut(size);
         self
     }
 
@@ -316,10 +347,8 @@ impl Card {
         self
     }
 
-    /// A numeral table of so many bytes, cut from good rows.
     fn with_numeral_size(mut self, size: usize) -> Self {
-        self.numerals = rows(size.div_ceil(ROW_BYTES)).concat();
-        self.numerals.truncate(size);
+        self.numerals = cut(size);
         self
     }
 
@@ -405,9 +434,47 @@ fn changed(mut row: [u8; ROW_BYTES], changes: &[(usize, u8)]) -> [u8; ROW_BYTES]
 
 /// So many seconds by different names: `aa`, `ab`, and on to `az`, `ba`.
 fn rows(count: usize) -> Vec<[u8; ROW_BYTES]> {
+    rows_worth(0..count, 1)
+}
+
+/// Some of these names, each worth so many seconds.
+fn rows_worth(numbers: Range<usize>, seconds: i64) -> Vec<[u8; ROW_BYTES]> {
     let letter = |number: usize| char::from(b'a' + number as u8);
     let name = |index: usize| format!("{}{}", letter(index / 26), letter(index % 26));
-    (0..count).map(|index| named(&name(index))).collect()
+    numbers
+        .map(|index| times(&name(index), seconds, 0))
+        .collect()
+}
+
+/// A table of so many bytes, cut from good rows.
+fn cut(size: usize) -> Vec<u8> {
+    let mut table = rows(size.div_ceil(ROW_BYTES)).concat();
+    table.truncate(size);
+    table
+}
+
+/// The same cases with the hall's table as the line's, and none of the hall's.
+/// What was wrong with the one is wrong with the other, 128 further on.
+fn on_the_line(cases: Vec<Case>) -> Vec<Case> {
+    cases.into_iter().map(case_on_the_line).collect()
+}
+
+fn case_on_the_line(mut case: Case) -> Case {
+    match &mut case.request {
+        Request::Total { card, .. } | Request::Part { card, .. } | Request::Shift { card, .. } => {
+            std::mem::swap(&mut card.hall, &mut card.line);
+        }
+        Request::Write { .. } => {}
+    }
+    if let Some((position, rest)) = case
+        .answer
+        .strip_prefix("7 ")
+        .and_then(|refusal| refusal.split_once(' '))
+        && let Ok(position @ 0..=64) = position.parse::<u64>()
+    {
+        case.answer = format!("7 {} {rest}", 128 + position);
+    }
+    case
 }
 
 // The list. It is kept one case a line where that can be, which rustfmt would break.
@@ -1816,4 +1883,237 @@ fn where_a_lookup_failed() -> Vec<Case> {
         ]);
     }
     cases
+}
+
+// 7 at 192: the size of the line's table, card A's being the hall's; `aa` is its row 0, `cl` its row 63.
+#[rustfmt::skip]
+fn line_size() -> Vec<Case> {
+    let size = |size| card().with_line_size(size);
+    vec![
+        case("none", total(size(0), "1turn"), "0 5 + 0 12300000"),
+        case("none, a name", total(size(0), "1aa"), "6 1 + 0 0"),
+        case("1 byte", total(size(1), "1s"), "7 192 + 0 0"),
+        case("31 bytes", total(size(31), "1s"), "7 192 + 0 0"),
+        case("31 bytes, part", part(0, size(31), "1s"), "7 192 + 0 0"),
+        case("31 bytes, shift", shift(plus(1, 0), size(31), "1s"), "7 192 + 0 0 + 1 0"),
+        case("1 row", total(size(32), "1aa"), "0 3 + 1 0"),
+        case("1 row, another", total(size(32), "1ab"), "6 1 + 0 0"),
+        case("1 row, the hall's", total(size(32), "1turn"), "0 5 + 0 12300000"),
+        case("33 bytes", total(size(33), "1s"), "7 192 + 0 0"),
+        case("2047 bytes", total(size(2047), "1s"), "7 192 + 0 0"),
+        case("64 rows", total(size(2048), "1cl"), "0 3 + 1 0"),
+        case("64 rows, the hall's", total(size(2048), "1turn"), "0 5 + 0 12300000"),
+        case("64 rows, part", part(0, size(2048), "1cl"), "0 3 + 1 0"),
+        case("64 rows, shift", shift(plus(1, 0), size(2048), "1cl"), "0 3 + 2 0 + 2 0"),
+        case("2049 bytes", total(size(2049), "1s"), "7 192 + 0 0"),
+        case("65 rows", total(size(2080), "1s"), "7 192 + 0 0"),
+        case("65 rows, part", part(0, size(2080), "1s"), "7 192 + 0 0"),
+        case("65 rows, shift", shift(plus(1, 0), size(2080), "1s"), "7 192 + 0 0 + 1 0"),
+        case("256 rows", total(size(8192), "1s"), "7 192 + 0 0"),
+    ]
+}
+
+// 64 rows each: apart, with 24 names in both, and with all. Those of the hall's are worth a second, the line's five.
+#[rustfmt::skip]
+fn both_full() -> Vec<Case> {
+    let both = |line| card().with_rows(&rows(64)).with_line(&rows_worth(line, 5));
+    let (apart, some, all) = (both(64..128), both(40..104), both(0..64));
+    let numerals = apart.clone().with_numerals(&rows_worth(0..32, 3));
+    vec![
+        case("apart, the hall's first", total(apart.clone(), "1aa"), "0 3 + 1 0"),
+        case("apart, the hall's last", total(apart.clone(), "1cl"), "0 3 + 1 0"),
+        case("apart, the line's first", total(apart.clone(), "1cm"), "0 3 + 5 0"),
+        case("apart, the line's last", total(apart.clone(), "1 ex"), "0 4 + 5 0"),
+        case("apart, of each", total(apart.clone(), "1cl1cm 1 ex"), "0 11 + 11 0"),
+        case("apart, of neither", total(apart.clone(), "1 ey"), "6 2 + 0 0"),
+        case("apart, part", part(3, apart.clone(), "1cl1cm"), "0 6 + 5 0"),
+        case("apart, shift", shift(minus(1, 0), apart.clone(), "1cl1cm"), "0 6 + 5 0 + 5 0"),
+        case("apart, one more", total(apart.with_line(&rows_worth(64..129, 5)), "1"), "7 192 + 0 0"),
+        case("some, the hall's alone", total(some.clone(), "1bn"), "0 3 + 1 0"),
+        case("some, the first of both", total(some.clone(), "1bo"), "0 3 + 5 0"),
+        case("some, the last of both", total(some.clone(), "1cl"), "0 3 + 5 0"),
+        case("some, the line's alone", total(some, "1dz"), "0 3 + 5 0"),
+        case("all, the first and the last", total(all.clone(), "1aa1cl"), "0 6 + 10 0"),
+        case("all, of neither", total(all, "1cm"), "6 1 + 0 0"),
+        case("with 32 numerals", total(numerals.clone(), "bf ex"), "0 5 + 15 0"),
+        case("with 32 numerals, the hall's", total(numerals, "bf cl"), "0 5 + 3 0"),
+    ]
+}
+
+// 7 at 128 and the row of the line's: which row is named, and what the hall has does not matter.
+#[rustfmt::skip]
+fn bad_line_rows() -> Vec<Case> {
+    let (a, b, c) = (named("a"), named("b"), named("c"));
+    let (kind, name, power) = (unit(8, 1, 0), named("1"), unit(0, 1, -32768));
+    let line = |rows: &[[u8; ROW_BYTES]]| card().with_line(rows);
+    let last_of_64 = line(&[rows(63), vec![kind]].concat());
+    let last_of_64_good = line(&[rows(63), vec![c]].concat());
+    let first_and_last = line(&[rows(63), vec![named("aa")]].concat());
+    vec![
+        case("row 0", total(line(&[name]), "1"), "7 128 + 0 0"),
+        case("row 0, part", part(0, line(&[name]), "1"), "7 128 + 0 0"),
+        case("row 0, shift", shift(minus(7, 5), line(&[name]), "1"), "7 128 + 0 0 - 7 5"),
+        case("row 1", total(line(&[a, kind, b]), "1"), "7 129 + 0 0"),
+        case("row 2", total(line(&[a, b, power]), "1"), "7 130 + 0 0"),
+        case("row 63", total(last_of_64.clone(), "1"), "7 191 + 0 0"),
+        case("row 63, part", part(0, last_of_64, "1"), "7 191 + 0 0"),
+        case("row 63, good", total(last_of_64_good, "1c"), "0 2 + 1 0"),
+        case("rows 0 and 1", total(line(&[name, kind]), "1"), "7 128 + 0 0"),
+        case("rows 1 and 3", total(line(&[a, power, b, name]), "1"), "7 129 + 0 0"),
+        case("equal, neighbours", total(line(&[a, a]), "1"), "7 129 + 0 0"),
+        case("equal, first of 64 and last", total(first_and_last, "1"), "7 191 + 0 0"),
+        case("equal to the hall's", total(line(&[five("s")]), "1s"), "0 2 + 5 0"),
+        case("equal to the hall's, twice", total(line(&[five("s"), five("s")]), "1s"), "7 129 + 0 0"),
+        case("led by e", total(line(&[five("eon")]), "3e0eon"), "0 6 + 15 0"),
+        case("led by e, neither", total(line(&[a, five("eon")]).without_both(), "1s"), "7 129 + 0 0"),
+        case("led by E, neither, the hall's too", total(line(&[five("E")]).with_rows(&[five("E")]).without_both(), "1"),
+            "7 0 + 0 0"),
+        case("led by e, no exponents", total(line(&[five("eon")]).without_exponents(), "3 eon"), "0 5 + 15 0"),
+        case("a comma, delimiter of neither", total(line(&[five("a,b")]), "1a,b"), "0 4 + 5 0"),
+        case("a comma, inner", total(line(&[five("a,b")]).with_inner(b","), "1"), "7 128 + 0 0"),
+        case("a comma, outer", total(line(&[five("a,b")]).with_outer(b","), "1"), "7 128 + 0 0"),
+    ]
+}
+
+// The order of 7 (65, 66, 67, the hall's 64 and rows, the line's 192 and rows, the numerals' 100 and rows), then 11, 8, 10: each card has all
+// that the one before has wrong, and more.
+#[rustfmt::skip]
+fn order_with_a_line() -> Vec<Case> {
+    let bad = unit(8, 1, 0);
+    let numeral = card().with_numerals(&[bad]);
+    let numerals = card().with_numerals(&[vec![bad], rows(32)].concat());
+    let last_of_line = numerals.clone().with_line(&[rows(63), vec![bad]].concat());
+    let line_row = numerals.clone().with_line(&[bad]);
+    let line = numerals.clone().with_line(&[vec![bad], rows(64)].concat());
+    let ragged = numerals.clone().with_line_size(33);
+    let last_of_hall = line.clone().with_rows(&[rows(63), vec![bad]].concat());
+    let hall_row = line.clone().with_rows(&[bad]);
+    let hall = line.clone().with_rows(&[vec![bad], rows(64)].concat());
+    let kind = hall.clone().with_kind(8);
+    let words = kind.clone().with_word(b"an1");
+    let inner = words.clone().with_inner(b"0");
+    let outer = words.clone().with_outer(b"0");
+    let malformed = plus(0, 1_000_000_000);
+    let long = text(4097);
+    vec![
+        case("numeral, long text", total(numeral.clone(), &long), "7 68 + 0 0"),
+        case("numerals' size and the same", total(numerals.clone(), &long), "7 100 + 0 0"),
+        case("line's last row and the same", total(last_of_line, &long), "7 191 + 0 0"),
+        case("line's row and the same", total(line_row.clone(), &long), "7 128 + 0 0"),
+        case("line's size and the same", total(line.clone(), &long), "7 192 + 0 0"),
+        case("line's size within a row", total(ragged, &long), "7 192 + 0 0"),
+        case("hall's last row and the same", total(last_of_hall, &long), "7 63 + 0 0"),
+        case("hall's row and the same", total(hall_row.clone(), &long), "7 0 + 0 0"),
+        case("hall's size and the same", total(hall.clone(), &long), "7 64 + 0 0"),
+        case("kind and the same", total(kind, &long), "7 67 + 0 0"),
+        case("words and the same", total(words, &long), "7 66 + 0 0"),
+        case("inner and the same", total(inner.clone(), &long), "7 65 + 0 0"),
+        case("outer and the same", total(outer, &long), "7 65 + 0 0"),
+        case("line's row alone", total(card().with_line(&[bad]), "1"), "7 128 + 0 0"),
+        case("line's row, hall's", total(card().with_line(&[bad]).with_rows(&[bad]), "1"), "7 0 + 0 0"),
+        case("line's row, hall's last", total(card().with_line(&[bad]).with_more_rows(&[bad]), "1"), "7 6 + 0 0"),
+        case("line's row, hall's size", total(card().with_line(&[bad]).with_size(31), "1"), "7 64 + 0 0"),
+        case("line's size, hall's row", total(card().with_line_size(31).with_rows(&[bad]), "1"), "7 0 + 0 0"),
+        case("line's row, numeral", total(numeral.clone().with_line(&[bad]), "1"), "7 128 + 0 0"),
+        case("line's size, numeral", total(numeral.with_line_size(31), "1"), "7 192 + 0 0"),
+        case("line's row, numerals' size, part", part(0, line_row.clone(), "1"), "7 128 + 0 0"),
+        case("line's row, long text, place", part(4098, line_row.clone(), &long), "7 128 + 0 0"),
+        case("line's size, long text, place", part(4098, line.clone(), &long), "7 192 + 0 0"),
+        case("hall's row, long text, place", part(4098, hall_row, &long), "7 0 + 0 0"),
+        case("inner, long text, place", part(4098, inner, &long), "7 65 + 0 0"),
+        case("line's row, place", part(2, line_row.clone(), "1"), "7 128 + 0 0"),
+        case("line's row, record, long text", shift(malformed, line_row.clone(), &long), "7 128 + 0 0 + 0 1000000000"),
+        case("line's size, record, long text", shift(malformed, line.clone(), &long), "7 192 + 0 0 + 0 1000000000"),
+        case("line's row, empty text", total(line_row.clone(), ""), "7 128 + 0 0"),
+        case("line's size, empty text", total(line, ""), "7 192 + 0 0"),
+        case("line's row, syntax", total(line_row, "1s "), "7 128 + 0 0"),
+        case("record, a line's table", shift(malformed, line_7(), "1jaw"), "11 0 + 0 0 + 0 1000000000"),
+        case("long text, a line's table", part(4098, line_7(), &long), "8 4096 + 0 0"),
+        case("place, a line's table", part(5, line_7(), "1jaw"), "10 5 + 0 0"),
+        case("end, a line's table", part(4, line_7(), "1jaw"), "1 4 + 0 0"),
+    ]
+}
+
+// The line's rows win, and behind them stand the hall's.
+#[rustfmt::skip]
+fn lines_own_units() -> Vec<Case> {
+    let line = |rows: &[[u8; ROW_BYTES]]| card().with_line(rows);
+    let alone = line_7().with_rows(&[]);
+    let neither = card().with_rows(&[]);
+    let back = line(&[times("back", -1, 0)]).with_more_rows(&[times("back", 1, 0)]).without_negatives();
+    let forth = line(&[times("forth", 1, 0)]).with_more_rows(&[times("forth", -1, 0)]).without_negatives();
+    vec![
+        case("of the line's alone", total(line_7(), "1jaw"), "0 4 + 0 40000000"),
+        case("of both", total(line_7(), "1turn"), "0 5 + 0 15000000"),
+        case("of the hall's alone", total(line_7(), "1min"), "0 4 + 60 0"),
+        case("of each", total(line_7(), "1s1jaw and 1turn"), "0 16 + 1 55000000"),
+        case("ago", total(line_7(), "1jaw ago"), "0 8 - 0 40000000"),
+        case("ago, of both", total(line_7(), "-1turn ago"), "0 10 + 0 15000000"),
+        case("behind a delimiter", total(line_7(), "1.5e1 jaw"), "0 9 + 0 600000000"),
+        case("part", part(2, line_7(), "1s1jaw"), "0 6 + 0 40000000"),
+        case("part, of both", part(5, line_7(), "1jaw 1turn"), "0 10 + 0 15000000"),
+        case("shift", shift(plus(1, 0), line_7(), "1jaw1turn"), "0 9 + 1 55000000 + 1 55000000"),
+        case("shift refused", shift(plus(1, 0), line_7(), "1jaw1x"), "6 5 + 0 0 + 1 0"),
+        case("shorter", total(line_7(), "1ja"), "6 1 + 0 0"),
+        case("longer", total(line_7(), "1jaws"), "6 1 + 0 0"),
+        case("another case", total(line_7(), "1Jaw"), "6 1 + 0 0"),
+        case("no unit", total(line_7(), "1"), "0 1 + 1 0"),
+        case("no line's table, of the hall's", total(card(), "1turn"), "0 5 + 0 12300000"),
+        case("no line's table, of the line's", total(card(), "1jaw"), "6 1 + 0 0"),
+        case("no hall's table, of the line's", total(alone.clone(), "1jaw1turn"), "0 9 + 0 55000000"),
+        case("no hall's table, of the hall's", total(alone, "1s"), "6 1 + 0 0"),
+        case("neither table, no unit", total(neither.clone(), "1"), "0 1 + 1 0"),
+        case("neither table, a name", total(neither, "1s"), "6 1 + 0 0"),
+        case("nothing wins too", total(line(&[times("s", 0, 0)]), "1s1min"), "0 6 + 60 0"),
+        case("a larger kind", total(line(&[row("s", 7, 1, 0).to_bytes()]), "1s"), "0 2 + 604800 0"),
+        case("another power", total(line(&[times("s", 1, -32768)]), "1e32767s"), "0 8 + 0 100000000"),
+        case("negative, the hall's not", total(back.clone(), "1back"), "5 0 + 0 0"),
+        case("negative, the hall's not, with a minus", total(back, "-1back"), "0 6 + 1 0"),
+        case("not negative, the hall's is", total(forth.clone(), "1forth"), "0 6 + 1 0"),
+        case("not negative, the hall's is, with a minus", total(forth, "-1forth"), "5 0 + 0 0"),
+        case("longer than the hall's", total(line(&[five("minu")]), "1minu1min"), "0 9 + 65 0"),
+        case("shorter than the hall's", total(line(&[five("mi")]), "1mi1min"), "0 7 + 65 0"),
+        case("longer by a byte 0", total(line(&[five("s\0")]), "1s\x001s"), "0 5 + 6 0"),
+        case("the hall's in another case", total(line(&[five("S")]), "1S1s"), "0 4 + 6 0"),
+        case("a conjunction's", total(line(&[five("and")]), "1and and 1and"), "0 13 + 10 0"),
+        case("a conjunction's behind a delimiter", total(line(&[five("and")]), "1 and 2"), "0 7 + 7 0"),
+        case("infinity's", total(line(&[five("inf")]), "1inf inf"), "0 8 + 18446744073709551615 999999999"),
+        case("ago's", total(line(&[five("ago")]), "1ago ago"), "0 8 - 5 0"),
+        case("led by e", total(line(&[five("e")]), "1e1e"), "0 4 + 50 0"),
+        case("led by e, an exponent wanted", total(line(&[five("e")]), "1e"), "2 2 + 0 0"),
+        case("in the first row of 64", total(line(&[vec![five("s")], rows(63)].concat()), "1s"), "0 2 + 5 0"),
+        case("in the last row of 64", total(line(&[rows(63), vec![five("s")]].concat()), "1s"), "0 2 + 5 0"),
+    ]
+}
+
+// A numeral is multiplied with the line's row where it wins, also where only the other product would be in range.
+#[rustfmt::skip]
+fn lines_own_units_spoken() -> Vec<Case> {
+    let spoken_7 = Card { line: line_7().line, ..spoken() };
+    let most = [times("most", i64::MAX, 0), times("up", 1, 32767)];
+    let two = |line: [u8; ROW_BYTES], hall: [u8; ROW_BYTES]| {
+        card().with_numerals(&most).with_rows(&[hall]).with_line(&[line])
+    };
+    vec![
+        case("of the line's alone", total(spoken_7.clone(), "five jaw"), "0 8 + 0 200000000"),
+        case("of both", total(spoken_7.clone(), "five turn"), "0 9 + 0 75000000"),
+        case("of the hall's alone", total(spoken_7.clone(), "five min"), "0 8 + 300 0"),
+        case("ago", total(spoken_7.clone(), "-five jaw ago"), "0 13 + 0 200000000"),
+        case("part", part(9, spoken_7.clone(), "five min five jaw"), "0 17 + 0 200000000"),
+        case("shift", shift(plus(1, 0), spoken_7.clone(), "five jaw"), "0 8 + 1 200000000 + 1 200000000"),
+        case("of neither", total(spoken_7.clone(), "five jaws"), "15 5 + 0 0"),
+        case("of neither, behind a unit", total(spoken_7, "1jaw five x"), "15 10 + 0 0"),
+        case("no line's table", total(spoken(), "five jaw"), "15 5 + 0 0"),
+        case("the line's name is a numeral's", total(card().with_numerals(&[five("jaw")]).with_line(&[named("jaw")]), "jaw jaw"),
+            "0 7 + 5 0"),
+        case("one, the hall's two", total(two(times("x", 1, 0), times("x", 2, 0)), "most x"),
+            "0 6 + 9223372036854775807 0"),
+        case("two, the hall's one", total(two(times("x", 2, 0), times("x", 1, 0)), "most x"), "16 0 + 0 0"),
+        case("a power, the hall's none", total(two(times("x", 1, 1), times("x", 1, 0)), "up x"), "16 0 + 0 0"),
+        case("no power, the hall's one", total(two(times("x", 1, 0), times("x", 1, 1)), "up x"),
+            "0 4 + 18446744073709551615 999999999"),
+        case("a minute, the hall's a second", total(two(unit(4, 1, 0), unit(3, 1, 0)), "most x"), "16 0 + 0 0"),
+        case("a second, the hall's a minute", total(two(unit(3, 1, 0), unit(4, 1, 0)), "most x"),
+            "0 6 + 9223372036854775807 0"),
+    ]
 }

@@ -63,10 +63,12 @@ fn patterns(card: &Card) -> Vec<Vec<u8>> {
     patterns
 }
 
-/// The card's first numeral with its first unit, if a part of them can be read.
+/// The card's first numeral with its first unit, the line's if it has any, if a
+/// part of them can be read.
 fn spoken(card: &Card) -> Option<Vec<u8>> {
     let first_row = |table: &[u8]| table.chunks(ROW_BYTES).next().and_then(Row::from_bytes);
-    let (numeral, unit) = (first_row(&card.numerals)?, first_row(&card.table)?);
+    let numeral = first_row(&card.numerals)?;
+    let unit = first_row(&card.line).or_else(|| first_row(&card.hall))?;
     let (inner, outer) = (card.inner.bytes(), card.outer.bytes());
     let part = [
         &numeral.name,

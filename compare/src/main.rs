@@ -58,7 +58,7 @@ usage: compare make SEED COUNT          make requests
        compare limits                   the hand-written cases at the limits, against plain
        compare limits REQUESTS ANSWERS  the same cases, written into two files
        compare cards CARDS FOUND        cards, and what the plain reading finds of each
-       compare day TEXTS FOUND          a day's texts under card A, and the shift total after each
+       compare day TEXTS FOUND          a day's texts on line 7, and the shift total after each
        compare readings TEXTS FOUND     texts under card A, and what is read of each
        compare lines SHEET FOUND        a sheet for the line program, and what it prints
        compare lines SEED COUNT SHEET FOUND  the same with so many made lines

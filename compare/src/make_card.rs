@@ -1,10 +1,11 @@
-//! Making cards and tables that document 01 accepts, requests two and four
+//! Making cards and tables that document 01 accepts, requests two, four and five
 //! counted in.
 
 use crate::request::{ByteSet, Card, Conjunctions, Switches};
 use crate::rng::Random;
 use crate::table::{
-    KINDS, MOST_NUMERALS, MOST_ROWS, NAME_BYTES, NUMERAL_KIND, Row, is_led_by_e, table_bytes,
+    KINDS, MOST_NUMERALS, MOST_ROWS, NAME_BYTES, NUMERAL_KIND, Row, is_led_by_e, merged,
+    table_bytes,
 };
 
 /// Delimiters that people use, and a few that they do not: NUL and delete.
@@ -107,16 +108,26 @@ pub fn make_card(random: &mut Random) -> Card {
         outer,
         conjunctions: Conjunctions::of(&words),
         kind: make_kind(random),
-        table: Vec::new(),
+        hall: Vec::new(),
+        line: Vec::new(),
         numerals: Vec::new(),
     };
     // Which names are allowed depends on all the rest.
-    let rows = make_rows(random, &card, &words);
-    card.table = table_bytes(&rows);
+    let hall = make_rows(random, &card, &words);
+    if random.chance(60) {
+        card.line = table_bytes(&make_line(random, &card, &words, &hall));
+    }
+    card.hall = table_bytes(&hall);
     if random.chance(50) {
-        card.numerals = table_bytes(&make_numerals(random, &rows, &words));
+        let numerals = make_numerals(random, &units_of(&card), &words);
+        card.numerals = table_bytes(&numerals);
     }
     card
+}
+
+/// The units that a text of the card may have.
+fn units_of(card: &Card) -> Vec<Row> {
+    merged(&card.hall, &card.line).unwrap_or_default()
 }
 
 /// A card whose words and names are single letters, so that texts of three or
@@ -127,16 +138,15 @@ pub fn make_small_card(random: &mut Random) -> Card {
     let words: Vec<Vec<u8>> = (0..random.below(3))
         .map(|_| random.pick(&letters[..4]).as_bytes().to_vec())
         .collect();
-    let mut rows: Vec<Row> = Vec::new();
-    for _ in 0..random.below(3) {
-        let name = random.pick(&letters).as_bytes().to_vec();
-        if name_is_allowed(&name, &card) && rows.iter().all(|row| row.name != name) {
-            rows.push(make_row(random, name));
-        }
-    }
     card.conjunctions = Conjunctions::of(&words);
-    card.table = table_bytes(&rows);
+    let most = random.below(3);
+    card.hall = table_bytes(&make_small_rows(random, &card, &letters, most));
+    if !card.line.is_empty() {
+        let most = 1 + random.below(3);
+        card.line = table_bytes(&make_small_rows(random, &card, &letters, most));
+    }
     if !card.numerals.is_empty() {
+        let rows = units_of(&card);
         let mut numerals: Vec<Row> = Vec::new();
         for _ in 0..=random.below(3) {
             let name = random.pick(&letters[..4]).as_bytes().to_vec();
@@ -147,6 +157,18 @@ pub fn make_small_card(random: &mut Random) -> Card {
         card.numerals = table_bytes(&numerals);
     }
     card
+}
+
+/// At most so many rows with one of the names each.
+fn make_small_rows(random: &mut Random, card: &Card, names: &[&str], most: u64) -> Vec<Row> {
+    let mut rows: Vec<Row> = Vec::new();
+    for _ in 0..most {
+        let name = random.pick(names).as_bytes().to_vec();
+        if is_free(&name, card, &rows) {
+            rows.push(make_row(random, name));
+        }
+    }
+    rows
 }
 
 fn make_switches(random: &mut Random) -> Switches {
@@ -260,18 +282,62 @@ fn make_rows(random: &mut Random, card: &Card, words: &[Vec<u8>]) -> Vec<Row> {
     let wanted = match random.below(100) {
         0..=9 => 0,
         10..=69 => 1 + random.below(4),
-        70..=96 => 5 + random.below(5),
-        97..=98 => 10 + random.below(30),
+        70..=95 => 5 + random.below(5),
+        96..=97 => 10 + random.below(30),
         _ => MOST_ROWS as u64,
     };
     let mut rows: Vec<Row> = Vec::new();
     while (rows.len() as u64) < wanted {
         let name = make_name(random, words);
-        if name_is_allowed(&name, card) && rows.iter().all(|row| row.name != name) {
+        if is_free(&name, card, &rows) {
             rows.push(make_row(random, name));
         }
     }
     rows
+}
+
+/// The line's rows: a few or as many as may be, with names of which some, most
+/// or none are also the hall's; or just the hall's names, in the other order.
+fn make_line(random: &mut Random, card: &Card, words: &[Vec<u8>], hall: &[Row]) -> Vec<Row> {
+    if !hall.is_empty() && random.chance(10) {
+        let names = hall.iter().rev().map(|row| row.name.clone());
+        return names.map(|name| make_row(random, name)).collect();
+    }
+    let wanted = match random.below(100) {
+        _ if hall.len() == MOST_ROWS && random.chance(60) => MOST_ROWS as u64,
+        0..=74 => 1 + random.below(4),
+        75..=95 => 5 + random.below(5),
+        96..=98 => 10 + random.below(30),
+        _ => MOST_ROWS as u64,
+    };
+    let shared = *random.pick(&[0, 30, 60, 90]);
+    let mut rows: Vec<Row> = Vec::new();
+    while (rows.len() as u64) < wanted {
+        let name = if !hall.is_empty() && random.chance(shared) {
+            let name = random.pick(hall).name.clone();
+            beside_a_name(random, name)
+        } else {
+            make_name(random, words)
+        };
+        if is_free(&name, card, &rows) {
+            rows.push(make_row(random, name));
+        }
+    }
+    rows
+}
+
+/// Mostly the name itself, else a neighbour: longer, shorter, or in another case.
+fn beside_a_name(random: &mut Random, name: Vec<u8>) -> Vec<u8> {
+    let mut name = String::from_utf8_lossy(&name).into_owned();
+    match random.below(12) {
+        0 => name.push(char::from(random_letter(random))),
+        1 => {
+            name.pop();
+        }
+        2 => name.make_ascii_uppercase(),
+        _ => {}
+    }
+    name.into_bytes()
 }
 
 fn make_name(random: &mut Random, words: &[Vec<u8>]) -> Vec<u8> {
@@ -295,6 +361,11 @@ fn make_name(random: &mut Random, words: &[Vec<u8>]) -> Vec<u8> {
         16..=17 => random_letters(random, NAME_BYTES as u64),
         _ => random_letters(random, 4),
     }
+}
+
+/// Whether a row with the name may stand behind the rows.
+fn is_free(name: &[u8], card: &Card, rows: &[Row]) -> bool {
+    name_is_allowed(name, card) && rows.iter().all(|row| row.name != name)
 }
 
 fn name_is_allowed(name: &[u8], card: &Card) -> bool {

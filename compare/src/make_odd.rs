@@ -7,7 +7,7 @@ use crate::make::Maker;
 use crate::plain::MOST_TEXT_BYTES;
 use crate::request::{ByteSet, Card, Request};
 use crate::rng::Random;
-use crate::table::{MOST_NUMERALS, NUMERAL_KIND, ROW_BYTES, Row};
+use crate::table::{MOST_NUMERALS, MOST_ROWS, NUMERAL_KIND, ROW_BYTES, Row};
 
 /// Names that are not of letters alone.
 const ODD_NUMERALS: &[&str] = &["fi ve", "f1", "+", "a.", "µs", "a@", "`"];
@@ -57,22 +57,25 @@ impl Iterator for OddMaker {
 fn spoil(random: &mut Random, card: &mut Card) {
     let byte = random.below(256) as u8;
     let slot = random.below(4) as usize;
-    match random.below(16) {
+    match random.below(22) {
         0 => card.inner = with_byte(&card.inner, byte),
         1 => card.outer = with_byte(&card.outer, byte),
         2 => card.conjunctions.count = *random.pick(&[1, 2, 3, 4, 5, 6, byte]),
         3 => card.conjunctions.slots[slot].0 = *random.pick(&[0, 1, 8, 9, byte]),
         4 => card.conjunctions.slots[slot].1[random.below(8) as usize] = byte,
         5 => card.kind = *random.pick(&[7, 8, 9, byte]),
-        6 => card.table.resize(random.below(2_200) as usize, 0),
-        7 => {
-            let rows = card.table.len() / ROW_BYTES;
-            let size = random.below(rows as u64 + 1) as usize * ROW_BYTES;
-            card.table.extend_from_within(..size);
+        6..=7 => spoil_units(random, &mut card.hall),
+        8..=9 => spoil_units(random, &mut card.line),
+        10..=12 => put_in_led_by_e(random, card),
+        13..=14 => change_byte(random, &mut card.hall),
+        15..=16 => change_byte(random, &mut card.line),
+        17 => {
+            spoil_units(random, &mut card.hall);
+            change_byte(random, &mut card.hall);
+            spoil_units(random, &mut card.line);
+            change_byte(random, &mut card.line);
         }
-        8..=9 => put_in_led_by_e(random, card),
-        10..=11 => change_byte(random, &mut card.table),
-        12 => {
+        18 => {
             let size = match random.below(4) {
                 0 => random.below(1_100) as usize,
                 1 => ROW_BYTES * (MOST_NUMERALS + 1),
@@ -80,12 +83,26 @@ fn spoil(random: &mut Random, card: &mut Card) {
             };
             card.numerals.resize(size, 0);
         }
-        13 => {
+        19 => {
             let size = card.numerals.len().min(ROW_BYTES);
             card.numerals.extend_from_within(..size);
         }
-        14 => put_in_a_bad_numeral(random, card),
+        20 => put_in_a_bad_numeral(random, card),
         _ => change_byte(random, &mut card.numerals),
+    }
+}
+
+/// Gives a unit table any size, one row more than may be, or some of its rows
+/// twice.
+fn spoil_units(random: &mut Random, table: &mut Vec<u8>) {
+    let rows = table.len() / ROW_BYTES;
+    match random.below(4) {
+        0 => table.resize(random.below(2_200) as usize, 0),
+        1 => table.resize((MOST_ROWS + 1) * ROW_BYTES, 0),
+        _ => {
+            let size = random.below(rows as u64 + 1) as usize * ROW_BYTES;
+            table.extend_from_within(..size);
+        }
     }
 }
 
@@ -119,7 +136,8 @@ fn put_in_a_bad_numeral(random: &mut Random, card: &mut Card) {
 }
 
 /// Switches exponents off, mostly takes the delimiter before units away too,
-/// and puts a row led by `e` or `E` in anywhere: a unit that nobody could type.
+/// and puts a row led by `e` or `E` in anywhere in one of the two unit tables: a
+/// unit that nobody could type.
 fn put_in_led_by_e(random: &mut Random, card: &mut Card) {
     card.switches.exponents = false;
     match random.below(5) {
@@ -128,10 +146,14 @@ fn put_in_led_by_e(random: &mut Random, card: &mut Card) {
         _ => {}
     }
     let name = random.pick(&["e", "E", "eon", "Eon", "es", "EE"]);
-    let rows = card.table.len() / ROW_BYTES;
+    let table = if random.chance(50) {
+        &mut card.hall
+    } else {
+        &mut card.line
+    };
+    let rows = table.len() / ROW_BYTES;
     let place = random.below(rows as u64 + 1) as usize * ROW_BYTES;
-    card.table
-        .splice(place..place, row(name, 3, 1, 0).to_bytes());
+    table.splice(place..place, row(name, 3, 1, 0).to_bytes());
 }
 
 fn with_byte(set: &ByteSet, byte: u8) -> ByteSet {

@@ -5,7 +5,7 @@
 
 use crate::request::Card;
 use crate::rng::Random;
-use crate::table::{KINDS, ROW_BYTES, Row, is_led_by_e};
+use crate::table::{KINDS, Row, is_led_by_e, merged, rows_of};
 
 /// Longer texts are not made; the long end is for hand-written requests.
 pub const MOST_TEXT_BYTES: usize = 200;
@@ -31,6 +31,7 @@ pub struct MadeText {
 /// What a card offers to its texts, taken apart once for a run of requests.
 pub struct Offer {
     card: Card,
+    /// The units that its two tables have between them.
     rows: Vec<Row>,
     numerals: Vec<Row>,
     words: Vec<Vec<u8>>,
@@ -40,8 +41,8 @@ pub struct Offer {
 
 impl Offer {
     pub fn new(card: Card) -> Self {
-        let rows = rows_of(&card.table);
-        let numerals = rows_of(&card.numerals);
+        let rows = merged(&card.hall, &card.line).unwrap_or_default();
+        let numerals = rows_of(&card.numerals).unwrap_or_default();
         let words = card
             .conjunctions
             .words()
@@ -87,11 +88,6 @@ impl Offer {
         }
         letters
     }
-}
-
-fn rows_of(table: &[u8]) -> Vec<Row> {
-    let rows = table.chunks(ROW_BYTES);
-    rows.filter_map(Row::from_bytes).collect()
 }
 
 pub fn make_text(random: &mut Random, offer: &Offer) -> MadeText {

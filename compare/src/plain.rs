@@ -1,9 +1,9 @@
 //! A plain reading of document 01, written from its words: the acceptance of
-//! settings and table, the steps of a part, the evaluation, the total, the
-//! writer and the shift total. The words of requests two, three and four are
-//! among them: a unit that nobody could type is not accepted, an exponent out of
-//! range is refused at the digit with which it is, and a numeral may stand for a
-//! number.
+//! settings and tables, the steps of a part, the evaluation, the total, the
+//! writer and the shift total. The words of requests two to five are among them:
+//! a unit that nobody could type is not accepted, an exponent out of range is
+//! refused at the digit with which it is, a numeral may stand for a number, and a
+//! line's own units win over the hall's.
 
 use crate::natural::Natural;
 use crate::request::{Answer, ByteSet, Card, Length, Request, bytes_field};
@@ -14,6 +14,9 @@ const MOST_CONJUNCTIONS: usize = 4;
 const LARGEST_EXPONENT: u64 = 32_767;
 const LOWEST_EXPONENT_SIZE: u64 = 32_768;
 const NANOS_OF_A_SECOND: u64 = 1_000_000_000;
+
+/// What is added to the position of what is wrong with the line's table.
+const OF_THE_LINE: usize = 128;
 
 struct Refusal {
     number: u8,
@@ -131,9 +134,10 @@ fn check_text_size(text: &[u8]) -> Result<(), Refusal> {
 
 // Settings and tables.
 
-/// The rows of both tables of an accepted card.
+/// The rows of the tables of an accepted card.
 struct Tables {
-    units: Vec<Row>,
+    hall: Vec<Row>,
+    line: Vec<Row>,
     numerals: Vec<Row>,
 }
 
@@ -161,16 +165,8 @@ fn accepted(card: &Card) -> Result<Tables, Refusal> {
     if usize::from(card.kind) >= KINDS.len() {
         return refuse(7, 67);
     }
-    if card.table.len() % ROW_BYTES != 0 || card.table.len() / ROW_BYTES > MOST_ROWS {
-        return refuse(7, 64);
-    }
-    let mut units: Vec<Row> = Vec::new();
-    for bytes in card.table.chunks(ROW_BYTES) {
-        match Row::from_bytes(bytes) {
-            Some(row) if row_is_right(&row, card, &units) => units.push(row),
-            _ => return refuse(7, units.len()),
-        }
-    }
+    let hall = accepted_units(card, &card.hall, 0)?;
+    let line = accepted_units(card, &card.line, OF_THE_LINE)?;
     if card.numerals.len() % ROW_BYTES != 0 || card.numerals.len() / ROW_BYTES > MOST_NUMERALS {
         return refuse(7, 100);
     }
@@ -181,7 +177,27 @@ fn accepted(card: &Card) -> Result<Tables, Refusal> {
             _ => return refuse(7, 68 + numerals.len()),
         }
     }
-    Ok(Tables { units, numerals })
+    Ok(Tables {
+        hall,
+        line,
+        numerals,
+    })
+}
+
+/// The rows of one of the two unit tables, or refusal 7 with so much added to
+/// the position. What the other table has does not matter.
+fn accepted_units(card: &Card, table: &[u8], added: usize) -> Result<Vec<Row>, Refusal> {
+    if table.len() % ROW_BYTES != 0 || table.len() / ROW_BYTES > MOST_ROWS {
+        return refuse(7, added + 64);
+    }
+    let mut units: Vec<Row> = Vec::new();
+    for bytes in table.chunks(ROW_BYTES) {
+        match Row::from_bytes(bytes) {
+            Some(row) if row_is_right(&row, card, &units) => units.push(row),
+            _ => return refuse(7, added + units.len()),
+        }
+    }
+    Ok(units)
 }
 
 fn delimiters_are_right(set: &ByteSet) -> bool {
@@ -428,11 +444,11 @@ impl<'a> Reader<'a> {
         Ok((if minus { -size } else { size }, after))
     }
 
-    /// Step 6.
+    /// Step 6. The line's rows are asked before the hall's.
     fn unit_step(&self, place: usize) -> Result<(Option<Unit<'_>>, usize), Refusal> {
         let end = self.end_of_stretch(place);
         let stretch = &self.text[place..end];
-        let mut units = self.tables.units.iter();
+        let mut units = self.tables.line.iter().chain(&self.tables.hall);
         let Some(row) = units.find(|row| row.name == stretch) else {
             return Ok((None, place));
         };

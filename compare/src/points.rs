@@ -1,9 +1,9 @@
 //! The points where document 01's rules are a reading of what its authors had
 //! no text of: the main driver, `POW10`, `Duration`, `Multiplier` and `Config`;
-//! and those on which request four is silent. Each point is asked of the crate by short texts under card A or a card near
+//! and those on which requests four and five are silent. Each point is asked of the crate by short texts under card A or a card near
 //! it, and the answers are set against the plain reading.
 
-use crate::card_a::{card_a, row, same_answer};
+use crate::card_a::{card_a, line_7, row, same_answer};
 use crate::crate_side::{CrateAnswer, ask};
 use crate::plain;
 use crate::request::{ByteSet, Card, Conjunctions, Request};
@@ -23,6 +23,7 @@ pub fn ask_points() -> Result<bool, String> {
     asking.about_multipliers();
     asking.about_settings();
     asking.about_spoken_numbers();
+    asking.about_two_unit_tables();
     let untypable_as_written = untypable::ask_points()?;
     let spoken_as_written = spoken::ask_points()?;
     Ok(asking.all_agree && untypable_as_written && spoken_as_written)
@@ -136,7 +137,7 @@ impl Asking {
         );
         self.ask(
             "main driver, no rows",
-            &changed(|card| card.table.clear()),
+            &changed(|card| card.hall.clear()),
             &["1", "1s", "1 s", "1 ago", "1 1", "1 "],
         );
         self.ask(
@@ -431,7 +432,7 @@ impl Asking {
         );
         self.ask(
             "spoken numbers, no units",
-            &also(&spoken, |card| card.table.clear()),
+            &also(&spoken, |card| card.hall.clear()),
             &["five min", "five", "five ", "five 5", "1 five 5"],
         );
         self.ask(
@@ -495,6 +496,67 @@ impl Asking {
             );
         }
     }
+
+    fn about_two_unit_tables(&mut self) {
+        let texts = [
+            "1jaw",
+            "1 jaw",
+            "1jaw ago",
+            "1turn",
+            "1turn ago",
+            "1s",
+            "1jaw1turn1s",
+            "1jaw and 1turn and 1s",
+            "1ja",
+            "1jaws",
+            "1Jaw",
+            "1jaw ",
+            "1",
+            "five jaw",
+            "five turn",
+            "five s",
+            "five jaws",
+        ];
+        let on_line_7 = also(&line_7(), |card| {
+            card.numerals = table_bytes(&[row("five", 3, 5, 0)]);
+        });
+        self.ask("two unit tables, a name in both", &on_line_7, &texts);
+        self.ask(
+            "two unit tables, none of the line's",
+            &also(&on_line_7, |card| card.line.clear()),
+            &texts,
+        );
+        self.ask(
+            "two unit tables, none of the hall's",
+            &also(&on_line_7, |card| card.hall.clear()),
+            &texts,
+        );
+        self.ask(
+            "two unit tables, the hall's and the line's exchanged",
+            &also(&on_line_7, |card| {
+                std::mem::swap(&mut card.hall, &mut card.line);
+            }),
+            &texts,
+        );
+        self.ask(
+            "two unit tables, the line's names beside the hall's, of conjunctions, infinity and ago",
+            &changed(|card| {
+                card.line = table_bytes(&[
+                    row("S", 4, 1, 0),
+                    row("mi", 5, 1, 0),
+                    row("mins", 6, 1, 0),
+                    row("and", 3, 7, 0),
+                    row("inf", 3, 11, 0),
+                    row("ago", 3, 13, 0),
+                    row("e", 3, 17, 0),
+                ]);
+            }),
+            &[
+                "1s1S", "1mi", "1min", "1mins", "1minss", "1and and 1and", "1 and 2", "1inf inf",
+                "1ago ago", "1s ago", "1e1e", "1 e", "1e",
+            ],
+        );
+    }
 }
 
 fn changed(change: impl FnOnce(&mut Card)) -> Card {
@@ -508,7 +570,7 @@ fn also(card: &Card, change: impl FnOnce(&mut Card)) -> Card {
 }
 
 fn with_rows(rows: &[Row]) -> Card {
-    changed(|card| card.table = table_bytes(rows))
+    changed(|card| card.hall = table_bytes(rows))
 }
 
 fn with_words(words: &[&str]) -> Card {

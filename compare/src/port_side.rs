@@ -7,7 +7,8 @@ use crate::request::{Answer, ByteSet, Card, Length};
 /// The port's form of a card.
 pub struct Port {
     settings: raw::Settings,
-    table: Vec<u8>,
+    hall: Vec<u8>,
+    line: Vec<u8>,
     numerals: Vec<u8>,
 }
 
@@ -31,7 +32,8 @@ impl Port {
         settings[raw::DEFAULT_KIND] = card.kind.into();
         Self {
             settings,
-            table: card.table.clone(),
+            hall: card.hall.clone(),
+            line: card.line.clone(),
             numerals: card.numerals.clone(),
         }
     }
@@ -39,7 +41,8 @@ impl Port {
     pub fn total(&self, text: &[u8]) -> Answer {
         answer(raw::read_total(
             &self.settings,
-            &self.table,
+            &self.hall,
+            &self.line,
             &self.numerals,
             text,
         ))
@@ -48,7 +51,8 @@ impl Port {
     pub fn part(&self, text: &[u8], place: u64) -> Answer {
         answer(raw::read_part(
             &self.settings,
-            &self.table,
+            &self.hall,
+            &self.line,
             &self.numerals,
             text,
             place as usize,
@@ -61,7 +65,8 @@ impl Port {
         let added = raw::add_total(
             &mut record,
             &self.settings,
-            &self.table,
+            &self.hall,
+            &self.line,
             &self.numerals,
             text,
         );

@@ -1,9 +1,9 @@
 //! The line format: one request a line, fields separated by one space.
 //!
 //! ```text
-//! total SWITCHES INNER OUTER CONJUNCTIONS KIND TABLE NUMERALS TEXT
-//! part PLACE SWITCHES INNER OUTER CONJUNCTIONS KIND TABLE NUMERALS TEXT
-//! shift SIGN SECONDS NANOS SWITCHES INNER OUTER CONJUNCTIONS KIND TABLE NUMERALS TEXT
+//! total SWITCHES INNER OUTER CONJUNCTIONS KIND HALL LINE NUMERALS TEXT
+//! part PLACE SWITCHES INNER OUTER CONJUNCTIONS KIND HALL LINE NUMERALS TEXT
+//! shift SIGN SECONDS NANOS SWITCHES INNER OUTER CONJUNCTIONS KIND HALL LINE NUMERALS TEXT
 //! write SIGN SECONDS NANOS PLACE BUFFER
 //! ```
 //!
@@ -100,8 +100,8 @@ impl Conjunctions {
     }
 }
 
-/// The settings with the unit table and the numeral table: everything of a
-/// request but record, place and text.
+/// The settings with the hall's unit table, the line's and the numeral table:
+/// everything of a request but record, place and text.
 #[derive(Clone, PartialEq, Eq)]
 pub struct Card {
     pub switches: Switches,
@@ -109,7 +109,8 @@ pub struct Card {
     pub outer: ByteSet,
     pub conjunctions: Conjunctions,
     pub kind: u8,
-    pub table: Vec<u8>,
+    pub hall: Vec<u8>,
+    pub line: Vec<u8>,
     pub numerals: Vec<u8>,
 }
 
@@ -236,13 +237,14 @@ impl fmt::Display for Card {
     fn fmt(&self, out: &mut fmt::Formatter<'_>) -> fmt::Result {
         write!(
             out,
-            "{} {} {} {} {} {} {}",
+            "{} {} {} {} {} {} {} {}",
             self.switches,
             set_field(&self.inner),
             set_field(&self.outer),
             self.conjunctions,
             self.kind,
-            bytes_field(&self.table),
+            bytes_field(&self.hall),
+            bytes_field(&self.line),
             bytes_field(&self.numerals)
         )
     }
@@ -401,7 +403,8 @@ impl<'a> Fields<'a> {
             outer: parse_set(self.next("OUTER")?)?,
             conjunctions: parse_conjunctions(self.next("CONJUNCTIONS")?)?,
             kind: small_decimal(self.next("KIND")?, "KIND")?,
-            table: self.bytes("TABLE")?,
+            hall: self.bytes("HALL")?,
+            line: self.bytes("LINE")?,
             numerals: self.bytes("NUMERALS")?,
         })
     }

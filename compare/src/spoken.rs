@@ -180,7 +180,7 @@ fn product_card() -> Card {
         row("up", 3, 1, i16::MAX),
         row("down", 3, 1, i16::MIN),
     ]);
-    card.table.extend(table_bytes(&[
+    card.hall.extend(table_bytes(&[
         row("two", 3, 2, 0),
         row("nilmin", 4, 0, 0),
         row("ten", 3, 1, 1),

@@ -23,9 +23,10 @@ pub fn length(length: Length) -> String {
 }
 
 /// A line of the settings (switches, inner set, outer set, conjunctions,
-/// default kind) with the sizes of the unit table and of the numeral table, and
-/// a line for each row of the one and then of the other in its stored form. The
-/// last row of each is filled with zeros where the size ends within it.
+/// default kind) with the sizes of the hall's unit table, of the line's and of
+/// the numeral table, and a line for each row of the three, in that order, in its
+/// stored form. The last row of each is filled with zeros where the size ends
+/// within it.
 pub fn card_lines(card: &Card) -> String {
     let mut lines = card.switches.in_order().map(flag).concat();
     lines += &set(&card.inner);
@@ -35,11 +36,10 @@ pub fn card_lines(card: &Card) -> String {
         let _ = write!(lines, "{size:02x}{}", hex(&letters));
     }
     let _ = write!(lines, "{:02x}", card.kind);
-    lines += &size(&card.table);
-    lines += &size(&card.numerals);
+    let tables = [&card.hall, &card.line, &card.numerals];
+    lines.extend(tables.map(|table| size(table)));
     lines.push('\n');
-    let rows = [&card.table, &card.numerals].map(|table| table.chunks(ROW_BYTES));
-    for row in rows.into_iter().flatten() {
+    for row in tables.into_iter().flat_map(|table| table.chunks(ROW_BYTES)) {
         let mut stored = row.to_vec();
         stored.resize(ROW_BYTES, 0);
         let _ = writeln!(lines, "{}", hex(&stored));

@@ -1,5 +1,5 @@
-//! The unit table of document 01 and the numeral table of request four: rows of
-//! 32 bytes, and the eight fixed kinds.
+//! The unit table of document 01, the numeral table of request four and the
+//! merged table of request five: rows of 32 bytes, and the eight fixed kinds.
 
 pub const ROW_BYTES: usize = 32;
 pub const NAME_BYTES: usize = 16;
@@ -80,6 +80,23 @@ pub fn is_led_by_e(name: &[u8]) -> bool {
 /// The table's bytes of a list of rows.
 pub fn table_bytes(rows: &[Row]) -> Vec<u8> {
     rows.iter().flat_map(Row::to_bytes).collect()
+}
+
+/// The rows of a table of whole rows, or nothing if one is not laid out as a
+/// row.
+pub fn rows_of(table: &[u8]) -> Option<Vec<Row>> {
+    table.chunks(ROW_BYTES).map(Row::from_bytes).collect()
+}
+
+/// The merged table of a hall's and a line's: the line's rows, and behind them
+/// the hall's rows whose names the line has not. It may have more rows than a
+/// table may.
+pub fn merged(hall: &[u8], line: &[u8]) -> Option<Vec<Row>> {
+    let mut rows = rows_of(line)?;
+    let mut behind = rows_of(hall)?;
+    behind.retain(|row| rows.iter().all(|other| other.name != row.name));
+    rows.append(&mut behind);
+    Some(rows)
 }
 
 fn all_zero(bytes: &[u8]) -> bool {

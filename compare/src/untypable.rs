@@ -99,7 +99,7 @@ impl Asked {
         card.switches.exponents = self.exponents;
         card.switches.unit_delimiter = self.unit_delimiter;
         card.inner = ByteSet::of(self.inner);
-        card.table = table_bytes(rows);
+        card.hall = table_bytes(rows);
         card
     }
 

@@ -1,4 +1,4 @@
-/* Card A of document 01, made in C: the six rows of its table, and its settings. */
+/* Card A of document 01, made in C: its settings, and the six rows of the hall's table. */
 #ifndef CARD_A_H
 #define CARD_A_H
 
@@ -6,10 +6,11 @@
 
 #include "herovinga.h"
 
-typedef struct card {
+/* The tables of a herovinga_card are lent, so they are kept here. */
+typedef struct card_a {
     herovinga_settings settings;
-    uint8_t table[6 * HEROVINGA_ROW_SIZE];
-} card;
+    uint8_t hall[6 * HEROVINGA_ROW_SIZE];
+} card_a;
 
 static void put_row(uint8_t *row, const char *name, enum herovinga_kind kind, int64_t coefficient, int16_t power)
 {
@@ -33,7 +34,7 @@ static herovinga_conjunction conjunction(const char *word)
 }
 
 /* All switches on but the one after a sign; the space delimits; the conjunction `and`; numbers without a unit are seconds. */
-static void make_card_a(card *a)
+static void make_card_a(card_a *a)
 {
     const uint64_t space = (uint64_t)1 << ' ';
     memset(a, 0, sizeof *a);
@@ -48,12 +49,22 @@ static void make_card_a(card *a)
     a->settings.conjunctions = 1;
     a->settings.conjunction[0] = conjunction("and");
     a->settings.default_kind = HEROVINGA_SECOND;
-    put_row(a->table, "ns", HEROVINGA_NANOSECOND, 1, 0);
-    put_row(a->table + HEROVINGA_ROW_SIZE, "ms", HEROVINGA_MILLISECOND, 1, 0);
-    put_row(a->table + 2 * HEROVINGA_ROW_SIZE, "s", HEROVINGA_SECOND, 1, 0);
-    put_row(a->table + 3 * HEROVINGA_ROW_SIZE, "min", HEROVINGA_MINUTE, 1, 0);
-    put_row(a->table + 4 * HEROVINGA_ROW_SIZE, "turn", HEROVINGA_MILLISECOND, 123, -1);
-    put_row(a->table + 5 * HEROVINGA_ROW_SIZE, "block", HEROVINGA_SECOND, 10000000000, 0);
+    put_row(a->hall, "ns", HEROVINGA_NANOSECOND, 1, 0);
+    put_row(a->hall + HEROVINGA_ROW_SIZE, "ms", HEROVINGA_MILLISECOND, 1, 0);
+    put_row(a->hall + 2 * HEROVINGA_ROW_SIZE, "s", HEROVINGA_SECOND, 1, 0);
+    put_row(a->hall + 3 * HEROVINGA_ROW_SIZE, "min", HEROVINGA_MINUTE, 1, 0);
+    put_row(a->hall + 4 * HEROVINGA_ROW_SIZE, "turn", HEROVINGA_MILLISECOND, 123, -1);
+    put_row(a->hall + 5 * HEROVINGA_ROW_SIZE, "block", HEROVINGA_SECOND, 10000000000, 0);
+}
+
+/* The card with no table but the hall's; a line's and numerals may be put beside it. */
+static herovinga_card lent(const card_a *a)
+{
+    herovinga_card c = {0};
+    c.settings = a->settings;
+    c.hall = a->hall;
+    c.hall_size = sizeof a->hall;
+    return c;
 }
 
 #endif

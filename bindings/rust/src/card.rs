@@ -1,4 +1,5 @@
-//! Cards: the settings, the units and the numerals, under which texts are read.
+//! Cards: the settings, the hall's units, the line's and the numerals, under which
+//! texts are read.
 
 use crate::length::Length;
 use crate::parts::{Part, Parts};
@@ -32,12 +33,16 @@ pub enum Kind {
     Week = 7,
 }
 
-/// Settings, a unit table and a numeral table that the port accepts. A card is
-/// checked when it is made, and cannot be changed afterwards.
+/// Settings, the hall's unit table, the line's and a numeral table that the port
+/// accepts. A card is checked when it is made, and cannot be changed afterwards.
+///
+/// A unit is looked up in the line's table first and then in the hall's, so
+/// where both have a name the line's unit is read.
 #[derive(Clone, PartialEq, Eq, Hash, Debug)]
 pub struct Card {
     settings: Settings,
-    table: Vec<u8>,
+    hall: Vec<u8>,
+    line: Vec<u8>,
     numerals: Vec<u8>,
 }
 
@@ -73,21 +78,23 @@ impl Card {
             .expect("card A is accepted")
     }
 
-    /// A card from the words of its settings and the bytes of its unit table and
-    /// of its numerals, or what is wrong with them (7).
+    /// A card from the words of its settings and the bytes of the hall's unit
+    /// table, of the line's and of its numerals, or what is wrong with them (7).
     pub fn from_words(
         settings: Settings,
-        table: Vec<u8>,
+        hall: Vec<u8>,
+        line: Vec<u8>,
         numerals: Vec<u8>,
     ) -> Result<Self, Refusal> {
         // The card is checked before anything else, so an empty text, of which
         // nothing can be read, tells whether it is accepted.
-        let answer = raw::read_total(&settings, &table, &numerals, b"");
+        let answer = raw::read_total(&settings, &hall, &line, &numerals, b"");
         match answer.number {
             7 => Err(Refusal::of(&answer)),
             _ => Ok(Self {
                 settings,
-                table,
+                hall,
+                line,
                 numerals,
             }),
         }
@@ -98,9 +105,14 @@ impl Card {
         &self.settings
     }
 
-    /// The bytes of the unit table, as [`raw`] takes them.
-    pub fn table(&self) -> &[u8] {
-        &self.table
+    /// The bytes of the hall's unit table, as [`raw`] takes them.
+    pub fn hall(&self) -> &[u8] {
+        &self.hall
+    }
+
+    /// The bytes of the line's unit table, as [`raw`] takes them.
+    pub fn line(&self) -> &[u8] {
+        &self.line
     }
 
     /// The bytes of the numeral table, as [`raw`] takes them.
@@ -111,7 +123,13 @@ impl Card {
     /// The sum of a text's parts, clamped at each part between [`Length::MIN`]
     /// and [`Length::MAX`].
     pub fn read_total(&self, text: impl AsRef<[u8]>) -> Result<Length, Refusal> {
-        let answer = raw::read_total(&self.settings, &self.table, &self.numerals, text.as_ref());
+        let answer = raw::read_total(
+            &self.settings,
+            &self.hall,
+            &self.line,
+            &self.numerals,
+            text.as_ref(),
+        );
         Length::of_answer(&answer)
     }
 
@@ -119,7 +137,8 @@ impl Card {
     pub fn read_part(&self, text: impl AsRef<[u8]>, place: usize) -> Result<Part, Refusal> {
         let answer = raw::read_part(
             &self.settings,
-            &self.table,
+            &self.hall,
+            &self.line,
             &self.numerals,
             text.as_ref(),
             place,
@@ -143,7 +162,8 @@ impl Card {
         let added = raw::add_total(
             &mut record,
             &self.settings,
-            &self.table,
+            &self.hall,
+            &self.line,
             &self.numerals,
             text.as_ref(),
         );
@@ -165,7 +185,8 @@ impl Card {
 #[derive(Clone, Debug)]
 pub struct CardBuilder {
     settings: Settings,
-    table: Vec<u8>,
+    hall: Vec<u8>,
+    line: Vec<u8>,
     numerals: Vec<u8>,
 }
 
@@ -173,7 +194,8 @@ impl Default for CardBuilder {
     fn default() -> Self {
         let builder = Self {
             settings: [0; 25],
-            table: Vec::new(),
+            hall: Vec::new(),
+            line: Vec::new(),
             numerals: Vec::new(),
         };
         builder.default_kind(Kind::Second)
@@ -262,7 +284,8 @@ impl CardBuilder {
         self
     }
 
-    /// One more unit: so many of its kind, coefficient times ten to the power.
+    /// One more unit of the hall's: so many of its kind, coefficient times ten to
+    /// the power.
     ///
     /// A name led by `e` or `E` needs exponents on (`3e0eon`), or the delimiters
     /// of the inner set before units (`3 eon`), or else the card is refused:
@@ -274,14 +297,47 @@ impl CardBuilder {
         coefficient: i64,
         power: i16,
     ) -> Self {
-        self.table
+        self.hall
             .extend(row(name.as_ref(), kind, coefficient, power));
         self
     }
 
-    /// Rows of a unit table as they are stored, 32 bytes each.
+    /// Rows of the hall's unit table as they are stored, 32 bytes each.
     pub fn rows(mut self, rows: &[u8]) -> Self {
-        self.table.extend_from_slice(rows);
+        self.hall.extend_from_slice(rows);
+        self
+    }
+
+    /// One more unit of the line's own, which wins over one of the hall's with the
+    /// same name. It is in all else as one of the hall's, and there may be as many
+    /// of them, 64, beside the hall's.
+    ///
+    /// ```
+    /// use herovinga::{Card, Kind};
+    ///
+    /// let hall = || Card::builder().unit("s", Kind::Second, 1, 0).unit("turn", Kind::Millisecond, 123, -1);
+    /// let line_7 = hall().line_unit("jaw", Kind::Millisecond, 40, 0).line_unit("turn", Kind::Millisecond, 15, 0).build()?;
+    /// assert_eq!(line_7.read_total("1jaw")?.to_string(), "+0.04");
+    /// assert_eq!(line_7.read_total("1turn")?.to_string(), "+0.015");
+    /// assert_eq!(line_7.read_total("1s")?.to_string(), "+1");
+    /// assert_eq!(hall().build()?.read_total("1turn")?.to_string(), "+0.0123");
+    /// # Ok::<(), herovinga::Refusal>(())
+    /// ```
+    pub fn line_unit(
+        mut self,
+        name: impl AsRef<[u8]>,
+        kind: Kind,
+        coefficient: i64,
+        power: i16,
+    ) -> Self {
+        self.line
+            .extend(row(name.as_ref(), kind, coefficient, power));
+        self
+    }
+
+    /// Rows of the line's unit table as they are stored, 32 bytes each.
+    pub fn line_rows(mut self, rows: &[u8]) -> Self {
+        self.line.extend_from_slice(rows);
         self
     }
 
@@ -310,11 +366,11 @@ impl CardBuilder {
 
     /// The card, or what is wrong with it (7).
     pub fn build(self) -> Result<Card, Refusal> {
-        Card::from_words(self.settings, self.table, self.numerals)
+        Card::from_words(self.settings, self.hall, self.line, self.numerals)
     }
 }
 
-/// A row of either table. A name that has no room is refused by its size,
+/// A row of any table. A name that has no room is refused by its size,
 /// whatever is left out.
 fn row(name: &[u8], kind: Kind, coefficient: i64, power: i16) -> [u8; ROW_SIZE] {
     let mut row = [0; ROW_SIZE];

@@ -1,7 +1,7 @@
 //! Timings that are read exactly.
 //!
 //! A [`Card`] says how timings are typed: switches, delimiters, conjunctions,
-//! units and numerals. Under it a text is read to a [`Length`], in whole or part
+//! the hall's units and the line's own, and numerals. Under it a text is read to a [`Length`], in whole or part
 //! by part, and refused with a number and a place ([`Refusal`]) where it cannot
 //! be. The reading is done by Herovinga's library, every function of which is
 //! proved to meet its contract; this crate lends it words and bytes.
@@ -19,6 +19,7 @@
 //!     .unit("s", Kind::Second, 1, 0)
 //!     .unit("ms", Kind::Millisecond, 1, 0)
 //!     .unit("turn", Kind::Millisecond, 123, -1)
+//!     .line_unit("jaw", Kind::Millisecond, 40, 0)
 //!     .numeral("five", 5, 0)
 //!     .build()?;
 //!
@@ -26,6 +27,7 @@
 //! assert_eq!(card.read_total("1s and 200ms")?.to_string(), "+1.2");
 //! assert_eq!(card.read_total("5ms ago, 3turn")?.to_string(), "+0.0319");
 //! assert_eq!(card.read_total("five ms")?.to_string(), "+0.005");
+//! assert_eq!(card.read_total("2jaw and five turn")?.to_string(), "+0.1415");
 //!
 //! // What cannot be read is refused with a number and a place.
 //! let refused = card.read_total("1s android").unwrap_err();

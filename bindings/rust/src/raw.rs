@@ -3,8 +3,8 @@
 //!
 //! Here a card that is not accepted and a length record that is malformed can
 //! be lent; the answer then has the refusal, 7 or 11. A card is settings, the
-//! bytes of the unit table and those of the numeral table, either of which may
-//! be empty.
+//! bytes of the hall's unit table, those of the line's and those of the numeral
+//! table, in this order, each of which may be empty.
 
 /// Switches, sets, conjunctions and default kind, at the places below.
 pub type Settings = [u64; 25];
@@ -51,8 +51,10 @@ impl Answer {
 unsafe extern "C" {
     fn herovinga_read_part(
         settings: *const u64,
-        table: *const u8,
-        table_size: usize,
+        hall: *const u8,
+        hall_size: usize,
+        line: *const u8,
+        line_size: usize,
         numerals: *const u8,
         numerals_size: usize,
         text: *const u8,
@@ -62,8 +64,10 @@ unsafe extern "C" {
     ) -> u8;
     fn herovinga_read_total(
         settings: *const u64,
-        table: *const u8,
-        table_size: usize,
+        hall: *const u8,
+        hall_size: usize,
+        line: *const u8,
+        line_size: usize,
         numerals: *const u8,
         numerals_size: usize,
         text: *const u8,
@@ -80,8 +84,10 @@ unsafe extern "C" {
     fn herovinga_add_total(
         total: *mut u64,
         settings: *const u64,
-        table: *const u8,
-        table_size: usize,
+        hall: *const u8,
+        hall_size: usize,
+        line: *const u8,
+        line_size: usize,
         numerals: *const u8,
         numerals_size: usize,
         text: *const u8,
@@ -101,7 +107,8 @@ unsafe extern "C" {
 /// Reads one part of a text from a place.
 pub fn read_part(
     settings: &Settings,
-    table: &[u8],
+    hall: &[u8],
+    line: &[u8],
     numerals: &[u8],
     text: &[u8],
     place: usize,
@@ -113,8 +120,10 @@ pub fn read_part(
     let number = unsafe {
         herovinga_read_part(
             settings.as_ptr(),
-            table.as_ptr(),
-            table.len(),
+            hall.as_ptr(),
+            hall.len(),
+            line.as_ptr(),
+            line.len(),
             numerals.as_ptr(),
             numerals.len(),
             text.as_ptr(),
@@ -127,7 +136,13 @@ pub fn read_part(
 }
 
 /// Reads a text's total.
-pub fn read_total(settings: &Settings, table: &[u8], numerals: &[u8], text: &[u8]) -> Answer {
+pub fn read_total(
+    settings: &Settings,
+    hall: &[u8],
+    line: &[u8],
+    numerals: &[u8],
+    text: &[u8],
+) -> Answer {
     let mut answer = [0; 4];
     // SAFETY: the settings are 25 words, tables and text are slices lent with
     // their sizes, all of them for the call; the four words of the answer are
@@ -135,8 +150,10 @@ pub fn read_total(settings: &Settings, table: &[u8], numerals: &[u8], text: &[u8
     let number = unsafe {
         herovinga_read_total(
             settings.as_ptr(),
-            table.as_ptr(),
-            table.len(),
+            hall.as_ptr(),
+            hall.len(),
+            line.as_ptr(),
+            line.len(),
             numerals.as_ptr(),
             numerals.len(),
             text.as_ptr(),
@@ -170,7 +187,8 @@ pub fn write(length: &Record, buffer: &mut [u8], place: usize) -> Answer {
 pub fn add_total(
     total: &mut Record,
     settings: &Settings,
-    table: &[u8],
+    hall: &[u8],
+    line: &[u8],
     numerals: &[u8],
     text: &[u8],
 ) -> Answer {
@@ -183,8 +201,10 @@ pub fn add_total(
         herovinga_add_total(
             total.as_mut_ptr(),
             settings.as_ptr(),
-            table.as_ptr(),
-            table.len(),
+            hall.as_ptr(),
+            hall.len(),
+            line.as_ptr(),
+            line.len(),
             numerals.as_ptr(),
             numerals.len(),
             text.as_ptr(),

@@ -13,14 +13,18 @@ pub struct Refusal {
     /// 1 to 16.
     pub number: u8,
     /// A place of the text or buffer, 0, or for 7 what is wrong: 65 the
-    /// delimiters, 66 the conjunctions, 67 the default kind, 64 the size of the
-    /// unit table, any lower number its first bad row; 100 the size of the
-    /// numeral table, 68 to 99 its first bad row, counted from 68.
+    /// delimiters, 66 the conjunctions, 67 the default kind; 64 the size of the
+    /// hall's unit table, any lower number its first bad row; 192 the size of the
+    /// line's, 128 to 191 its first bad row, counted from 128; 100 the size of
+    /// the numeral table, 68 to 99 its first bad row, counted from 68. It is the
+    /// first of them in this order.
     pub position: usize,
 }
 
-/// What the position of a bad numeral counts from.
+/// What the position of a bad numeral counts from, and that of a bad row of the
+/// line's.
 const FIRST_NUMERAL: usize = 68;
+const FIRST_OF_THE_LINE: usize = 128;
 
 impl Refusal {
     pub(crate) fn of(answer: &Answer) -> Self {
@@ -40,12 +44,14 @@ impl Refusal {
                 "there are more than four conjunctions, or one is not 1 to 8 ASCII letters",
             ),
             67 => out.write_str("the default kind is not one of 0 to 7"),
-            64 => out.write_str("the unit table is not 0 to 64 rows of 32 bytes"),
+            64 => out.write_str("the hall's unit table is not 0 to 64 rows of 32 bytes"),
+            192 => out.write_str("the line's unit table is not 0 to 64 rows of 32 bytes"),
             100 => out.write_str("the numeral table is not 0 to 32 rows of 32 bytes"),
             position => {
-                let (row, table) = match position.checked_sub(FIRST_NUMERAL) {
-                    Some(row) => (row, "numeral"),
-                    None => (position, "unit"),
+                let (row, table) = match position {
+                    FIRST_OF_THE_LINE.. => (position - FIRST_OF_THE_LINE, "line's unit"),
+                    FIRST_NUMERAL.. => (position - FIRST_NUMERAL, "numeral"),
+                    _ => (position, "hall's unit"),
                 };
                 write!(
                     out,

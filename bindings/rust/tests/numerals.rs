@@ -92,7 +92,8 @@ fn refused() {
         assert_eq!(shift, Length::MIN, "`{text}`");
         let answer = raw::read_total(
             card.settings(),
-            card.table(),
+            card.hall(),
+            card.line(),
             card.numerals(),
             text.as_bytes(),
         );
@@ -174,14 +175,16 @@ fn the_tables_size() {
     assert_eq!(most.read_total("bf s"), Ok(seconds(false, 31)));
     assert_eq!(build(numerals(33)), refusal(7, 100));
 
-    let (settings, table) = (*most.settings(), most.table().to_vec());
+    let with = |numerals| {
+        let (hall, line) = (most.hall().to_vec(), most.line().to_vec());
+        Card::from_words(*most.settings(), hall, line, numerals)
+    };
     for size in [1, 31, 33, 1_023, 1_025] {
         let numerals = [most.numerals(), &[0]].concat()[..size].to_vec();
-        let refused = Card::from_words(settings, table.clone(), numerals);
-        assert_eq!(refused, Err(refusal(7, 100)), "{size} bytes");
+        assert_eq!(with(numerals), Err(refusal(7, 100)), "{size} bytes");
     }
-    let whole = Card::from_words(settings, table, most.numerals().to_vec());
-    assert_eq!(whole, Ok(most));
+    let whole = with(most.numerals().to_vec());
+    assert_eq!(whole.as_ref(), Ok(&most));
 }
 
 #[test]
@@ -210,18 +213,22 @@ fn a_kind_that_is_no_second() {
     for kind in (0..=u8::MAX).filter(|kind| *kind != 3) {
         let mut numerals = card.numerals().to_vec();
         numerals[2 * 32 + 17] = kind;
-        let refused = Card::from_words(*card.settings(), card.table().to_vec(), numerals);
+        let hall = card.hall().to_vec();
+        let refused = Card::from_words(*card.settings(), hall, Vec::new(), numerals);
         assert_eq!(refused, Err(refusal(7, 70)), "kind {kind}");
     }
 }
 
-/// Settings and units are looked at first, then the size, then the rows.
+/// Settings and units are looked at first, the hall's and the line's, then the
+/// size, then the rows.
 #[test]
 fn the_first_that_is_wrong() {
     let numerals = |card: CardBuilder| (0..33).fold(card, |card, _| card.numeral("1", 1, 0));
     assert_eq!(build(numerals(hall().outer("."))), refusal(7, 65));
     let twice = hall().unit("s", Kind::Second, 1, 0);
     assert_eq!(build(numerals(twice)), refusal(7, 3));
+    let of_the_line = hall().line_unit("1", Kind::Second, 1, 0);
+    assert_eq!(build(numerals(of_the_line)), refusal(7, 128));
     assert_eq!(build(numerals(hall())), refusal(7, 100));
     assert_eq!(build(hall().numeral("1", 1, 0)), refusal(7, 68));
 }

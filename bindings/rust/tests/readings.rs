@@ -61,7 +61,8 @@ fn a_totals_position_is_the_texts_size() {
     for (text, wanted) in readings() {
         let answer = raw::read_total(
             card.settings(),
-            card.table(),
+            card.hall(),
+            card.line(),
             card.numerals(),
             text.as_bytes(),
         );
@@ -80,7 +81,8 @@ fn the_line_programs_lines() {
     let lines = ["61.7ms", "1.", ".", "2s ago"].map(|text| {
         let answer = raw::read_total(
             card.settings(),
-            card.table(),
+            card.hall(),
+            card.line(),
             card.numerals(),
             text.as_bytes(),
         );

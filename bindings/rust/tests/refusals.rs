@@ -94,10 +94,11 @@ fn conjunctions() {
 fn the_default_kind() {
     let mut settings = *Card::a().settings();
     settings[raw::DEFAULT_KIND] = 8;
-    let refused = Card::from_words(settings, Vec::new(), Vec::new());
+    let refused = Card::from_words(settings, Vec::new(), Vec::new(), Vec::new());
     assert_eq!(refused, Err(refusal(7, 67)));
     settings[raw::DEFAULT_KIND] = 7;
-    let card = Card::from_words(settings, Vec::new(), Vec::new()).expect("the card is accepted");
+    let card = Card::from_words(settings, Vec::new(), Vec::new(), Vec::new())
+        .expect("the card is accepted");
     assert_eq!(card.read_total("1").map(Length::seconds), Ok(604_800));
 }
 
@@ -185,7 +186,8 @@ fn malformed_records() {
         let added = raw::add_total(
             &mut total,
             card.settings(),
-            card.table(),
+            card.hall(),
+            card.line(),
             card.numerals(),
             b"1",
         );
@@ -233,10 +235,29 @@ fn sentences() {
             "there are more than four conjunctions, or one is not 1 to 8 ASCII letters",
         ),
         ((7, 67), "the default kind is not one of 0 to 7"),
-        ((7, 64), "the unit table is not 0 to 64 rows of 32 bytes"),
+        (
+            (7, 64),
+            "the hall's unit table is not 0 to 64 rows of 32 bytes",
+        ),
         (
             (7, 3),
-            "row 3 of the unit table has a name, kind or multiplier that is not accepted",
+            "row 3 of the hall's unit table has a name, kind or multiplier that is not accepted",
+        ),
+        (
+            (7, 63),
+            "row 63 of the hall's unit table has a name, kind or multiplier that is not accepted",
+        ),
+        (
+            (7, 192),
+            "the line's unit table is not 0 to 64 rows of 32 bytes",
+        ),
+        (
+            (7, 128),
+            "row 0 of the line's unit table has a name, kind or multiplier that is not accepted",
+        ),
+        (
+            (7, 191),
+            "row 63 of the line's unit table has a name, kind or multiplier that is not accepted",
         ),
         (
             (7, 100),

@@ -22,7 +22,10 @@ pub fn done(position: usize, length: Length) -> Answer
     }
 }
 
-// The position of a bad numeral is its row and this, behind those of the unit table and of the settings.
+// The position of a bad row of the line's table is its row and this.
+const FIRST_LINE_ROW: usize = 128;
+
+// The position of a bad numeral is its row and this, behind those of the hall's table and of the settings.
 const FIRST_NUMERAL: usize = 68;
 
 // A number that is handed back, and its position.
@@ -57,6 +60,8 @@ fn number_and_position(cause: Refusal) -> Numbered
         Refusal::DefaultKind => Numbered(7, 67),
         Refusal::TableSize => Numbered(7, 64),
         Refusal::BadRow(row) => Numbered(7, row),
+        Refusal::LineSize => Numbered(7, 192),
+        Refusal::BadLineRow(row) => Numbered(7, FIRST_LINE_ROW + row as usize),
         Refusal::NumeralsSize => Numbered(7, 100),
         Refusal::BadNumeral(row) => Numbered(7, FIRST_NUMERAL + row as usize),
         Refusal::TextTooLong => Numbered(8, 4_096),

@@ -5,12 +5,16 @@ use Prim.Native.Nat.{ℕ}
 use lib.Dec.{eqb}
 use Rattle.rules.specs.declared.ByteSet.{ByteSet}
 use Rattle.rules.specs.declared.Settings.{Settings}
+use Rattle.rules.specs.declared.Refusal.{Refusal}
 use Rattle.rules.specs.Common.{between, all}
-use Rattle.rules.specs.SettingsAndUnitTable.{last-kind, second-kind, name-room, row, name-size, name, after-name, kind, led-by-e, row-formed}
+use Rattle.rules.specs.NumbersHandedBack.{Outcome, got, refused, _>>_, unless}
+use Rattle.rules.specs.SettingsAndUnitTable.{last-kind, second-kind, name-room, row, name-size, name, after-name, kind, led-by-e, row-formed, rows, whole-rows, rows-check}
 use Rattle.settings.specs.Sets.{bytes-of, either, passes}
 use Rattle.card.specs.declared.table.Further.{Further}
 use Rattle.card.specs.declared.table.Further.the-variants.{Nothing, NotLedByE, AsciiSeconds}
 use Rattle.card.specs.declared.table.RowRule.{RowRule}
+use Rattle.card.specs.declared.table.RowsFound.{RowsFound}
+use Rattle.card.specs.declared.table.RowsFound.the-variants.{Good, WrongSize, Bad}
 
 -- a name of 1 to 16 bytes, and zeros after it
 unfoldable pub padded : List ℕ → Bool
@@ -41,3 +45,13 @@ asked-further AsciiSeconds r = eqb (kind r) second-kind && all (between 0 127) (
 unfoldable pub ruled : RowRule → List ℕ → ℕ → Bool
 ruled rule table i =
     row-formed (between 0 last-kind) (passes (bytes-of (rule .set)) false) table i && asked-further (rule .further) (row table i)
+
+-- what was found, said of a table
+abbrev pub said : Refusal → (ℕ → Refusal) → RowsFound → Outcome (Unit {0})
+said size bad Good = got tt
+said size bad WrongSize = refused size
+said size bad (Bad i) = refused (bad i)
+
+-- a table's size, and then its rows
+abbrev pub tabled : Refusal → ℕ → (ℕ → Bool) → (ℕ → Refusal) → List ℕ → Outcome (Unit {0})
+tabled size most test bad table = unless size (whole-rows most table) >> rows-check test bad 0 (rows table)

@@ -6,13 +6,14 @@ ghost use lib.Dec.{eqb};
 ghost use lib.ListN.{length, drop};
 ghost use mathlib.Core.List.{List};
 ghost use Rattle.rules.specs.Common.{all, between, same};
+ghost use Rattle.rules.specs.declared.Refusal.{Refusal};
 ghost use Rattle.rules.specs.NumbersHandedBack.{got};
 ghost use Rattle.rules.specs.SettingsAsWords.{settings-of, card-of};
-ghost use Rattle.rules.specs.SettingsAndUnitTable.{last-kind, settings-check, row-size, rows, row, name, named, led-by-e, e-may-lead, row-formed, row-accepted, numeral-accepted, table-check, numerals-check, card-check};
+ghost use Rattle.rules.specs.SettingsAndUnitTable.{last-kind, settings-check, row-size, rows, row, name, named, led-by-e, e-may-lead, row-formed, most-rows, row-accepted, numeral-accepted, table-check, line-check, numerals-check, card-check};
 ghost use Rattle.settings.specs.Outcomes.{outcome};
 ghost use Rattle.rules.specs.Laws.Lists.{Bytes};
 ghost use Rattle.settings.specs.Sets.{bytes-of, passes};
-ghost use Rattle.card.specs.Fields.{padded, unnameable, asked-further, ruled};
+ghost use Rattle.card.specs.Fields.{padded, unnameable, asked-further, ruled, said, tabled};
 ghost use Rattle.card.specs.Laws.Table.{first-bad};
 use rows::fields::KIND_AT;
 use rows::fields::NAME_AT;
@@ -263,6 +264,32 @@ fn first_bad(rule: RowRule, table: &[u8]) -> usize
     i
 }
 
+// What the check of a table finds: nothing wrong, a size that is no number of rows or too many of them, or the first bad row.
+pub enum RowsFound {
+    Good,
+    WrongSize,
+    Bad(u8),
+}
+
+// At most so many rows, all of them whole, and each by the rule. A byte counts the rows.
+fn rows_found(most: usize, rule: RowRule, table: &[u8]) -> RowsFound
+    requires { ⌜ most ≤ most-rows ⌝ }
+    ensures { λ r. ⌜ ((size : Refusal) (bad : ℕ → Refusal) → said size bad r ≡ tabled size most (ruled rule (now (table .entry))) bad (now (table .entry))) ⌝ }
+{
+    if table.len() % ROW_SIZE != 0 {
+        return RowsFound::WrongSize;
+    }
+    let count = table.len() / ROW_SIZE;
+    if count > most {
+        return RowsFound::WrongSize;
+    }
+    let bad = first_bad(rule, table);
+    if bad < count {
+        return RowsFound::Bad(bad as u8);
+    }
+    RowsFound::Good
+}
+
 // What is asked of a row of units.
 fn unit_rule(settings: &[u64; 25]) -> RowRule
     requires { ⌜ settings-check (settings-of (now settings)) ≡ got tt ⌝ }
@@ -278,23 +305,31 @@ fn unit_rule(settings: &[u64; 25]) -> RowRule
     }
 }
 
-// Under accepted settings.
-fn table_check(settings: &[u64; 25], table: &[u8]) -> Checked
+// The hall's table, under accepted settings.
+fn table_check(settings: &[u64; 25], hall: &[u8]) -> Checked
     requires { ⌜ settings-check (settings-of (now settings)) ≡ got tt ⌝ }
-    ensures { λ r. ⌜ outcome r ≡ table-check (settings-of (now (settings .entry))) (now (table .entry)) ⌝ }
+    ensures { λ r. ⌜ outcome r ≡ table-check (settings-of (now (settings .entry))) (now (hall .entry)) ⌝ }
 {
-    if table.len() % ROW_SIZE != 0 {
-        return Checked::Refused(Refusal::TableSize);
+    match rows_found(MOST_ROWS, unit_rule(settings), hall) {
+        RowsFound::Good => Checked::Accepted,
+        RowsFound::WrongSize => Checked::Refused(Refusal::TableSize),
+        RowsFound::Bad(row) => Checked::Refused(Refusal::BadRow(row as usize)),
     }
-    let count = table.len() / ROW_SIZE;
-    if count > MOST_ROWS {
-        return Checked::Refused(Refusal::TableSize);
+}
+
+// The line's table. None is accepted at once: most cards have none.
+fn line_check(settings: &[u64; 25], line: &[u8]) -> Checked
+    requires { ⌜ settings-check (settings-of (now settings)) ≡ got tt ⌝ }
+    ensures { λ r. ⌜ outcome r ≡ line-check (settings-of (now (settings .entry))) (now (line .entry)) ⌝ }
+{
+    if line.len() == 0 {
+        return Checked::Accepted;
     }
-    let bad = first_bad(unit_rule(settings), table);
-    if bad < count {
-        return Checked::Refused(Refusal::BadRow(bad));
+    match rows_found(MOST_ROWS, unit_rule(settings), line) {
+        RowsFound::Good => Checked::Accepted,
+        RowsFound::WrongSize => Checked::Refused(Refusal::LineSize),
+        RowsFound::Bad(row) => Checked::Refused(Refusal::BadLineRow(row)),
     }
-    Checked::Accepted
 }
 
 // What is asked of a numeral.
@@ -310,38 +345,35 @@ fn numeral_rule() -> RowRule
     }
 }
 
-// No numerals are accepted at once: most cards have none.
+// No numerals are accepted at once too.
 fn numerals_check(numerals: &[u8]) -> Checked
     ensures { λ r. ⌜ outcome r ≡ numerals-check (now (numerals .entry)) ⌝ }
 {
     if numerals.len() == 0 {
         return Checked::Accepted;
     }
-    if numerals.len() % ROW_SIZE != 0 {
-        return Checked::Refused(Refusal::NumeralsSize);
+    match rows_found(MOST_NUMERALS, numeral_rule(), numerals) {
+        RowsFound::Good => Checked::Accepted,
+        RowsFound::WrongSize => Checked::Refused(Refusal::NumeralsSize),
+        RowsFound::Bad(row) => Checked::Refused(Refusal::BadNumeral(row)),
     }
-    let count = numerals.len() / ROW_SIZE;
-    if count > MOST_NUMERALS {
-        return Checked::Refused(Refusal::NumeralsSize);
-    }
-    let bad = first_bad(numeral_rule(), numerals);
-    if bad < count {
-        return Checked::Refused(Refusal::BadNumeral(bad as u8));
-    }
-    Checked::Accepted
 }
 
-// Settings first, then the unit table, then the numerals.
-pub fn card_check(settings: &[u64; 25], table: &[u8], numerals: &[u8]) -> Checked
-    ensures { λ r. ⌜ outcome r ≡ card-check (card-of (now (settings .entry)) (now (table .entry)) (now (numerals .entry))) ⌝ }
+// Settings first, then the hall's table, then the line's, then the numerals.
+pub fn card_check(settings: &[u64; 25], hall: &[u8], line: &[u8], numerals: &[u8]) -> Checked
+    ensures { λ r. ⌜ outcome r ≡ card-check (card-of (now (settings .entry)) (now (hall .entry)) (now (line .entry)) (now (numerals .entry))) ⌝ }
 {
     let checked = settings_check(settings);
     let Checked::Accepted = checked else {
         return checked;
     };
-    let rows = table_check(settings, table);
-    let Checked::Accepted = rows else {
-        return rows;
+    let of_the_hall = table_check(settings, hall);
+    let Checked::Accepted = of_the_hall else {
+        return of_the_hall;
+    };
+    let of_the_line = line_check(settings, line);
+    let Checked::Accepted = of_the_line else {
+        return of_the_line;
     };
     numerals_check(numerals)
 }

@@ -19,13 +19,19 @@ const ROUNDS: usize = 9;
 // More cards than any list has, since a proved loop has to end.
 const MOST_CARDS: u64 = 1_000_000;
 
-fn check_often(settings: &[u64; 25], table: &[u8], numerals: &[u8], rounds: u32) -> Checked {
+fn check_often<'a>(
+    settings: &[u64; 25],
+    hall: &'a [u8],
+    line: &'a [u8],
+    numerals: &[u8],
+    rounds: u32,
+) -> Checked {
     let mut left = rounds;
     while left > 1 {
-        card_check(settings, table, numerals);
+        card_check(settings, hall, line, numerals);
         left -= 1;
     }
-    card_check(settings, table, numerals)
+    card_check(settings, hall, line, numerals)
 }
 
 fn print(checked: Checked) {
@@ -45,14 +51,16 @@ fn print(checked: Checked) {
 
 // One card read, checked and printed; false where the list ends.
 fn check_next(rounds: u32) -> bool {
-    let mut table = [0u8; MOST_BYTES];
+    let mut hall = [0u8; MOST_BYTES];
+    let mut line = [0u8; MOST_BYTES];
     let mut numerals = [0u8; MOST_BYTES];
-    let Next::Card(card) = next_card(&mut table, &mut numerals) else {
+    let Next::Card(card) = next_card(&mut hall, &mut line, &mut numerals) else {
         return false;
     };
     print(check_often(
         &words_of(card.settings),
-        first_bytes(&table, card.table_size),
+        first_bytes(&hall, card.hall_size),
+        first_bytes(&line, card.line_size),
         first_bytes(&numerals, card.numerals_size),
         rounds,
     ));
@@ -72,10 +80,10 @@ fn check_all(rounds: u32) -> u64 {
 }
 
 fn main() {
-    let mut line = [0u8; ROUNDS];
-    if !read_line(&mut line) {
+    let mut head = [0u8; ROUNDS];
+    if !read_line(&mut head) {
         return;
     }
-    io::print_decimal(STDOUT_FILENO, check_all(half_at(&line, 0)));
+    io::print_decimal(STDOUT_FILENO, check_all(half_at(&head, 0)));
     io::write_all(STDOUT_FILENO, b" cards\n");
 }

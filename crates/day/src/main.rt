@@ -60,46 +60,55 @@ fn print_added(answer: Answer, total: Length, rounds: u32) {
 }
 
 // The first bytes of a buffer added to the total, and printed.
-fn add_text(
+fn add_text<'a>(
     total: Length,
     settings: &[u64; 25],
-    table: &[u8],
+    hall: &'a [u8],
+    line: &'a [u8],
     numerals: &[u8],
     buffer: &[u8],
     size: usize,
     rounds: u32,
 ) -> Length {
-    let shifted = shifted_total(total, settings, table, numerals, first_bytes(buffer, size));
+    let shifted = shifted_total(
+        total,
+        settings,
+        hall,
+        line,
+        numerals,
+        first_bytes(buffer, size),
+    );
     print_added(shifted.answer, shifted.total, rounds);
     shifted.total
 }
 
 // The next text, put into the buffer and added.
-fn add_next(
+fn add_next<'a>(
     total: Length,
     settings: &[u64; 25],
-    table: &[u8],
+    hall: &'a [u8],
+    line: &'a [u8],
     numerals: &[u8],
     buffer: &mut [u8],
     rounds: u32,
 ) -> Added {
-    let mut line = [0u8; TEXT];
-    let Text::Bytes(size) = next_text(&mut line, 0, buffer) else {
+    let mut head = [0u8; TEXT];
+    let Text::Bytes(size) = next_text(&mut head, 0, buffer) else {
         return Added { more: false, total };
     };
     Added {
         more: true,
-        total: add_text(total, settings, table, numerals, buffer, size, rounds),
+        total: add_text(total, settings, hall, line, numerals, buffer, size, rounds),
     }
 }
 
 // Every text of the list.
-fn add_all(settings: &[u64; 25], table: &[u8], numerals: &[u8], rounds: u32) {
+fn add_all<'a>(settings: &[u64; 25], hall: &'a [u8], line: &'a [u8], numerals: &[u8], rounds: u32) {
     let mut buffer = [0u8; ROOM];
     let mut total = zero();
     let mut left = MOST_TEXTS;
     while left > 0 {
-        let added = add_next(total, settings, table, numerals, &mut buffer, rounds);
+        let added = add_next(total, settings, hall, line, numerals, &mut buffer, rounds);
         if !added.more {
             return;
         }
@@ -109,19 +118,21 @@ fn add_all(settings: &[u64; 25], table: &[u8], numerals: &[u8], rounds: u32) {
 }
 
 fn main() {
-    let mut line = [0u8; ROUNDS];
-    if !read_line(&mut line) {
+    let mut head = [0u8; ROUNDS];
+    if !read_line(&mut head) {
         return;
     }
-    let mut table = [0u8; MOST_BYTES];
+    let mut hall = [0u8; MOST_BYTES];
+    let mut line = [0u8; MOST_BYTES];
     let mut numerals = [0u8; MOST_BYTES];
-    let Next::Card(card) = next_card(&mut table, &mut numerals) else {
+    let Next::Card(card) = next_card(&mut hall, &mut line, &mut numerals) else {
         return;
     };
     add_all(
         &words_of(card.settings),
-        first_bytes(&table, card.table_size),
+        first_bytes(&hall, card.hall_size),
+        first_bytes(&line, card.line_size),
         first_bytes(&numerals, card.numerals_size),
-        half_at(&line, 0),
+        half_at(&head, 0),
     );
 }

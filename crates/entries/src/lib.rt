@@ -16,28 +16,35 @@ use rules::ShiftedTotal;
 use settings::Checked;
 
 // One part of a text, from a place on.
-pub fn read_part(
+pub fn read_part<'a>(
     settings: &[u64; 25],
-    table: &[u8],
+    hall: &'a [u8],
+    line: &'a [u8],
     numerals: &[u8],
     text: &[u8],
     place: usize,
 ) -> Answer
-    ensures { λ r. ⌜ r ≡ part-answer (card-of (now (settings .entry)) (now (table .entry)) (now (numerals .entry))) (now (text .entry)) place ⌝ }
+    ensures { λ r. ⌜ r ≡ part-answer (card-of (now (settings .entry)) (now (hall .entry)) (now (line .entry)) (now (numerals .entry))) (now (text .entry)) place ⌝ }
 {
-    match card_check(settings, table, numerals) {
+    match card_check(settings, hall, line, numerals) {
         Checked::Refused(cause) => refusal(cause),
-        Checked::Accepted => read_part_checked(settings, table, numerals, text, place),
+        Checked::Accepted => read_part_checked(settings, hall, line, numerals, text, place),
     }
 }
 
 // A text's total.
-pub fn read_total(settings: &[u64; 25], table: &[u8], numerals: &[u8], text: &[u8]) -> Answer
-    ensures { λ r. ⌜ r ≡ total-answer (card-of (now (settings .entry)) (now (table .entry)) (now (numerals .entry))) (now (text .entry)) ⌝ }
+pub fn read_total<'a>(
+    settings: &[u64; 25],
+    hall: &'a [u8],
+    line: &'a [u8],
+    numerals: &[u8],
+    text: &[u8],
+) -> Answer
+    ensures { λ r. ⌜ r ≡ total-answer (card-of (now (settings .entry)) (now (hall .entry)) (now (line .entry)) (now (numerals .entry))) (now (text .entry)) ⌝ }
 {
-    match card_check(settings, table, numerals) {
+    match card_check(settings, hall, line, numerals) {
         Checked::Refused(cause) => refusal(cause),
-        Checked::Accepted => read_total_checked(settings, table, numerals, text),
+        Checked::Accepted => read_total_checked(settings, hall, line, numerals, text),
     }
 }
 
@@ -50,32 +57,34 @@ pub fn write_length(length: Length, buffer: &mut [u8], place: usize) -> Answer
 }
 
 // The shift total by value: what is handed back, and what a lent record has to hold afterwards.
-pub fn shifted_total(
+pub fn shifted_total<'a>(
     total: Length,
     settings: &[u64; 25],
-    table: &[u8],
+    hall: &'a [u8],
+    line: &'a [u8],
     numerals: &[u8],
     text: &[u8],
 ) -> ShiftedTotal
-    ensures { λ r. ⌜ (r .answer ≡ shift-answer total (card-of (now (settings .entry)) (now (table .entry)) (now (numerals .entry))) (now (text .entry))) × (r .total ≡ shifted-record total (card-of (now (settings .entry)) (now (table .entry)) (now (numerals .entry))) (now (text .entry))) ⌝ }
+    ensures { λ r. ⌜ (r .answer ≡ shift-answer total (card-of (now (settings .entry)) (now (hall .entry)) (now (line .entry)) (now (numerals .entry))) (now (text .entry))) × (r .total ≡ shifted-record total (card-of (now (settings .entry)) (now (hall .entry)) (now (line .entry)) (now (numerals .entry))) (now (text .entry))) ⌝ }
 {
-    match card_check(settings, table, numerals) {
+    match card_check(settings, hall, line, numerals) {
         Checked::Refused(cause) => kept(total, cause),
-        Checked::Accepted => shifted_total_checked(total, settings, table, numerals, text),
+        Checked::Accepted => shifted_total_checked(total, settings, hall, line, numerals, text),
     }
 }
 
 // The shift total: the record is lent, and added to in place. No other function takes a loan of a struct.
-pub fn add_total(
+pub fn add_total<'a>(
     total: &mut Length,
     settings: &[u64; 25],
-    table: &[u8],
+    hall: &'a [u8],
+    line: &'a [u8],
     numerals: &[u8],
     text: &[u8],
 ) -> Answer
-    ensures { λ r. ⌜ (r ≡ shift-answer (now (total .entry)) (card-of (now (settings .entry)) (now (table .entry)) (now (numerals .entry))) (now (text .entry))) × (now (total .exit) ≡ shifted-record (now (total .entry)) (card-of (now (settings .entry)) (now (table .entry)) (now (numerals .entry))) (now (text .entry))) ⌝ }
+    ensures { λ r. ⌜ (r ≡ shift-answer (now (total .entry)) (card-of (now (settings .entry)) (now (hall .entry)) (now (line .entry)) (now (numerals .entry))) (now (text .entry))) × (now (total .exit) ≡ shifted-record (now (total .entry)) (card-of (now (settings .entry)) (now (hall .entry)) (now (line .entry)) (now (numerals .entry))) (now (text .entry))) ⌝ }
 {
-    let shifted = shifted_total(*total, settings, table, numerals, text);
+    let shifted = shifted_total(*total, settings, hall, line, numerals, text);
     *total = shifted.total;
     shifted.answer
 }

@@ -10,7 +10,7 @@ use lib.ListN.{length}
 use Rattle.rules.specs.declared.Answer.{Answer}
 use Rattle.rules.specs.declared.Length.{Length}
 use Rattle.rules.specs.declared.Refusal.{Refusal}
-use Rattle.rules.specs.declared.Refusal.the-variants.{Nothing, SignEnds, DelimiterEnds, FractionOff, FractionEmpty, ExponentOff, ExponentByte, ExponentEnds, ExponentAbove, ExponentBelow, InfinityByte, InfinityEnds, InfinityGoesOn, ConjunctionEnds, ConjunctionGoesOn, NegativeForbidden, NoNumber, NoUnit, OutOfRange, Delimiters, Conjunctions, DefaultKind, TableSize, BadRow, NumeralsSize, BadNumeral, TextTooLong, NoRoom, Beyond, Malformed, NotIso, YearOrMonth, TooLarge}
+use Rattle.rules.specs.declared.Refusal.the-variants.{Nothing, SignEnds, DelimiterEnds, FractionOff, FractionEmpty, ExponentOff, ExponentByte, ExponentEnds, ExponentAbove, ExponentBelow, InfinityByte, InfinityEnds, InfinityGoesOn, ConjunctionEnds, ConjunctionGoesOn, NegativeForbidden, NoNumber, NoUnit, OutOfRange, Delimiters, Conjunctions, DefaultKind, TableSize, BadRow, LineSize, BadLineRow, NumeralsSize, BadNumeral, TextTooLong, NoRoom, Beyond, Malformed, NotIso, YearOrMonth, TooLarge}
 use Rattle.rules.specs.Common.{if_then_else_, ascii}
 use Rattle.rules.specs.ThePartOfTheCrateWeTake.{longest-text, zero-length}
 use Rattle.rules.specs.NumbersHandedBack.{Outcome, got, refused, number, position, done, refusal, answered}
@@ -49,6 +49,8 @@ position-before Conjunctions = 66
 position-before DefaultKind = 67
 position-before TableSize = 64
 position-before (BadRow i) = i
+position-before LineSize = 128 + 64
+position-before (BadLineRow i) = 128 + i
 position-before NumeralsSize = 100
 position-before (BadNumeral i) = 68 + i
 position-before TextTooLong = longest-text
@@ -109,6 +111,8 @@ position-folded Conjunctions = refl
 position-folded DefaultKind = refl
 position-folded TableSize = refl
 position-folded (BadRow i) = refl
+position-folded LineSize = refl
+position-folded (BadLineRow i) = refl
 position-folded NumeralsSize = refl
 position-folded (BadNumeral i) = refl
 position-folded TextTooLong = refl

@@ -14,12 +14,11 @@ use Rattle.rules.specs.declared.Settings.{Settings}
 use Rattle.rules.specs.declared.Scaled.{Scaled}
 use Rattle.rules.specs.declared.DurationRepr.{DurationRepr}
 use Rattle.rules.specs.declared.Repr.the-variants.{Typed}
-use Rattle.rules.specs.declared.Found.the-variants.{Row}
 use Rattle.rules.specs.Common.{if_then_else_, ascii, between, all, runs, ends, starts, sees, run}
 use Rattle.rules.specs.ThePartOfTheCrateWeTake.{zero-length, size}
 use Rattle.rules.specs.NumbersHandedBack.{got, _>>=_}
-use Rattle.rules.specs.SettingsAndUnitTable.{DIGIT, SIGN, POINT, OTHER, class, is, is-next-duration, lower, holds, empty, may-name, settings-check, row-size, rows, row, name, product, led-by-e, e-may-lead, can-be-typed, row-right, Card, lookup}
-use Rattle.rules.specs.ReadingOnePart.{same-letter, delimiters, gap, sign-step, fraction-step, number-step, exponent-limit, exponent-digits, exponent-number, exponent-step, in-stretch, ago-step, find-unit, unit-found, unit-step, finite-part, unsigned-part, part}
+use Rattle.rules.specs.SettingsAndUnitTable.{DIGIT, SIGN, POINT, OTHER, class, is, is-next-duration, lower, holds, empty, may-name, settings-check, row-size, rows, row, name, product, led-by-e, e-may-lead, can-be-typed, row-right, Card, Holder, stands, find-row}
+use Rattle.rules.specs.ReadingOnePart.{same-letter, delimiters, gap, sign-step, fraction-step, number-step, exponent-limit, exponent-digits, exponent-number, exponent-step, in-stretch, ago-step, find-unit, unit-step, finite-part, unsigned-part, part}
 use Rattle.rules.specs.Evaluation.{spelled, digits-of, attos, nanos, length-of, evaluate, evaluated, allowed, part-reading, sum, sum-all, parts, total}
 use Rattle.rules.specs.Laws.Choices.{or-neither, if-either, and-both, and-left, and-right, all-first, all-weaken}
 use Rattle.rules.specs.Laws.Tests.{and-false}
@@ -35,11 +34,13 @@ use Rattle.card.specs.Laws.Accepted.{own-name}
 use Rattle.rows.specs.Laws.Rows.{length-row}
 use Rattle.card.specs.Laws.Names.{name-some, size-most, name-bytes}
 use Rattle.findable.specs.TheTextForARow.{first-held, joint, text-for}
-use Rattle.findable.specs.WhereAPartFindsItsUnit.{number-unit, unsigned-unit, unit-of, counted, units, among, among-got, finds}
+use Rattle.findable.specs.WhereAPartFindsItsUnit.{unit-stands, number-unit, unsigned-unit, unit-of, counted, units, among, among-got, finds}
+use Rattle.findable.specs.OneOfTheTwoTables.{row-held, Whose, table-of, row-in, held-there, Unhidden, stands-there, holder-same}
+use Rattle.findable.specs.TheReadersOwn.{a-row}
 
--- the text can be read, comes to zero, and finds row i
-abbrev pub Reads : Card → ℕ → List ℕ → Type 0
-Reads card i text = (total card text ≡ got zero-length) × (finds card text i ≡ true)
+-- the text can be read, comes to zero, and a part of it finds its unit there
+abbrev pub Reads : Card → Holder → List ℕ → Type 0
+Reads card at text = (total card text ≡ got zero-length) × (finds card text at ≡ true)
 
 -- ---- bytes of a name
 
@@ -126,8 +127,9 @@ module _ (card : Card) where
   abbrev s : Settings
   s = card .settings
 
-  abbrev table : List ℕ
-  table = card .units
+  -- a name, and the row that is found by it
+  abbrev FoundAt : List ℕ → Holder → Type 0
+  FoundAt named at = (stands (card .hall) (card .line) named ≡ at) × (length (row-held card at) ≡ row-size)
 
   -- ---- a text of zero and a name: what stands after the zero is no digit and no point, and an exponent and a gap may come before the name
 
@@ -150,16 +152,17 @@ module _ (card : Card) where
     unfolding number-step fraction-step sees all if_then_else_
     the-zero = rw (run-one (eqb 48) refl (no-zero rest no-digit), run-one (is DIGIT) (and-both (fixed .0) refl) no-digit, no-point)
 
-    -- up to the name at the place nothing is refused, and the lookup finds the name at row i
+    -- up to the name at the place nothing is refused, and the lookup finds the name
     module _
-        (i place : ℕ)
+        (at : Holder)
+        (place : ℕ)
         (scaled : Scaled)
         (typed-exponent : exponent-step s text 1 ≡ got scaled)
         (typed-gap : gap (s .«before_unit») s text (scaled .next) ≡ got place)
         (named : List ℕ)
         (here : drop place text ≡ named)
         (stretches : all (in-stretch s) named ≡ true)
-        (found : lookup table named ≡ Row i)
+        (found : FoundAt named at)
       where
         abbrev end : ℕ
         end = place + length named
@@ -178,13 +181,17 @@ module _ (card : Card) where
         unfolding starts
         to-end = run-over text place named [] at-place (in-stretch s) stretches refl
 
-        the-name : find-unit card text place ≡ Row i
-        unfolding find-unit
-        the-name = rw (to-end, stretch text place named [] at-place, found)
+        the-name : unit-stands card text place ≡ at
+        unfolding unit-stands
+        the-name = rw (to-end, stretch text place named [] at-place, found .0)
 
-        the-unit : unit-step card text place ≡ got (record { multiplier = product (row table i); next = end })
-        unfolding unit-step unit-found ago-step if_then_else_
-        the-unit = rw (the-name, to-end, no-more (holds (s .inner)), and-false (s .ago))
+        the-row : find-unit card text place ≡ row-held card at
+        unfolding find-unit find-row unit-stands
+        the-row = ap (row-held card) the-name
+
+        the-unit : unit-step card text place ≡ got (record { multiplier = product (row-held card at); next = end })
+        unfolding unit-step ago-step if_then_else_
+        the-unit = rw (the-row, a-row card text place (row-held card at) (found .1), to-end, no-more (holds (s .inner)), and-false (s .ago))
 
         abbrev repr : DurationRepr
         repr = record {
@@ -193,7 +200,7 @@ module _ (card : Card) where
           whole = record { start = 1; end = 1 };
           fract = record { start = 1; end = 1 };
           exponent = scaled .exponent;
-          multiplier = product (row table i);
+          multiplier = product (row-held card at);
         }
 
         the-number : finite-part card text false 0 ≡ got (record { repr = Typed repr; next = end })
@@ -218,7 +225,7 @@ module _ (card : Card) where
         unfolding part-reading evaluated allowed zero-length if_then_else_
         the-reading = bind-got _ the-part ∙ bind-got _ (ap got nothing)
 
-        finds-row : unit-of card text 0 ≡ got (Row i)
+        finds-row : unit-of card text 0 ≡ got at
         unfolding unit-of unsigned-unit number-unit if_then_else_
         finds-row = bind-got _ no-sign ∙ rw a-digit (bind-got _ the-zero ∙ bind-got _ typed-exponent ∙ bind-got _ typed-gap ∙ ap got the-name)
 
@@ -227,16 +234,16 @@ module _ (card : Card) where
         unfolding total parts sum-all sum size length-of zero-length if_then_else_ _>>=_
         is-read = rw (the-reading, at-end)
 
-        is-found : finds card text i ≡ true
+        is-found : finds card text at ≡ true
         unfolding finds units counted among-got among if_then_else_ _>>=_
-        is-found = rw (the-part, the-reading, finds-row, at-end, eq-eqb i i refl)
+        is-found = rw (the-part, the-reading, finds-row, at-end, holder-same at)
 
-        reads : Reads card i text
+        reads : Reads card at text
         reads = (is-read, is-found)
 
   -- ---- the three texts
 
-  module _ (b : ℕ) (m : List ℕ) (may : all (may-name s) (b ∷ m) ≡ true) (i : ℕ) (found : lookup table (b ∷ m) ≡ Row i) where
+  module _ (b : ℕ) (m : List ℕ) (may : all (may-name s) (b ∷ m) ≡ true) (at : Holder) (found : FoundAt (b ∷ m) at) where
     abbrev named : List ℕ
     named = b ∷ m
 
@@ -251,25 +258,25 @@ module _ (card : Card) where
     no-gap text place here = gap-none s text place (s .«before_unit») (sees-of text place (holds (s .inner)) here ∙ first .0)
 
     -- `0s`
-    plain : led-by-e named ≡ false → Reads card i (48 ∷ named)
+    plain : led-by-e named ≡ false → Reads card at (48 ∷ named)
     unfolding led-by-e starts sees same-letter lower between if_then_else_
     plain unled =
         let exponent = exponent-none s (48 ∷ named) 1 unled in
-        reads named (first .2) (first .4) i 1 _ exponent (no-gap (48 ∷ named) 1 refl) named refl stretches found
+        reads named (first .2) (first .4) at 1 _ exponent (no-gap (48 ∷ named) 1 refl) named refl stretches found
 
     -- `0e0eon`
-    with-exponent : s .exponents ≡ true → Reads card i (48 ∷ 101 ∷ 48 ∷ named)
+    with-exponent : s .exponents ≡ true → Reads card at (48 ∷ 101 ∷ 48 ∷ named)
     unfolding starts
-    with-exponent on = reads (101 ∷ 48 ∷ named) (fixed .2) (fixed .3) i 3 _ exponent (no-gap (48 ∷ 101 ∷ 48 ∷ named) 3 refl) named refl stretches found
+    with-exponent on = reads (101 ∷ 48 ∷ named) (fixed .2) (fixed .3) at 3 _ exponent (no-gap (48 ∷ 101 ∷ 48 ∷ named) 3 refl) named refl stretches found
       where
         exponent : exponent-step s (48 ∷ 101 ∷ 48 ∷ named) 1 ≡ got (record { exponent = record { negative = false; power = 0 }; next = 3 })
         exponent = zero-exponent s b m on (first .2)
 
     -- `0 eon`
-    with-delimiter : (d : ℕ) → class d ≡ OTHER → d < 256 → holds (s .inner) d ≡ true → s .«before_unit» ≡ true → Reads card i (48 ∷ d ∷ named)
+    with-delimiter : (d : ℕ) → class d ≡ OTHER → d < 256 → holds (s .inner) d ≡ true → s .«before_unit» ≡ true → Reads card at (48 ∷ d ∷ named)
     unfolding starts sees
     with-delimiter d other below held on =
-        reads (d ∷ named) (other-class DIGIT d (λ e. omega (arith, e)) other) (other-class POINT d (λ e. omega (arith, e)) other) i 2 _
+        reads (d ∷ named) (other-class DIGIT d (λ e. omega (arith, e)) other) (other-class POINT d (λ e. omega (arith, e)) other) at 2 _
         (exponent-none s (48 ∷ d ∷ named) 1 (other-not-e d below other)) delimiter named refl stretches found
       where
         delimiter : gap (s .«before_unit») s (48 ∷ d ∷ named) 1 ≡ got 2
@@ -277,10 +284,10 @@ module _ (card : Card) where
 
   -- ---- every name that can be typed
 
-  typed-text : settings-check s ≡ got tt → (n : List ℕ) → (n ≡ [] → ⊥) → all (may-name s) n ≡ true → can-be-typed s n ≡ true → (i : ℕ) → lookup table n ≡ Row i → Reads card i (text-for s n)
+  typed-text : settings-check s ≡ got tt → (n : List ℕ) → (n ≡ [] → ⊥) → all (may-name s) n ≡ true → can-be-typed s n ≡ true → (at : Holder) → FoundAt n at → Reads card at (text-for s n)
   unfolding text-for joint can-be-typed e-may-lead empty ascii if_then_else_
-  typed-text good [] some may typed i found = absurd (some refl)
-  typed-text good (b ∷ m) some may typed i found = go (led-by-e (b ∷ m)) (s .exponents) refl refl typed
+  typed-text good [] some may typed at found = absurd (some refl)
+  typed-text good (b ∷ m) some may typed at found = go (led-by-e (b ∷ m)) (s .exponents) refl refl typed
     where
       d : ℕ
       d = first-held (s .inner) 0 256
@@ -288,33 +295,38 @@ module _ (card : Card) where
       go :
           (led on : Bool) → led-by-e (b ∷ m) ≡ led → s .exponents ≡ on
           → (not led || (on || s .«before_unit» && not (empty (s .inner)))) ≡ true
-          → Reads card i (48 ∷ (if not led then [] else if on then ascii "e0" else d ∷ []) ++ b ∷ m)
-      go false on e f may-lead = plain b m may i found e
-      go true true e f may-lead = with-exponent b m may i found f
+          → Reads card at (48 ∷ (if not led then [] else if on then ascii "e0" else d ∷ []) ++ b ∷ m)
+      go false on e f may-lead = plain b m may at found e
+      go true true e f may-lead = with-exponent b m may at found f
       go true false e f may-lead =
           let held = held-first (s .inner) 256 0 (not-true (empty (s .inner)) (and-right (s .«before_unit») (not (empty (s .inner))) may-lead)) in
-          with-delimiter b m may i found d (delimiter-class d (inner-delimits s good d (held .1) (held .0))) (held .1) (held .0) (and-left (s .«before_unit») (not (empty (s .inner))) may-lead)
+          with-delimiter b m may at found d (delimiter-class d (inner-delimits s good d (held .1) (held .0))) (held .1) (held .0) (and-left (s .«before_unit») (not (empty (s .inner))) may-lead)
 
-  -- ---- for each row that passes document 01's tests, whatever the other rows are: if its name can be typed, there is a text that finds it
+  -- ---- for each row that passes document 01's tests, of either table and whatever the other rows are: if its name can be typed and is not hidden,
+  -- there is a text that finds it
 
-  module _ (i : ℕ) (below : i < rows table) (right : row-right s table i ≡ true) where
-    long : length (row table i) ≡ row-size
-    long = length-row table i below
+  module _ (whose : Whose) (i : ℕ) (below : i < rows (table-of whose card)) (right : row-right s (table-of whose card) i ≡ true) where
+    abbrev its-row : List ℕ
+    its-row = row (table-of whose card) i
 
-    padded-row : padded (row table i) ≡ true
-    padded-row = right-padded s table i right
+    long : length its-row ≡ row-size
+    long = length-row (table-of whose card) i below
 
-    pub row-typed : settings-check s ≡ got tt → can-be-typed s (name (row table i)) ≡ true → Reads card i (text-for s (name (row table i)))
-    row-typed good typed =
-        typed-text good (name (row table i)) (name-some (row table i) long padded-row) (right-name s table i right) typed i (own-name s table i below right)
+    padded-row : padded its-row ≡ true
+    padded-row = right-padded s (table-of whose card) i right
+
+    pub row-typed : settings-check s ≡ got tt → can-be-typed s (name its-row) ≡ true → Unhidden whose card (name its-row) → Reads card (row-in whose i) (text-for s (name its-row))
+    row-typed good typed unhidden =
+        typed-text good (name its-row) (name-some its-row long padded-row) (right-name s (table-of whose card) i right) typed (row-in whose i)
+        (stands-there whose card (name its-row) i unhidden (own-name s (table-of whose card) i below right), ap length (held-there whose card i) ∙ long)
 
     -- at most 19 bytes
-    pub text-short : length (text-for s (name (row table i))) ≤ 19
+    pub text-short : length (text-for s (name its-row)) ≤ 19
     unfolding text-for joint ascii
     text-short =
-        let at-most = size-most (row table i) long padded-row in
-        if-either (λ l. suc (length (l ++ name (row table i))) ≤ 19) (not (led-by-e (name (row table i)))) {x = []} {y = _}
-        (λ _. omega (arith, at-most, name-bytes (row table i) long padded-row))
+        let at-most = size-most its-row long padded-row in
+        if-either (λ l. suc (length (l ++ name its-row)) ≤ 19) (not (led-by-e (name its-row))) {x = []} {y = _}
+        (λ _. omega (arith, at-most, name-bytes its-row long padded-row))
         (λ _.
-        if-either (λ l. suc (length (l ++ name (row table i))) ≤ 19) (s .exponents) {x = 101 ∷ 48 ∷ []} {y = first-held (s .inner) 0 256 ∷ []}
-        (λ _. omega (arith, at-most, name-bytes (row table i) long padded-row)) (λ _. omega (arith, at-most, name-bytes (row table i) long padded-row)))
+        if-either (λ l. suc (length (l ++ name its-row)) ≤ 19) (s .exponents) {x = 101 ∷ 48 ∷ []} {y = first-held (s .inner) 0 256 ∷ []}
+        (λ _. omega (arith, at-most, name-bytes its-row long padded-row)) (λ _. omega (arith, at-most, name-bytes its-row long padded-row)))

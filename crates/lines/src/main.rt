@@ -1,5 +1,5 @@
 // The line program: texts from standard input, one a line, and for each a line with number, position, sign, seconds and nanoseconds
-// of its total under card A, without numerals. What a line is and what is printed for it is proved in `sheets`; here bytes are moved.
+// of its total under card A, without a table of the line's and without numerals. What a line is and what is printed for it is proved in `sheets`; here bytes are moved.
 ghost use mathlib.Core.Path.{_≡_};
 ghost use mathlib.Core.List.{[]};
 ghost use Rattle.rules.specs.NumbersHandedBack.{got};
@@ -35,11 +35,11 @@ enum Turn {
 
 // The lines of a chunk that have their newline, answered and written.
 fn answer_chunk(settings: &[u64; 25], table: &[u8], chunk: &[u8], out: &mut [u8]) -> Answered
-    requires { ⌜ card-check (card-of (now settings) (now table) []) ≡ got tt ⌝ }
+    requires { ⌜ card-check (card-of (now settings) (now table) [] []) ≡ got tt ⌝ }
 {
     let mut answered = 0;
     while answered < chunk.len() {
-        let more = answer_lines(settings, table, b"", &chunk[answered..], out);
+        let more = answer_lines(settings, table, b"", b"", &chunk[answered..], out);
         if !io::write_all(STDOUT_FILENO, first_bytes(out, more.printed)) {
             return Answered::Closed;
         }
@@ -59,7 +59,7 @@ fn take_turn(
     kept: usize,
     out: &mut [u8],
 ) -> Turn
-    requires { ⌜ card-check (card-of (now settings) (now table) []) ≡ got tt ⌝ }
+    requires { ⌜ card-check (card-of (now settings) (now table) [] []) ≡ got tt ⌝ }
 {
     if chunk.len() <= kept {
         return Turn::Ended;
@@ -78,7 +78,7 @@ fn take_turn(
 
 // A last line without newline counts unless it is empty: it is answered as if it had one.
 fn answer_last(settings: &[u64; 25], table: &[u8], chunk: &mut [u8], kept: usize, out: &mut [u8])
-    requires { ⌜ card-check (card-of (now settings) (now table) []) ≡ got tt ⌝ }
+    requires { ⌜ card-check (card-of (now settings) (now table) [] []) ≡ got tt ⌝ }
 {
     if kept == 0 {
         return;
@@ -91,7 +91,7 @@ fn answer_last(settings: &[u64; 25], table: &[u8], chunk: &mut [u8], kept: usize
 
 // Every line of standard input. A turn writes what it has answered before the next one reads.
 fn answer_sheet(settings: &[u64; 25], table: &[u8])
-    requires { ⌜ card-check (card-of (now settings) (now table) []) ≡ got tt ⌝ }
+    requires { ⌜ card-check (card-of (now settings) (now table) [] []) ≡ got tt ⌝ }
 {
     let mut chunk = io::large_buffer();
     let mut out = io::large_buffer();
@@ -115,7 +115,7 @@ fn answer_sheet(settings: &[u64; 25], table: &[u8])
 fn main() {
     let settings = words_of(card_a::settings());
     let table = card_a::table();
-    match card_check(&settings, &table, b"") {
+    match card_check(&settings, &table, b"", b"") {
         Checked::Refused(cause) => print_answer(refusal(cause)),
         Checked::Accepted => answer_sheet(&settings, &table),
     }

@@ -1,6 +1,6 @@
-// Cards of a list: a line of hexadecimal digits (switches, inner set, outer set, conjunctions, default kind, sizes of the unit table and
-// of the numeral table) and then the rows of the one and of the other, each in its stored form, the last one of each whole. Sizes, counts
-// and kinds can be wrong, since refusal 7 is about such cards.
+// Cards of a list: a line of hexadecimal digits (switches, inner set, outer set, conjunctions, default kind, sizes of the hall's table, of the
+// line's and of the numerals) and then the rows of each, each in its stored form, the last one of each whole. Sizes, counts and kinds can be
+// wrong, since refusal 7 is about such cards.
 use crate::fields::byte_at;
 use crate::fields::flag_at;
 use crate::fields::further;
@@ -25,12 +25,14 @@ const CONJUNCTION: usize = 18;
 
 const KIND_AT: usize = 216;
 
-const TABLE_SIZE_AT: usize = 218;
+const HALL_SIZE_AT: usize = 218;
 
-const NUMERALS_SIZE_AT: usize = 222;
+const LINE_SIZE_AT: usize = 222;
+
+const NUMERALS_SIZE_AT: usize = 226;
 
 // Bytes of a card's line, of a row and of its stored form, the newlines included.
-const HEAD: usize = 227;
+const HEAD: usize = 231;
 
 const ROW: usize = 32;
 
@@ -42,7 +44,8 @@ pub const MOST_BYTES: usize = 8_192;
 // Settings, and how many bytes each table has.
 pub struct Card {
     pub settings: Settings,
-    pub table_size: usize,
+    pub hall_size: usize,
+    pub line_size: usize,
     pub numerals_size: usize,
 }
 
@@ -110,18 +113,22 @@ fn read_table(table: &mut [u8], size: u16) -> bool {
 }
 
 // The next card of the list; its tables are put at the starts of the buffers.
-pub fn next_card(table: &mut [u8], numerals: &mut [u8]) -> Next {
-    let mut line = [0u8; HEAD];
-    let more = read_line(&mut line);
-    let table_size = short_at(&line, TABLE_SIZE_AT);
-    let units = read_table(table, table_size);
-    let numerals_size = short_at(&line, NUMERALS_SIZE_AT);
-    if read_table(numerals, numerals_size) & units & more {
-        Next::Card(Card {
-            settings: settings_of(&line),
-            table_size: table_size as usize,
-            numerals_size: numerals_size as usize,
-        })
+pub fn next_card(hall: &mut [u8], line: &mut [u8], numerals: &mut [u8]) -> Next {
+    let mut head = [0u8; HEAD];
+    let more = read_line(&mut head);
+    let of_hall = short_at(&head, HALL_SIZE_AT);
+    let of_line = short_at(&head, LINE_SIZE_AT);
+    let of_numerals = short_at(&head, NUMERALS_SIZE_AT);
+    let card = Card {
+        settings: settings_of(&head),
+        hall_size: of_hall as usize,
+        line_size: of_line as usize,
+        numerals_size: of_numerals as usize,
+    };
+    let halls = read_table(hall, of_hall);
+    let lines = read_table(line, of_line);
+    if read_table(numerals, of_numerals) & lines & halls & more {
+        Next::Card(card)
     } else {
         Next::End
     }

@@ -121,7 +121,7 @@ module _
         part : {r : Reading} → part-reading card text place ≡ got r → read-part card text place ≡ got r
         part e = rw (accepted, le-leb (length text) longest-text short, le-leb place (length text) within) e
 
-  -- under every accepted card with seconds as default, negatives and fractions on, whatever its units and numerals
+  -- under every accepted card with seconds as default, negatives and fractions on, whatever the hall's units, the line's and the numerals
   pub written-reads-back :
       (lengths : List Length)
       → all well-formed lengths ≡ true

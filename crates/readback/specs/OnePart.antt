@@ -20,7 +20,7 @@ use Rattle.rules.specs.declared.Whole.{Whole}
 use Rattle.rules.specs.Common.{if_then_else_, between, starts, sees, run, ends}
 use Rattle.rules.specs.NumbersHandedBack.{got, _>>=_}
 use Rattle.rules.specs.ThePartOfTheCrateWeTake.{size, well-formed}
-use Rattle.rules.specs.SettingsAndUnitTable.{DIGIT, SIGN, POINT, OTHER, class, is, is-next-duration, lower, holds, may-delimit, kind-multiplier, Card, card-check, kind-coefficients, kind-downs}
+use Rattle.rules.specs.SettingsAndUnitTable.{DIGIT, SIGN, POINT, OTHER, class, is, is-next-duration, lower, holds, may-delimit, kind-multiplier, Card, card-check, line-first, stands, held-row, find-row, kind-coefficients, kind-downs}
 use Rattle.rules.specs.ReadingOnePart.{same-letter, gap, fraction-step, number-step, exponent-step, in-stretch, find-unit, unit-found, unit-step, connection, finite-part, unsigned-part, part, sign-step}
 use Rattle.rules.specs.Evaluation.{spelled, attos, length-of, digits-of, up, down, nanos, evaluate, evaluated, allowed, part-reading}
 use Rattle.rules.specs.WriterAndShiftTotal.{decimals, no-leading-zeros, second-digits, sign-byte, whole-digits, fraction-digits, written-fraction, written}
@@ -30,7 +30,7 @@ use Rattle.rules.specs.Laws.Apart.{few-seconds, proper, length-of-size}
 use Rattle.rules.specs.Laws.Choices.{if-either, all-first, all-others}
 use Rattle.value.specs.Digits.{ten-pos, ten-sum, digit-high}
 use Rattle.settings.specs.Laws.Accepted.{delimiter-class, inner-delimits, outer-delimits}
-use Rattle.card.specs.Laws.Accepted.{card-settings, card-table, lookup-empty}
+use Rattle.card.specs.Laws.Accepted.{card-settings, card-hall, card-line, lookup-empty}
 use Rattle.rules.specs.Laws.Tests.{and-false}
 use Rattle.writing.specs.Forms.{no-decimals}
 use Rattle.rules.specs.Laws.Layout.{sees-of, behind, run-over, spelled-stretch, goes-on, stretch, gap-none, exponent-none, connection-none}
@@ -166,8 +166,14 @@ module _ (card : Card) (good : card-check card ≡ got tt) where
       no-gap on = gap-none s text place on (no (holds (s .inner)) sign-not-inner)
 
       no-unit : unit-step card text place ≡ got (record { multiplier = kind-multiplier (s .«default_kind»); next = place })
-      unfolding unit-step find-unit unit-found
-      no-unit = rw (run-stop (in-stretch s) text place (no (in-stretch s) sign-not-stretch), slice-empty place text, lookup-empty s (card .units) (card-table card good))
+      unfolding unit-step find-unit find-row stands line-first held-row unit-found
+      no-unit =
+          rw (
+            run-stop (in-stretch s) text place (no (in-stretch s) sign-not-stretch),
+            slice-empty place text,
+            lookup-empty s (card .line) (card-line card good),
+            lookup-empty s (card .hall) (card-hall card good),
+          )
 
       no-connection : connection s text place ≡ got place
       no-connection = connection-none s text place (no (holds (s .outer)) sign-not-outer)

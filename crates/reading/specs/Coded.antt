@@ -1,15 +1,14 @@
 -- A part as it is evaluated, and how it is put together: what it counts, and then its unit. Assumes nothing.
 use mathlib.Core.Path.{_≡_, refl, sym, ap, _∙_}
-use mathlib.Core.Bool.{Bool, true, false}
-use mathlib.Core.List.{List}
+use mathlib.Core.Bool.{Bool, false}
+use mathlib.Core.List.{List, [], _∷_}
 use Prim.Native.Nat.{ℕ, _<_}
 use Rattle.rules.specs.declared.Settings.{Settings}
 use Rattle.rules.specs.declared.Multiplier.{Multiplier}
-use Rattle.rules.specs.declared.Found.{Found}
-use Rattle.rules.specs.declared.Found.the-variants.{Row, Nowhere}
 use Rattle.rules.specs.declared.Number.{Number}
 use Rattle.rules.specs.declared.Scaled.{Scaled}
-use Rattle.rules.specs.declared.Unit as declared-unit
+use Rattle.rules.specs.declared.Found.{Found}
+use Rattle.rules.specs.declared.Found.the-variants.{Row, Nowhere}
 use Rattle.rules.specs.declared.DurationRepr.{DurationRepr}
 use Rattle.rules.specs.declared.SpokenRepr.{SpokenRepr}
 use Rattle.rules.specs.declared.Repr.{Repr}
@@ -17,18 +16,23 @@ use Rattle.rules.specs.declared.Repr.the-variants.{Typed, Spoken}
 use Rattle.rules.specs.declared.Part.{Part}
 use Rattle.rules.specs.declared.Refusal.{Refusal}
 use Rattle.rules.specs.declared.Refusal.the-variants.{NoUnit}
+use Rattle.rules.specs.Common.{run}
 use Rattle.rules.specs.NumbersHandedBack.{Outcome, got, refused, _>>=_}
-use Rattle.rules.specs.SettingsAndUnitTable.{Card, kind-multiplier, rows, row, kind, row-multiplier, product}
-use Rattle.rules.specs.ReadingOnePart.{gap, number-step, exponent-step, spoken-unit-step, finite, spoken}
+use Rattle.rules.specs.SettingsAndUnitTable.{Card, kind-multiplier, rows, row, kind, row-multiplier, times, product}
+use Rattle.rules.specs.ReadingOnePart.{gap, number-step, exponent-step, in-stretch, find-unit, unit-found, unit-step, spoken-unit-found, spoken-unit-step, finite, spoken}
 use Rattle.rules.specs.Laws.Outcomes.{All, all-got, all-bind, always, bind-got, bind-refused, bind-assoc, not-got}
 use Rattle.value.specs.Sums.{sum-of}
 use Rattle.value.specs.Evaluating.{one}
 use Rattle.spoken.specs.Products.{spoken-product}
 use Rattle.steps.specs.declared.numeral.FoundNumeral.{FoundNumeral}
-use Rattle.steps.specs.declared.unit.FoundUnit.{FoundUnit}
+use Rattle.steps.specs.declared.unit.Ago.{Ago}
+use Rattle.steps.specs.declared.unit.AgoRead.{AgoRead}
+use Rattle.steps.specs.declared.unit.AgoRead.the-variants as AgoRead
+use Rattle.steps.specs.declared.unit.UnitRow.{UnitRow}
 use Rattle.steps.specs.declared.unit.UnitRead.{UnitRead}
 use Rattle.steps.specs.declared.unit.UnitRead.the-variants as UnitRead
-use Rattle.steps.specs.Units.{negated-if, unit-row, typed-unit, typed-is, spoken-unit, spoken-is}
+use Rattle.steps.specs.Units.{negated-if, ago-read, ago-is, unit-row, unit-read}
+use Rattle.steps.specs.Units as units
 use Rattle.steps.specs.Numerals.{numeral-row, numeral-within, numeral-of, numeral-is}
 use Rattle.reading.specs.declared.typed.Counted.{Counted}
 use Rattle.reading.specs.declared.typed.SummedPart.{SummedPart}
@@ -106,12 +110,12 @@ coded-at text d next after is =
 
 abbrev pub typed-counted : List ℕ → Number → Scaled → ℕ → Counted
 typed-counted text number scaled name = record {
-  numeral = Nowhere;
   whole = number .whole;
   fract = number .fract;
   number = sum-of text (number .whole) (number .fract);
   exponent = scaled .exponent;
   next = name;
+  numeral = Nowhere;
 }
 
 unfoldable pub typed-count : Settings → List ℕ → ℕ → Outcome Counted
@@ -123,12 +127,12 @@ typed-count s text place = do
 
 abbrev pub spoken-counted : FoundNumeral → Counted
 spoken-counted found = record {
-  numeral = Row (found .row);
   whole = record { start = 0; end = 0 };
   fract = record { start = 0; end = 0 };
   number = 1;
   exponent = record { negative = false; power = 0 };
   next = found .next;
+  numeral = Row (found .row);
 }
 
 unfoldable pub spoken-count : Settings → List ℕ → List ℕ → ℕ → Outcome Counted
@@ -167,30 +171,37 @@ multiplied-part negative counted m out next = record {
 }
 
 -- numeral, kind and row of a spoken number
-abbrev pub spoken-of : Card → Bool → ℕ → FoundUnit → SpokenRepr
-spoken-of card negative i unit = record {
+abbrev pub spoken-of : Bool → Multiplier → UnitRow → Ago → SpokenRepr
+spoken-of negative numeral unit ago = record {
   negative = negative;
-  numeral = row-multiplier (row (card .numerals) i);
-  kind = kind-multiplier (kind (row (card .units) (unit .row)));
-  row = negated-if (unit .ago .negated) (row-multiplier (row (card .units) (unit .row)));
+  numeral = numeral;
+  kind = kind-multiplier (unit .kind);
+  row = negated-if (ago .negated) (unit .own);
 }
 
--- what comes of the unit that was found, or of none
-unfoldable pub unit-coded : Card → Bool → Counted → Found → UnitRead → Outcome SummedPart
-unit-coded card negative counted numeral (UnitRead.Refused cause) = refused cause
-unit-coded card negative counted Nowhere UnitRead.Nowhere =
-    got (multiplied-part negative counted (kind-multiplier (card .settings .«default_kind»)) false (counted .next))
-unit-coded card negative counted (Row i) UnitRead.Nowhere = refused (NoUnit (counted .next))
-unit-coded card negative counted Nowhere (UnitRead.Got unit) =
-    got (multiplied-part negative counted (negated-if (unit .ago .negated) (product (row (card .units) (unit .row)))) false (unit .ago .next))
-unit-coded card negative counted (Row i) (UnitRead.Got unit) =
-    got
-    (multiplied-part negative counted (spoken-product (spoken-of card negative i unit) .multiplier)
-    (spoken-product (spoken-of card negative i unit) .«out_of_range») (unit .ago .next))
+-- what comes of the unit that was found, and of none
+abbrev pub with-unit : List ℕ → Bool → Counted → Found → UnitRow → Ago → SummedPart
+with-unit numerals negative counted Nowhere unit ago =
+    multiplied-part negative counted (negated-if (ago .negated) (times (kind-multiplier (unit .kind)) (unit .own))) false (ago .next)
+with-unit numerals negative counted (Row i) unit ago =
+    let product = spoken-product (spoken-of negative (row-multiplier (row numerals i)) unit ago) in
+    multiplied-part negative counted (product .multiplier) (product .«out_of_range») (ago .next)
+
+abbrev pub unitless : Settings → Bool → Counted → Found → Outcome SummedPart
+unitless s negative counted Nowhere = got (multiplied-part negative counted (kind-multiplier (s .«default_kind»)) false (counted .next))
+unitless s negative counted (Row i) = refused (NoUnit (counted .next))
+
+abbrev pub agoed : List ℕ → Bool → Counted → UnitRow → AgoRead → Outcome SummedPart
+agoed numerals negative counted unit (AgoRead.Got ago) = got (with-unit numerals negative counted (counted .numeral) unit ago)
+agoed numerals negative counted unit (AgoRead.Refused cause) = refused cause
+
+abbrev pub unit-coded : Card → List ℕ → Bool → Counted → UnitRead → Outcome SummedPart
+unit-coded card text negative counted (UnitRead.Found unit) =
+    agoed (card .numerals) negative counted unit (ago-read (card .settings) text (run (in-stretch (card .settings)) text (counted .next)))
+unit-coded card text negative counted UnitRead.Nowhere = unitless (card .settings) negative counted (counted .numeral)
 
 unfoldable pub coded-part : Card → List ℕ → Bool → Counted → Outcome SummedPart
-coded-part card text negative counted =
-    unit-coded card negative counted (counted .numeral) (unit-row (card .settings) (card .units) text (counted .next))
+coded-part card text negative counted = unit-coded card text negative counted (unit-read (find-unit card text (counted .next)))
 
 -- ---- together they are the part
 
@@ -208,43 +219,57 @@ module _ (card : Card) (text : List ℕ) (negative : Bool) (place : ℕ) where
   s = card .settings
 
   pub finite-coded : codes text (typed-finite card text negative place) ≡ (typed-count s text place >>= coded-part card text negative)
-  unfolding codes typed-finite typed-count coded-part unit-coded _>>=_
+  unfolding codes typed-finite typed-count coded-part unit-step unit-found unit-read product _>>=_
   finite-coded =
       both-joined (number-step s text place) _ _ _ _
       (λ number. both-joined (exponent-step s text (number .next)) _ _ _ _
       (λ scaled. both-joined (gap (s .«before_unit») s text (scaled .next)) _ _ _ _
-      (λ name.
-      ap (λ unit. unit >>= (λ unit. got (finite negative number scaled unit (unit .next))) >>= λ p. got (coded text (p .repr) (p .next))) (typed-is card text name)
-      ∙ told number scaled name (unit-row s (card .units) text name))))
+      (λ name. found number scaled name (find-unit card text name))))
     where
-      told :
-          (number : Number) (scaled : Scaled) (name : ℕ) (unit : UnitRead)
-          → (typed-unit card text name unit >>= (λ unit. got (finite negative number scaled unit (unit .next))) >>= λ p. got (coded text (p .repr) (p .next)))
-          ≡ unit-coded card negative (typed-counted text number scaled name) Nowhere unit
-      told number scaled name (UnitRead.Got unit) = refl
-      told number scaled name UnitRead.Nowhere = refl
-      told number scaled name (UnitRead.Refused cause) = refl
+      told : (number : Number) (scaled : Scaled) (name : ℕ) (r : List ℕ) (read : AgoRead)
+          → (units.agoed (product r) read >>= (λ unit. got (finite negative number scaled unit (unit .next))) >>= λ p. got (coded text (p .repr) (p .next)))
+          ≡ agoed (card .numerals) negative (typed-counted text number scaled name) (unit-row r) read
+      told number scaled name r (AgoRead.Got ago) = refl
+      told number scaled name r (AgoRead.Refused cause) = refl
+
+      found : (number : Number) (scaled : Scaled) (name : ℕ) (r : List ℕ)
+          → (unit-found s text name r >>= (λ unit. got (finite negative number scaled unit (unit .next))) >>= λ p. got (coded text (p .repr) (p .next)))
+          ≡ unit-coded card text negative (typed-counted text number scaled name) (unit-read r)
+      found number scaled name [] = refl
+      found number scaled name (size ∷ r) =
+          ap
+          (λ unit. unit >>= (λ unit. got (finite negative number scaled unit (unit .next))) >>= λ p. got (coded text (p .repr) (p .next)))
+          (ago-is s text (run (in-stretch s) text name) (product (size ∷ r)))
+          ∙ told number scaled name (size ∷ r) (ago-read s text (run (in-stretch s) text name))
 
   pub spoken-coded : codes text (typed-spoken card text negative place) ≡ (spoken-count s (card .numerals) text place >>= coded-part card text negative)
-  unfolding codes typed-spoken spoken-count coded-part unit-coded _>>=_
+  unfolding codes typed-spoken spoken-count coded-part spoken-unit-step spoken-unit-found unit-read _>>=_
   spoken-coded =
       ap
       (λ m. m >>= (λ numeral. spoken-unit-step card text (numeral .next) >>= λ unit. got (spoken negative numeral unit (unit .next))) >>= λ p. got (coded text (p .repr) (p .next)))
       (numeral-is card text place)
       ∙ ap (λ m. m >>= λ p. got (coded text (p .repr) (p .next))) (bind-assoc (numeral-row s (card .numerals) text place) _ _)
-      ∙ both-joined (numeral-row s (card .numerals) text place) _ _ _ _
-      (λ found.
-      ap
-      (λ unit. unit >>= (λ unit. got (spoken negative (numeral-of (card .numerals) found) unit (unit .next))) >>= λ p. got (coded text (p .repr) (p .next)))
-      (spoken-is card text (found .next))
-      ∙ told found (unit-row s (card .units) text (found .next)))
+      ∙ both-joined (numeral-row s (card .numerals) text place) _ _ _ _ (λ numeral. found numeral (find-unit card text (numeral .next)))
     where
-      told :
-          (found : FoundNumeral) (unit : UnitRead)
-          → (spoken-unit card text (found .next) unit
-          >>= (λ unit. got (spoken negative (numeral-of (card .numerals) found) unit (unit .next)))
+      told : (numeral : FoundNumeral) (r : List ℕ) (read : AgoRead)
+          → (units.agoed (row-multiplier r) read
+          >>= (λ unit. got (record { kind = kind-multiplier (kind r); row = unit .multiplier; next = unit .next }))
+          >>= (λ unit. got (spoken negative (numeral-of (card .numerals) numeral) unit (unit .next)))
           >>= λ p. got (coded text (p .repr) (p .next)))
-          ≡ unit-coded card negative (spoken-counted found) (Row (found .row)) unit
-      told found (UnitRead.Got unit) = refl
-      told found UnitRead.Nowhere = refl
-      told found (UnitRead.Refused cause) = refl
+          ≡ agoed (card .numerals) negative (spoken-counted numeral) (unit-row r) read
+      told numeral r (AgoRead.Got ago) = refl
+      told numeral r (AgoRead.Refused cause) = refl
+
+      found : (numeral : FoundNumeral) (r : List ℕ)
+          → (spoken-unit-found s text (numeral .next) r >>= (λ unit. got (spoken negative (numeral-of (card .numerals) numeral) unit (unit .next))) >>= λ p. got (coded text (p .repr) (p .next)))
+          ≡ unit-coded card text negative (spoken-counted numeral) (unit-read r)
+      found numeral [] = refl
+      found numeral (size ∷ r) =
+          ap
+          (λ unit.
+          unit
+          >>= (λ unit. got (record { kind = kind-multiplier (kind (size ∷ r)); row = unit .multiplier; next = unit .next }))
+          >>= (λ unit. got (spoken negative (numeral-of (card .numerals) numeral) unit (unit .next)))
+          >>= λ p. got (coded text (p .repr) (p .next)))
+          (ago-is s text (run (in-stretch s) text (numeral .next)) (row-multiplier (size ∷ r)))
+          ∙ told numeral (size ∷ r) (ago-read s text (run (in-stretch s) text (numeral .next)))

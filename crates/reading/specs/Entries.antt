@@ -7,25 +7,23 @@ use lib.ListN.{length}
 use Rattle.rules.specs.declared.Length.{Length}
 use Rattle.rules.specs.declared.Reading.{Reading}
 use Rattle.rules.specs.declared.Refusal.{Refusal}
+use Rattle.rules.specs.declared.Settings.{Settings}
 use Rattle.rules.specs.declared.Refusal.the-variants.{TextTooLong, Beyond}
 use Rattle.rules.specs.ThePartOfTheCrateWeTake.{longest-text}
 use Rattle.rules.specs.NumbersHandedBack.{got, refused, _>>_, unless, done, refusal, answered}
 use Rattle.rules.specs.SettingsAndUnitTable.{Card, card-check}
 use Rattle.rules.specs.Evaluation.{part-reading, total}
 use Rattle.rules.specs.WhatEveryEntryOwes.{read-part, part-answer, read-total, total-answer}
-use Rattle.card.specs.Laws.Accepted.{card-table, card-numerals, row-sized, row-in-range, lookup-empty, numeral-sized, lookup-lettered}
+use Rattle.card.specs.Laws.Accepted.{UnitsGood, card-hall, card-line, card-numerals, row-sized, row-in-range, lookup-empty, numeral-sized, lookup-lettered}
 use Rattle.steps.specs.Units.{Readable}
 use Rattle.steps.specs.Numerals.{Sayable}
 
 -- under an accepted card units can be read, and numerals said
-pub card-readable : (card : Card) → card-check card ≡ got tt → Readable (card .units)
-card-readable card good =
-    let accepted = card-table card good in
-    record {
-      sizes = row-sized (card .settings) (card .units) accepted;
-      products = row-in-range (card .settings) (card .units) accepted;
-      named = lookup-empty (card .settings) (card .units) accepted;
-    }
+table-readable : (s : Settings) (table : List ℕ) → UnitsGood s table → Readable table
+table-readable s table good = record { sizes = row-sized s table good; products = row-in-range s table good; named = lookup-empty s table good }
+
+pub card-readable : (card : Card) → card-check card ≡ got tt → Readable (card .hall) × Readable (card .line)
+card-readable card good = (table-readable (card .settings) (card .hall) (card-hall card good), table-readable (card .settings) (card .line) (card-line card good))
 
 pub card-sayable : (card : Card) → card-check card ≡ got tt → Sayable (card .numerals)
 card-sayable card good =

@@ -15,15 +15,16 @@ use rules::LONGEST_TEXT;
 use rules::Refusal;
 use steps::unit::stops;
 
-pub fn read_part_checked(
+pub fn read_part_checked<'a>(
     settings: &[u64; 25],
-    table: &[u8],
+    hall: &'a [u8],
+    line: &'a [u8],
     numerals: &[u8],
     text: &[u8],
     place: usize,
 ) -> Answer
-    requires { ⌜ card-check (card-of (now settings) (now table) (now numerals)) ≡ got tt ⌝ }
-    ensures { λ r. ⌜ r ≡ part-answer (card-of (now (settings .entry)) (now (table .entry)) (now (numerals .entry))) (now (text .entry)) place ⌝ }
+    requires { ⌜ card-check (card-of (now settings) (now hall) (now line) (now numerals)) ≡ got tt ⌝ }
+    ensures { λ r. ⌜ r ≡ part-answer (card-of (now (settings .entry)) (now (hall .entry)) (now (line .entry)) (now (numerals .entry))) (now (text .entry)) place ⌝ }
 {
     if text.len() > LONGEST_TEXT {
         return refusal(Refusal::TextTooLong);
@@ -31,25 +32,26 @@ pub fn read_part_checked(
     if place > text.len() {
         return refusal(Refusal::Beyond(place));
     }
-    match parse_part(settings, stops(settings), table, numerals, text, place) {
+    match parse_part(settings, stops(settings), hall, line, numerals, text, place) {
         ReadingRead::Refused(cause) => refusal(cause),
         ReadingRead::Got(reading) => done(reading.next, reading.length),
     }
 }
 
-pub fn read_total_checked(
+pub fn read_total_checked<'a>(
     settings: &[u64; 25],
-    table: &[u8],
+    hall: &'a [u8],
+    line: &'a [u8],
     numerals: &[u8],
     text: &[u8],
 ) -> Answer
-    requires { ⌜ card-check (card-of (now settings) (now table) (now numerals)) ≡ got tt ⌝ }
-    ensures { λ r. ⌜ r ≡ total-answer (card-of (now (settings .entry)) (now (table .entry)) (now (numerals .entry))) (now (text .entry)) ⌝ }
+    requires { ⌜ card-check (card-of (now settings) (now hall) (now line) (now numerals)) ≡ got tt ⌝ }
+    ensures { λ r. ⌜ r ≡ total-answer (card-of (now (settings .entry)) (now (hall .entry)) (now (line .entry)) (now (numerals .entry))) (now (text .entry)) ⌝ }
 {
     if LONGEST_TEXT < text.len() {
         return refusal(Refusal::TextTooLong);
     }
-    match parse_multiple(settings, table, numerals, text) {
+    match parse_multiple(settings, hall, line, numerals, text) {
         TotalRead::Refused(cause) => refusal(cause),
         TotalRead::Got(length) => done(text.len(), length),
     }

@@ -27,23 +27,25 @@ pub enum ReadingRead {
 }
 
 // A part up to its connection.
-fn typed_part(
+fn typed_part<'a>(
     settings: &[u64; 25],
     stops: AsciiSet,
-    table: &[u8],
+    hall: &'a [u8],
+    line: &'a [u8],
     numerals: &[u8],
     text: &[u8],
     place: usize,
 ) -> PartRead
-    requires { ⌜ CardReady (card-of (now settings) (now table) (now numerals)) stops ⌝ }
-    ensures { λ r. ⌜ outcomes.part r ≡ codes (now (text .entry)) (typed-part (card-of (now (settings .entry)) (now (table .entry)) (now (numerals .entry))) (now (text .entry)) place) ⌝ }
+    requires { ⌜ CardReady (card-of (now settings) (now hall) (now line) (now numerals)) stops ⌝ }
+    ensures { λ r. ⌜ outcomes.part r ≡ codes (now (text .entry)) (typed-part (card-of (now (settings .entry)) (now (hall .entry)) (now (line .entry)) (now (numerals .entry))) (now (text .entry)) place) ⌝ }
 {
     match part_start(settings, text, place) {
         StartRead::Refused(cause) => PartRead::Refused(cause),
         StartRead::Got(start) => unsigned_part(
             settings,
             stops,
-            table,
+            hall,
+            line,
             numerals,
             text,
             start.negative,
@@ -53,18 +55,19 @@ fn typed_part(
     }
 }
 
-fn connected_part(
+fn connected_part<'a>(
     settings: &[u64; 25],
     stops: AsciiSet,
-    table: &[u8],
+    hall: &'a [u8],
+    line: &'a [u8],
     numerals: &[u8],
     text: &[u8],
     place: usize,
 ) -> PartRead
-    requires { ⌜ CardReady (card-of (now settings) (now table) (now numerals)) stops ⌝ }
-    ensures { λ r. ⌜ outcomes.part r ≡ codes (now (text .entry)) (part (card-of (now (settings .entry)) (now (table .entry)) (now (numerals .entry))) (now (text .entry)) place) ⌝ }
+    requires { ⌜ CardReady (card-of (now settings) (now hall) (now line) (now numerals)) stops ⌝ }
+    ensures { λ r. ⌜ outcomes.part r ≡ codes (now (text .entry)) (part (card-of (now (settings .entry)) (now (hall .entry)) (now (line .entry)) (now (numerals .entry))) (now (text .entry)) place) ⌝ }
 {
-    match typed_part(settings, stops, table, numerals, text, place) {
+    match typed_part(settings, stops, hall, line, numerals, text, place) {
         PartRead::Refused(cause) => PartRead::Refused(cause),
         PartRead::Got(typed) => match try_consume_connection(settings, text, typed.next) {
             Next::Refused(cause) => PartRead::Refused(cause),
@@ -93,18 +96,19 @@ fn allowed(settings: &[u64; 25], place: usize, next: usize, length: Length) -> R
     ReadingRead::Got(Reading { length, next })
 }
 
-pub fn parse_part(
+pub fn parse_part<'a>(
     settings: &[u64; 25],
     stops: AsciiSet,
-    table: &[u8],
+    hall: &'a [u8],
+    line: &'a [u8],
     numerals: &[u8],
     text: &[u8],
     place: usize,
 ) -> ReadingRead
-    requires { ⌜ CardReady (card-of (now settings) (now table) (now numerals)) stops ⌝ }
-    ensures { λ r. ⌜ outcomes.reading r ≡ part-reading (card-of (now (settings .entry)) (now (table .entry)) (now (numerals .entry))) (now (text .entry)) place ⌝ }
+    requires { ⌜ CardReady (card-of (now settings) (now hall) (now line) (now numerals)) stops ⌝ }
+    ensures { λ r. ⌜ outcomes.reading r ≡ part-reading (card-of (now (settings .entry)) (now (hall .entry)) (now (line .entry)) (now (numerals .entry))) (now (text .entry)) place ⌝ }
 {
-    match connected_part(settings, stops, table, numerals, text, place) {
+    match connected_part(settings, stops, hall, line, numerals, text, place) {
         PartRead::Refused(cause) => ReadingRead::Refused(cause),
         PartRead::Got(summed) => {
             if summed.out_of_range {

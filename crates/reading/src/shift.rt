@@ -26,15 +26,16 @@ pub fn kept(total: Length, cause: Refusal) -> ShiftedTotal
 }
 
 // A malformed total comes before a text that is too long.
-pub fn shifted_total_checked(
+pub fn shifted_total_checked<'a>(
     total: Length,
     settings: &[u64; 25],
-    table: &[u8],
+    hall: &'a [u8],
+    line: &'a [u8],
     numerals: &[u8],
     text: &[u8],
 ) -> ShiftedTotal
-    requires { ⌜ card-check (card-of (now settings) (now table) (now numerals)) ≡ got tt ⌝ }
-    ensures { λ r. ⌜ (r .answer ≡ shift-answer total (card-of (now (settings .entry)) (now (table .entry)) (now (numerals .entry))) (now (text .entry))) × (r .total ≡ shifted-record total (card-of (now (settings .entry)) (now (table .entry)) (now (numerals .entry))) (now (text .entry))) ⌝ }
+    requires { ⌜ card-check (card-of (now settings) (now hall) (now line) (now numerals)) ≡ got tt ⌝ }
+    ensures { λ r. ⌜ (r .answer ≡ shift-answer total (card-of (now (settings .entry)) (now (hall .entry)) (now (line .entry)) (now (numerals .entry))) (now (text .entry))) × (r .total ≡ shifted-record total (card-of (now (settings .entry)) (now (hall .entry)) (now (line .entry)) (now (numerals .entry))) (now (text .entry))) ⌝ }
 {
     if !well_formed(total) {
         return kept(total, Refusal::Malformed);
@@ -42,7 +43,7 @@ pub fn shifted_total_checked(
     if LONGEST_TEXT < text.len() {
         return kept(total, Refusal::TextTooLong);
     }
-    match parse_multiple(settings, table, numerals, text) {
+    match parse_multiple(settings, hall, line, numerals, text) {
         TotalRead::Refused(cause) => kept(total, cause),
         TotalRead::Got(length) => {
             let sum = saturating_add(total, length);

@@ -14,16 +14,22 @@ use lengths::duration::saturating_add;
 use lengths::duration::zero;
 use steps::unit::stops;
 
-pub fn parse_multiple(settings: &[u64; 25], table: &[u8], numerals: &[u8], text: &[u8]) -> TotalRead
+pub fn parse_multiple<'a>(
+    settings: &[u64; 25],
+    hall: &'a [u8],
+    line: &'a [u8],
+    numerals: &[u8],
+    text: &[u8],
+) -> TotalRead
     requires { ⌜ settings-check (settings-of (now settings)) ≡ got tt ⌝ }
-    requires { ⌜ Readable (now table) × Sayable (now numerals) ⌝ }
-    ensures { λ r. ⌜ outcomes.total r ≡ total (card-of (now (settings .entry)) (now (table .entry)) (now (numerals .entry))) (now (text .entry)) ⌝ }
+    requires { ⌜ Readable (now hall) × Readable (now line) × Sayable (now numerals) ⌝ }
+    ensures { λ r. ⌜ outcomes.total r ≡ total (card-of (now (settings .entry)) (now (hall .entry)) (now (line .entry)) (now (numerals .entry))) (now (text .entry)) ⌝ }
 {
     let stops = stops(settings);
     let mut sum = zero();
     let mut place = 0;
     loop {
-        match parse_part(settings, stops, table, numerals, text, place) {
+        match parse_part(settings, stops, hall, line, numerals, text, place) {
             ReadingRead::Refused(cause) => return TotalRead::Refused(cause),
             ReadingRead::Got(reading) => {
                 sum = saturating_add(sum, reading.length);

@@ -1,21 +1,19 @@
 // What was typed of a part, up to the connection to the next.
 ghost use mathlib.Core.Path.{_≡_};
-ghost use mathlib.Core.List.{List};
-ghost use Prim.Native.Nat.{ℕ, _+_, _≤_, _<_};
+ghost use Prim.Native.Nat.{_+_, _≤_};
 ghost use lib.ListN.{length};
 ghost use Rattle.rules.specs.NumbersHandedBack.{got};
 ghost use Rattle.rules.specs.SettingsAsWords.{settings-of, card-of};
-ghost use Rattle.rules.specs.SettingsAndUnitTable.{settings-check, rows};
-ghost use Rattle.steps.specs.declared.unit.UnitRead.the-variants as UnitRead;
-ghost use Rattle.steps.specs.Units.{Readable, negated-if};
+ghost use Rattle.rules.specs.SettingsAndUnitTable.{settings-check};
+ghost use Rattle.rows.specs.Powers.{Fitting};
+ghost use Rattle.steps.specs.Units.{negated-if};
 ghost use Rattle.steps.specs.Numerals.{Sayable, CardReady};
 ghost use Rattle.reading.specs.Outcomes.{count, part};
 ghost use Rattle.reading.specs.Typed.{class-at, typed-infinite, typed-unsigned};
-ghost use Rattle.reading.specs.Coded.{Numbered, codes, typed-count, spoken-count, multiplied-part, unit-coded, coded-part};
-use rows::fields::KIND_AT;
+ghost use Rattle.reading.specs.Coded.{Numbered, codes, typed-count, spoken-count, multiplied-part, unitless, with-unit, coded-part};
+use rows::fields::product;
 use rows::fields::row_at;
 use rows::fields::row_multiplier;
-use rows::fields::row_product;
 use rules::DurationRepr;
 use rules::Exponent;
 use rules::Found;
@@ -39,16 +37,20 @@ use steps::number::NumberRead;
 use steps::number::parse_number;
 use steps::numeral::NumeralRead;
 use steps::numeral::parse_numeral;
-use steps::unit::FoundUnit;
+use steps::unit::Ago;
+use steps::unit::AgoRead;
 use steps::unit::UnitRead;
+use steps::unit::UnitRow;
+use steps::unit::parse_ago;
 use steps::unit::parse_time_unit;
+use steps::unit::unit_end;
 use tables::DIGIT;
 use tables::LETTER;
 use tables::POINT;
 use tables::kind_multiplier;
 
 // What a part counts, before its unit: digits, with their sum and exponent; or a numeral, by its row, which counts 1 and has no digits. And
-// where the unit's name begins. The numeral stands last: before the digits it takes a register from the loop over them.
+// where the unit's name begins. The numeral stands last, and as a number alone: otherwise it takes registers from the loop over the digits.
 pub struct Counted {
     pub whole: Whole,
     pub fract: Fract,
@@ -131,12 +133,12 @@ fn typed_count(settings: &[u64; 25], text: &[u8], place: usize) -> CountRead
     let fract = typed.fract;
     let exponent = scaled.exponent;
     CountRead::Got(Counted {
-        numeral: Found::Nowhere,
         whole,
         fract,
         number: summed.number,
         exponent,
         next: name,
+        numeral: Found::Nowhere,
     })
 }
 
@@ -149,7 +151,6 @@ fn spoken_count(settings: &[u64; 25], numerals: &[u8], text: &[u8], place: usize
     match parse_numeral(settings, numerals, text, place) {
         NumeralRead::Refused(cause) => CountRead::Refused(cause),
         NumeralRead::Got(found) => CountRead::Got(Counted {
-            numeral: Found::Row(found.row),
             whole: Whole { start: 0, end: 0 },
             fract: Fract { start: 0, end: 0 },
             number: 1,
@@ -158,6 +159,7 @@ fn spoken_count(settings: &[u64; 25], numerals: &[u8], text: &[u8], place: usize
                 power: 0,
             },
             next: found.next,
+            numeral: Found::Row(found.row),
         }),
     }
 }
@@ -204,7 +206,7 @@ fn negated(negate: bool, m: Multiplier) -> Multiplier
 
 // A typed number goes on without a unit, from the place where its name would begin; a spoken one must have a unit.
 fn unitless_part(settings: &[u64; 25], negative: bool, counted: Counted) -> PartRead
-    ensures { λ r. ⌜ ((units numerals : List ℕ) → part r ≡ unit-coded (card-of (now (settings .entry)) units numerals) negative counted (counted .numeral) UnitRead.Nowhere) ⌝ }
+    ensures { λ r. ⌜ part r ≡ unitless (settings-of (now (settings .entry))) negative counted (counted .numeral) ⌝ }
 {
     let numeral = counted.numeral;
     match numeral {
@@ -217,30 +219,22 @@ fn unitless_part(settings: &[u64; 25], negative: bool, counted: Counted) -> Part
 }
 
 // What the number is multiplied by: kind and row, or numeral, kind and row.
-fn with_unit(
-    table: &[u8],
-    numerals: &[u8],
-    negative: bool,
-    counted: Counted,
-    unit: FoundUnit,
-) -> PartRead
-    requires { ⌜ Readable (now table) × (unit .row < rows (now table)) ⌝ }
-    requires { ⌜ Numbered (now numerals) (counted .numeral) ⌝ }
-    ensures { λ r. ⌜ ((words : List ℕ) → part r ≡ unit-coded (card-of words (now (table .entry)) (now (numerals .entry))) negative counted (counted .numeral) (UnitRead.Got unit)) ⌝ }
+fn with_unit(numerals: &[u8], negative: bool, counted: Counted, unit: UnitRow, ago: Ago) -> PartRead
+    requires { ⌜ Numbered (now numerals) (counted .numeral) × Fitting (unit .kind) (unit .own) ⌝ }
+    ensures { λ r. ⌜ part r ≡ got (with-unit (now (numerals .entry)) negative counted (counted .numeral) unit ago) ⌝ }
 {
     let numeral = counted.numeral;
     match numeral {
         Found::Nowhere => {
-            let multiplier = negated(unit.ago.negated, row_product(table, unit.row));
-            multiplied_part(negative, counted, multiplier, false, unit.ago.next)
+            let multiplier = negated(ago.negated, product(unit.kind, unit.own));
+            multiplied_part(negative, counted, multiplier, false, ago.next)
         }
         Found::Row(i) => {
-            let row = row_at(table, unit.row);
             let product = spoken_product(SpokenRepr {
                 negative,
                 numeral: row_multiplier(row_at(numerals, i)),
-                kind: kind_multiplier(row[KIND_AT]),
-                row: negated(unit.ago.negated, row_multiplier(row)),
+                kind: kind_multiplier(unit.kind),
+                row: negated(ago.negated, unit.own),
             });
             let multiplier = product.multiplier;
             multiplied_part(
@@ -248,47 +242,53 @@ fn with_unit(
                 counted,
                 multiplier,
                 product.out_of_range,
-                unit.ago.next,
+                ago.next,
             )
         }
     }
 }
 
-// Step 6, for a typed number and a spoken one: one call of the step, so that what is read of most parts is one piece of code.
-fn unit_part(
+// Step 6, for a typed number and a spoken one: one call of the step, so that what is read of most parts is one piece of code. When the lookup
+// fails, the place goes back, and the part has no unit.
+fn unit_part<'a>(
     settings: &[u64; 25],
     stops: AsciiSet,
-    table: &[u8],
+    hall: &'a [u8],
+    line: &'a [u8],
     numerals: &[u8],
     text: &[u8],
     negative: bool,
     counted: Counted,
 ) -> PartRead
-    requires { ⌜ CardReady (card-of (now settings) (now table) (now numerals)) stops ⌝ }
+    requires { ⌜ CardReady (card-of (now settings) (now hall) (now line) (now numerals)) stops ⌝ }
     requires { ⌜ Numbered (now numerals) (counted .numeral) ⌝ }
-    ensures { λ r. ⌜ part r ≡ coded-part (card-of (now (settings .entry)) (now (table .entry)) (now (numerals .entry))) (now (text .entry)) negative counted ⌝ }
+    ensures { λ r. ⌜ part r ≡ coded-part (card-of (now (settings .entry)) (now (hall .entry)) (now (line .entry)) (now (numerals .entry))) (now (text .entry)) negative counted ⌝ }
 {
-    match parse_time_unit(settings, stops, table, text, counted.next) {
-        UnitRead::Refused(cause) => PartRead::Refused(cause),
-        UnitRead::Nowhere => unitless_part(settings, negative, counted),
-        UnitRead::Got(unit) => with_unit(table, numerals, negative, counted, unit),
+    let end = unit_end(stops, text, counted.next);
+    let UnitRead::Found(unit) = parse_time_unit(hall, line, text, counted.next, end) else {
+        return unitless_part(settings, negative, counted);
+    };
+    match parse_ago(settings, text, end) {
+        AgoRead::Refused(cause) => PartRead::Refused(cause),
+        AgoRead::Got(ago) => with_unit(numerals, negative, counted, unit, ago),
     }
 }
 
 // The class of the byte at the place decides: digits, a point, infinity, a numeral, or no number.
-pub fn unsigned_part(
+pub fn unsigned_part<'a>(
     settings: &[u64; 25],
     stops: AsciiSet,
-    table: &[u8],
+    hall: &'a [u8],
+    line: &'a [u8],
     numerals: &[u8],
     text: &[u8],
     negative: bool,
     class: u8,
     place: usize,
 ) -> PartRead
-    requires { ⌜ CardReady (card-of (now settings) (now table) (now numerals)) stops ⌝ }
+    requires { ⌜ CardReady (card-of (now settings) (now hall) (now line) (now numerals)) stops ⌝ }
     requires { ⌜ class ≡ class-at (now text) place ⌝ }
-    ensures { λ r. ⌜ part r ≡ codes (now (text .entry)) (typed-unsigned (card-of (now (settings .entry)) (now (table .entry)) (now (numerals .entry))) (now (text .entry)) negative place) ⌝ }
+    ensures { λ r. ⌜ part r ≡ codes (now (text .entry)) (typed-unsigned (card-of (now (settings .entry)) (now (hall .entry)) (now (line .entry)) (now (numerals .entry))) (now (text .entry)) negative place) ⌝ }
 {
     let counted = match class {
         DIGIT | POINT => match typed_count(settings, text, place) {
@@ -308,5 +308,14 @@ pub fn unsigned_part(
         }
         _ => return PartRead::Refused(Refusal::NoNumber(place)),
     };
-    unit_part(settings, stops, table, numerals, text, negative, counted)
+    unit_part(
+        settings,
+        stops,
+        hall,
+        line,
+        numerals,
+        text,
+        negative,
+        counted,
+    )
 }

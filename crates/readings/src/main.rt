@@ -44,23 +44,25 @@ struct Often {
 
 // The first bytes of a buffer, read so often. The number of an answer is below 17, so 0 is added to the size each time; but the
 // compiler does not know that, and so a round waits for the answer of the one before it and none can be left out.
-fn read_often(
+fn read_often<'a>(
     settings: &[u64; 25],
-    table: &[u8],
+    hall: &'a [u8],
+    line: &'a [u8],
     numerals: &[u8],
     buffer: &[u8],
     size: usize,
     rounds: u32,
 ) -> Answer
-    requires { ⌜ card-check (card-of (now settings) (now table) (now numerals)) ≡ got tt ⌝ }
+    requires { ⌜ card-check (card-of (now settings) (now hall) (now line) (now numerals)) ≡ got tt ⌝ }
 {
-    let mut answer = read_total_checked(settings, table, numerals, first_bytes(buffer, size));
+    let mut answer = read_total_checked(settings, hall, line, numerals, first_bytes(buffer, size));
     let mut left = rounds;
     while left > 1 {
         let more = (answer.number / 200) as usize;
         answer = read_total_checked(
             settings,
-            table,
+            hall,
+            line,
             numerals,
             first_bytes(buffer, further(size, more)),
         );
@@ -70,21 +72,23 @@ fn read_often(
 }
 
 // The same with the card checked in each call. A loop of its own, since a choice within the loop would be counted.
-fn check_often(
+fn check_often<'a>(
     settings: &[u64; 25],
-    table: &[u8],
+    hall: &'a [u8],
+    line: &'a [u8],
     numerals: &[u8],
     buffer: &[u8],
     size: usize,
     rounds: u32,
 ) -> Answer {
-    let mut answer = read_total(settings, table, numerals, first_bytes(buffer, size));
+    let mut answer = read_total(settings, hall, line, numerals, first_bytes(buffer, size));
     let mut left = rounds;
     while left > 1 {
         let more = (answer.number / 200) as usize;
         answer = read_total(
             settings,
-            table,
+            hall,
+            line,
             numerals,
             first_bytes(buffer, further(size, more)),
         );
@@ -93,78 +97,88 @@ fn check_often(
     answer
 }
 
-fn read_text_often(
+fn read_text_often<'a>(
     settings: &[u64; 25],
-    table: &[u8],
+    hall: &'a [u8],
+    line: &'a [u8],
     numerals: &[u8],
     buffer: &[u8],
     size: usize,
     often: Often,
 ) -> Answer
-    requires { ⌜ card-check (card-of (now settings) (now table) (now numerals)) ≡ got tt ⌝ }
+    requires { ⌜ card-check (card-of (now settings) (now hall) (now line) (now numerals)) ≡ got tt ⌝ }
 {
     if often.in_each_call {
-        return check_often(settings, table, numerals, buffer, size, often.rounds);
+        return check_often(settings, hall, line, numerals, buffer, size, often.rounds);
     }
-    read_often(settings, table, numerals, buffer, size, often.rounds)
+    read_often(settings, hall, line, numerals, buffer, size, often.rounds)
 }
 
 // One text put into the buffer, read and printed; false where the list ends.
-fn read_next(
+fn read_next<'a>(
     settings: &[u64; 25],
-    table: &[u8],
+    hall: &'a [u8],
+    line: &'a [u8],
     numerals: &[u8],
     buffer: &mut [u8],
     often: Often,
 ) -> bool
-    requires { ⌜ card-check (card-of (now settings) (now table) (now numerals)) ≡ got tt ⌝ }
+    requires { ⌜ card-check (card-of (now settings) (now hall) (now line) (now numerals)) ≡ got tt ⌝ }
 {
-    let mut line = [0u8; TEXT];
-    let Text::Bytes(size) = next_text(&mut line, 0, buffer) else {
+    let mut head = [0u8; TEXT];
+    let Text::Bytes(size) = next_text(&mut head, 0, buffer) else {
         return false;
     };
-    print_answer(read_text_often(settings, table, numerals, buffer, size, often));
+    print_answer(read_text_often(settings, hall, line, numerals, buffer, size, often));
     true
 }
 
 // Every text of the list.
-fn read_all(settings: &[u64; 25], table: &[u8], numerals: &[u8], often: Often)
-    requires { ⌜ card-check (card-of (now settings) (now table) (now numerals)) ≡ got tt ⌝ }
+fn read_all<'a>(settings: &[u64; 25], hall: &'a [u8], line: &'a [u8], numerals: &[u8], often: Often)
+    requires { ⌜ card-check (card-of (now settings) (now hall) (now line) (now numerals)) ≡ got tt ⌝ }
 {
     let mut buffer = [0u8; ROOM];
     let mut left = MOST_TEXTS;
     while left > 0 {
-        if !read_next(settings, table, numerals, &mut buffer, often) {
+        if !read_next(settings, hall, line, numerals, &mut buffer, often) {
             return;
         }
         left -= 1;
     }
 }
 
-fn read_under(settings: &[u64; 25], table: &[u8], numerals: &[u8], often: Often) {
-    match card_check(settings, table, numerals) {
+fn read_under<'a>(
+    settings: &[u64; 25],
+    hall: &'a [u8],
+    line: &'a [u8],
+    numerals: &[u8],
+    often: Often,
+) {
+    match card_check(settings, hall, line, numerals) {
         Checked::Refused(cause) => print_answer(refusal(cause)),
-        Checked::Accepted => read_all(settings, table, numerals, often),
+        Checked::Accepted => read_all(settings, hall, line, numerals, often),
     }
 }
 
 fn main() {
-    let mut line = [0u8; ROUNDS];
-    if !read_line(&mut line) {
+    let mut head = [0u8; ROUNDS];
+    if !read_line(&mut head) {
         return;
     }
-    let mut table = [0u8; MOST_BYTES];
+    let mut hall = [0u8; MOST_BYTES];
+    let mut line = [0u8; MOST_BYTES];
     let mut numerals = [0u8; MOST_BYTES];
-    let Next::Card(card) = next_card(&mut table, &mut numerals) else {
+    let Next::Card(card) = next_card(&mut hall, &mut line, &mut numerals) else {
         return;
     };
     let often = Often {
-        rounds: half_at(&line, 0),
-        in_each_call: flag_at(&line, IN_EACH_CALL_AT),
+        rounds: half_at(&head, 0),
+        in_each_call: flag_at(&head, IN_EACH_CALL_AT),
     };
     read_under(
         &words_of(card.settings),
-        first_bytes(&table, card.table_size),
+        first_bytes(&hall, card.hall_size),
+        first_bytes(&line, card.line_size),
         first_bytes(&numerals, card.numerals_size),
         often,
     );

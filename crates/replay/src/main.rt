@@ -56,26 +56,34 @@ const ROOM: usize = 81_920;
 const SHOWN: u64 = 10;
 
 // What a request's line says was answered.
-fn stored_answer(line: &[u8]) -> Answer {
+fn stored_answer(request: &[u8]) -> Answer {
     Answer {
-        number: byte_at(line, NUMBER_AT),
-        position: word_at(line, POSITION_AT) as usize,
-        length: length_at(line, LENGTH_AT),
+        number: byte_at(request, NUMBER_AT),
+        position: word_at(request, POSITION_AT) as usize,
+        length: length_at(request, LENGTH_AT),
     }
 }
 
 // The request of a line, made again under a card.
-fn ask(settings: &[u64; 25], table: &[u8], numerals: &[u8], text: &[u8], line: &[u8]) -> Answer {
-    if flag_at(line, ENTRY_AT) {
+fn ask<'a>(
+    settings: &[u64; 25],
+    hall: &'a [u8],
+    line: &'a [u8],
+    numerals: &[u8],
+    text: &[u8],
+    request: &[u8],
+) -> Answer {
+    if flag_at(request, ENTRY_AT) {
         read_part(
             settings,
-            table,
+            hall,
+            line,
             numerals,
             text,
-            word_at(line, PLACE_AT) as usize,
+            word_at(request, PLACE_AT) as usize,
         )
     } else {
-        read_total(settings, table, numerals, text)
+        read_total(settings, hall, line, numerals, text)
     }
 }
 
@@ -99,38 +107,47 @@ fn compare(answer: Answer, stored: Answer, counts: &mut [u64; COUNTS]) {
 }
 
 // The next request of the list, made again under a card. False where the list ends.
-fn replay_next(
+fn replay_next<'a>(
     settings: &[u64; 25],
-    table: &[u8],
+    hall: &'a [u8],
+    line: &'a [u8],
     numerals: &[u8],
     text: &mut [u8],
     counts: &mut [u64; COUNTS],
 ) -> bool {
-    let mut line = [0u8; REQUEST];
-    let Text::Bytes(size) = next_text(&mut line, TEXT_AT, text) else {
+    let mut request = [0u8; REQUEST];
+    let Text::Bytes(size) = next_text(&mut request, TEXT_AT, text) else {
         return false;
     };
-    let answer = ask(settings, table, numerals, first_bytes(text, size), &line);
-    compare(answer, stored_answer(&line), counts);
+    let answer = ask(
+        settings,
+        hall,
+        line,
+        numerals,
+        first_bytes(text, size),
+        &request,
+    );
+    compare(answer, stored_answer(&request), counts);
     true
 }
 
 // The requests under a card, of which a line says how many there are. False where the list ends.
-fn replay_requests(
+fn replay_requests<'a>(
     settings: &[u64; 25],
-    table: &[u8],
+    hall: &'a [u8],
+    line: &'a [u8],
     numerals: &[u8],
     text: &mut [u8],
     counts: &mut [u64; COUNTS],
 ) -> bool {
-    let mut line = [0u8; COUNT];
-    if !read_line(&mut line) {
+    let mut head = [0u8; COUNT];
+    if !read_line(&mut head) {
         return false;
     }
     count(CARD, counts);
-    let mut left = half_at(&line, 0);
+    let mut left = half_at(&head, 0);
     while left > 0 {
-        if !replay_next(settings, table, numerals, text, counts) {
+        if !replay_next(settings, hall, line, numerals, text, counts) {
             return false;
         }
         left -= 1;
@@ -140,17 +157,19 @@ fn replay_requests(
 
 // The next card of the list, and the requests under it. False where the list ends.
 fn replay_card(
-    table: &mut [u8],
+    hall: &mut [u8],
+    line: &mut [u8],
     numerals: &mut [u8],
     text: &mut [u8],
     counts: &mut [u64; COUNTS],
 ) -> bool {
-    let Next::Card(card) = next_card(table, numerals) else {
+    let Next::Card(card) = next_card(hall, line, numerals) else {
         return false;
     };
     replay_requests(
         &words_of(card.settings),
-        first_bytes(table, card.table_size),
+        first_bytes(hall, card.hall_size),
+        first_bytes(line, card.line_size),
         first_bytes(numerals, card.numerals_size),
         text,
         counts,
@@ -159,11 +178,12 @@ fn replay_card(
 
 // Every card of the list.
 fn replay_all(text: &mut [u8], counts: &mut [u64; COUNTS]) {
-    let mut table = [0u8; MOST_BYTES];
+    let mut hall = [0u8; MOST_BYTES];
+    let mut line = [0u8; MOST_BYTES];
     let mut numerals = [0u8; MOST_BYTES];
     let mut left = MOST;
     while left > 0 {
-        if !replay_card(&mut table, &mut numerals, text, counts) {
+        if !replay_card(&mut hall, &mut line, &mut numerals, text, counts) {
             return;
         }
         left -= 1;

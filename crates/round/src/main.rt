@@ -131,9 +131,10 @@ fn agrees(answer: Answer, length: Length) -> bool {
 }
 
 // How many parts of a line differ from the lengths that were written, and whether the last one ends elsewhere.
-fn read_list(
+fn read_list<'a>(
     settings: &[u64; 25],
-    table: &[u8],
+    hall: &'a [u8],
+    line: &'a [u8],
     numerals: &[u8],
     text: &[u8],
     first: u64,
@@ -143,7 +144,7 @@ fn read_list(
     let mut read = 0;
     let mut differ = 0;
     while read < lengths {
-        let answer = read_part(settings, table, numerals, text, place);
+        let answer = read_part(settings, hall, line, numerals, text, place);
         differ = unless(agrees(answer, nth(added(first, read))), differ);
         place = answer.position;
         read += 1;
@@ -195,35 +196,43 @@ fn print_list(line: Line, total: Length) {
 }
 
 // A list written, read part by part and in total, and printed.
-fn round(
+fn round<'a>(
     settings: &[u64; 25],
-    table: &[u8],
+    hall: &'a [u8],
+    line: &'a [u8],
     numerals: &[u8],
     first: u64,
     most: u64,
     before: Tally,
 ) -> Tally {
     let mut buffer = [0u8; LONGEST_TEXT];
-    let line = write_list(&mut buffer, first, most);
-    let text = first_bytes(&buffer, line.size);
-    let parts = read_list(settings, table, numerals, text, first, line.lengths);
-    let total = read_total(settings, table, numerals, text);
-    print_list(line, total.length);
+    let list = write_list(&mut buffer, first, most);
+    let text = first_bytes(&buffer, list.size);
+    let parts = read_list(settings, hall, line, numerals, text, first, list.lengths);
+    let total = read_total(settings, hall, line, numerals, text);
+    print_list(list, total.length);
     Tally {
         cards: before.cards,
-        lengths: added(before.lengths, line.lengths),
+        lengths: added(before.lengths, list.lengths),
         differ: added(before.differ, unless(total.number == 0, parts)),
     }
 }
 
 // Lists of one length, of two and so on under a card, each beginning where the one before it ended.
-fn round_card(settings: &[u64; 25], table: &[u8], numerals: &[u8], before: Tally) -> Tally {
+fn round_card<'a>(
+    settings: &[u64; 25],
+    hall: &'a [u8],
+    line: &'a [u8],
+    numerals: &[u8],
+    before: Tally,
+) -> Tally {
     let mut tally = before;
     let mut lists = 0;
     while lists < LISTS {
         tally = round(
             settings,
-            table,
+            hall,
+            line,
             numerals,
             tally.lengths,
             2 * lists + 1,
@@ -236,7 +245,8 @@ fn round_card(settings: &[u64; 25], table: &[u8], numerals: &[u8], before: Tally
 
 // Every card of the list of cards.
 fn round_all() -> Tally {
-    let mut table = [0u8; MOST_BYTES];
+    let mut hall = [0u8; MOST_BYTES];
+    let mut line = [0u8; MOST_BYTES];
     let mut numerals = [0u8; MOST_BYTES];
     let mut tally = Tally {
         cards: 0,
@@ -245,13 +255,14 @@ fn round_all() -> Tally {
     };
     let mut left = MOST;
     while left > 0 {
-        let Next::Card(card) = next_card(&mut table, &mut numerals) else {
+        let Next::Card(card) = next_card(&mut hall, &mut line, &mut numerals) else {
             return tally;
         };
         tally.cards = one_more(tally.cards);
         tally = round_card(
             &words_of(card.settings),
-            first_bytes(&table, card.table_size),
+            first_bytes(&hall, card.hall_size),
+            first_bytes(&line, card.line_size),
             first_bytes(&numerals, card.numerals_size),
             tally,
         );

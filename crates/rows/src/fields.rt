@@ -1,11 +1,11 @@
 // The fields of a row, and its product with its kind.
 ghost use mathlib.Core.Path.{_≡_};
-ghost use mathlib.Core.Bool.{true, _&&_};
+ghost use mathlib.Core.Bool.{_&&_};
 ghost use Prim.Native.Nat.{_+_, _*_, _^_, _<_, _≤_};
 ghost use lib.Dec.{ltb};
 ghost use lib.ListN.{length};
-ghost use Rattle.rules.specs.SettingsAndUnitTable.{coefficient-size, row-size, rows, row, name, magnitude, row-multiplier, product, in-range};
-ghost use Rattle.rows.specs.Powers.{risen, fallen};
+ghost use Rattle.rules.specs.SettingsAndUnitTable.{coefficient-size, row-size, rows, row, name, magnitude, kind-multiplier, row-multiplier, times, product, in-range};
+ghost use Rattle.rows.specs.Powers.{risen, fallen, Fitting};
 use rules::Multiplier;
 use tables::kind_multiplier;
 use words::short_at;
@@ -113,12 +113,22 @@ fn small(own: Multiplier) -> bool
     own.coefficient < SMALL_COEFFICIENT && own.down < SMALL_DOWN
 }
 
+// Whether a row's fields say so as they stand: a coefficient that is neither large nor below zero, and a power that is not below zero.
+fn plainly_small(coefficient: u64, power: u16) -> bool
+    ensures { λ r. ⌜ r ≡ (ltb coefficient 8796093022208 && ltb power 32768) ⌝ }
+{
+    coefficient < SMALL_COEFFICIENT && power < 32_768
+}
+
 // Whether kind times row lies in the range. A power above zero is never too high. Most rows are told
-// without a read of the kinds.
+// by their fields as they stand, and nearly all without a read of the kinds.
 pub fn product_in_range(row: &[u8]) -> bool
     requires { ⌜ length (now row) ≡ row-size ⌝ }
     ensures { λ r. ⌜ r ≡ in-range (product (now (row .entry))) ⌝ }
 {
+    if plainly_small(word_at(row, COEFFICIENT_AT), short_at(row, POWER_AT)) {
+        return true;
+    }
     let own = row_multiplier(row);
     if small(own) {
         return true;
@@ -131,25 +141,15 @@ pub fn product_in_range(row: &[u8]) -> bool
 }
 
 // Kind times row, of a row for which that is in range.
-pub fn product(row: &[u8]) -> Multiplier
-    requires { ⌜ length (now row) ≡ row-size ⌝ }
-    requires { ⌜ in-range (product (now row)) ≡ true ⌝ }
-    ensures { λ r. ⌜ r ≡ product (now (row .entry)) ⌝ }
+pub fn product(kind: u8, own: Multiplier) -> Multiplier
+    requires { ⌜ Fitting kind own ⌝ }
+    ensures { λ r. ⌜ r ≡ times (kind-multiplier kind) own ⌝ }
 {
-    let unit = kind_multiplier(row[KIND_AT]);
-    let own = row_multiplier(row);
+    let unit = kind_multiplier(kind);
     Multiplier {
         negative: own.negative,
         coefficient: unit.coefficient * own.coefficient,
         up: own.up,
         down: unit.down + own.down,
     }
-}
-
-pub fn row_product(table: &[u8], i: usize) -> Multiplier
-    requires { ⌜ i < rows (now table) ⌝ }
-    requires { ⌜ in-range (product (row (now table) i)) ≡ true ⌝ }
-    ensures { λ r. ⌜ r ≡ product (row (now (table .entry)) i) ⌝ }
-{
-    product(row_at(table, i))
 }

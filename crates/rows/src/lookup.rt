@@ -1,9 +1,10 @@
-// Lookup of a unit's name, byte for byte.
+// Lookup of a name, byte for byte.
 ghost use mathlib.Core.Path.{_≡_};
-ghost use Prim.Native.Nat.{ℕ, _<_, _≤_};
+ghost use Prim.Native.Nat.{_≤_};
 ghost use lib.ListN.{length};
 ghost use Rattle.rules.specs.Common.{same};
-ghost use Rattle.rules.specs.SettingsAndUnitTable.{row-size, name-room, rows, row, name-size, name, lookup};
+ghost use Rattle.rules.specs.SettingsAndUnitTable.{row-size, name-room, name-size, name, lookup, find-row};
+ghost use Rattle.rows.specs.Named.{Sized, row-named};
 use crate::fields::NAME_AT;
 use crate::fields::ROW_SIZE;
 use crate::fields::row_at;
@@ -40,10 +41,10 @@ fn has_name(row: &[u8], wanted: &[u8]) -> bool
     same(&row[NAME_AT..end], wanted)
 }
 
-// The first row that has the name, in a table of which no row claims a longer name than it has room for. The rows that are left go on as a
-// slice of their own, so that no row's place is made from its number.
+// The number of the first row that has the name. The rows that are left go on as a slice of their own, so that no row's place is made from its
+// number.
 pub fn find(table: &[u8], wanted: &[u8]) -> Found
-    requires { ⌜ ((i : ℕ) → i < rows (now table) → name-size (row (now table) i) ≤ name-room) ⌝ }
+    requires { ⌜ Sized (now table) ⌝ }
     ensures { λ r. ⌜ r ≡ lookup (now (table .entry)) (now (wanted .entry)) ⌝ }
 {
     let count = table.len() / ROW_SIZE;
@@ -57,4 +58,34 @@ pub fn find(table: &[u8], wanted: &[u8]) -> Found
         left -= 1;
     }
     Found::Nowhere
+}
+
+// The first row that has the name, as a part of the table; an empty part, if none has it.
+fn row_named<'a>(table: &'a [u8], wanted: &[u8]) -> &'a [u8]
+    requires { ⌜ Sized (now table) ⌝ }
+    ensures { λ r. ⌜ now r ≡ row-named (now (table .entry)) (now (wanted .entry)) ⌝ }
+{
+    let mut left = table.len() / ROW_SIZE;
+    let mut rest = table;
+    while left > 0 {
+        let row = &rest[..ROW_SIZE];
+        if has_name(row, wanted) {
+            return row;
+        }
+        rest = &rest[ROW_SIZE..];
+        left -= 1;
+    }
+    &rest[..0]
+}
+
+// The row of a unit, from whichever table holds it: the line's rows win. An empty part of the hall's, if none does. The line's table is searched
+// for a number and the hall's for a row: with one way for both the compiler is left with fewer registers for the rest of a part.
+pub fn find_row<'a>(hall: &'a [u8], line: &'a [u8], name: &[u8]) -> &'a [u8]
+    requires { ⌜ Sized (now hall) × Sized (now line) ⌝ }
+    ensures { λ r. ⌜ now r ≡ find-row (now (hall .entry)) (now (line .entry)) (now (name .entry)) ⌝ }
+{
+    match find(line, name) {
+        Found::Row(i) => row_at(line, i),
+        Found::Nowhere => row_named(hall, name),
+    }
 }

@@ -71,9 +71,9 @@ table-A =
     ++ row-of "turn" 2 123 (2 ^ 16 - 1)
     ++ row-of "block" 3 10000000000 0
 
--- a card without numerals
+-- a card without a table of the line's and without numerals
 unfoldable pub unspoken : Settings → List ℕ → Card
-unspoken s units = record { settings = s; units = units; numerals = [] }
+unspoken s hall = record { settings = s; hall = hall; line = []; numerals = [] }
 
 unfoldable pub card-A : Card
 card-A = unspoken settings-A table-A

@@ -14,4 +14,5 @@ pub mod EntriesAtTheirLimits
 pub mod AUnitNobodyCouldType
 pub mod WhichExponentDigitIsWrong
 pub mod SpokenNumbers
+pub mod TheLinesOwnUnitNames
 pub mod Laws

@@ -4,7 +4,7 @@ use Prim.Native.Nat.{ℕ, _+_}
 use Rattle.rules.specs.declared.Length.{Length}
 use Rattle.rules.specs.declared.Answer.{Answer}
 use Rattle.rules.specs.declared.Refusal.{Refusal}
-use Rattle.rules.specs.declared.Refusal.the-variants.{Nothing, SignEnds, DelimiterEnds, FractionOff, FractionEmpty, ExponentOff, ExponentByte, ExponentEnds, ExponentAbove, ExponentBelow, InfinityByte, InfinityEnds, InfinityGoesOn, ConjunctionEnds, ConjunctionGoesOn, NegativeForbidden, NoNumber, NoUnit, OutOfRange, Delimiters, Conjunctions, DefaultKind, TableSize, BadRow, NumeralsSize, BadNumeral, TextTooLong, NoRoom, Beyond, Malformed, NotIso, YearOrMonth, TooLarge}
+use Rattle.rules.specs.declared.Refusal.the-variants.{Nothing, SignEnds, DelimiterEnds, FractionOff, FractionEmpty, ExponentOff, ExponentByte, ExponentEnds, ExponentAbove, ExponentBelow, InfinityByte, InfinityEnds, InfinityGoesOn, ConjunctionEnds, ConjunctionGoesOn, NegativeForbidden, NoNumber, NoUnit, OutOfRange, Delimiters, Conjunctions, DefaultKind, TableSize, BadRow, LineSize, BadLineRow, NumeralsSize, BadNumeral, TextTooLong, NoRoom, Beyond, Malformed, NotIso, YearOrMonth, TooLarge}
 use Rattle.rules.specs.ThePartOfTheCrateWeTake.{longest-text, zero-length}
 
 -- what a step, a check or an entry comes to: something, or a refusal
@@ -52,6 +52,8 @@ number Conjunctions = 7
 number DefaultKind = 7
 number TableSize = 7
 number (BadRow i) = 7
+number LineSize = 7
+number (BadLineRow i) = 7
 number NumeralsSize = 7
 number (BadNumeral i) = 7
 number TextTooLong = 8
@@ -87,6 +89,8 @@ position Conjunctions = 66
 position DefaultKind = 67
 position TableSize = 64
 position (BadRow i) = i
+position LineSize = 128 + 64
+position (BadLineRow i) = 128 + i
 position NumeralsSize = 100
 position (BadNumeral i) = 68 + i
 position TextTooLong = longest-text

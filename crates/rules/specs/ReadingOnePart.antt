@@ -25,7 +25,7 @@ use Rattle.rules.specs.declared.Refusal.{Refusal}
 use Rattle.rules.specs.declared.Refusal.the-variants.{Nothing, SignEnds, DelimiterEnds, FractionOff, FractionEmpty, ExponentOff, ExponentByte, ExponentEnds, ExponentAbove, ExponentBelow, InfinityByte, InfinityEnds, InfinityGoesOn, ConjunctionEnds, ConjunctionGoesOn, NoNumber, NoUnit}
 use Rattle.rules.specs.Common.{if_then_else_, ascii, ends, sees, run}
 use Rattle.rules.specs.NumbersHandedBack.{Outcome, got, refused, _>>=_, _>>_}
-use Rattle.rules.specs.SettingsAndUnitTable.{DIGIT, SIGN, POINT, is, is-next-duration, lower, holds, letters-of, conjunctions-of, kind-multiplier, Card, lookup, row, kind, row-multiplier, product}
+use Rattle.rules.specs.SettingsAndUnitTable.{DIGIT, SIGN, POINT, is, is-next-duration, lower, holds, letters-of, conjunctions-of, kind-multiplier, Card, lookup, find-row, row, kind, row-multiplier, product}
 
 -- ---- words and delimiters
 
@@ -143,17 +143,17 @@ ago-step s text m place =
     then got (record { multiplier = negated m; next = word + 3 })
     else got (record { multiplier = m; next = place }))
 
--- the row that has the stretch as its name
-unfoldable pub find-unit : Card → List ℕ → ℕ → Found
-find-unit card text place = lookup (card .units) (slice place (run (in-stretch (card .settings)) text place) text)
+-- the row that has the stretch as its name: the line's, or else the hall's; nothing if there is none
+unfoldable pub find-unit : Card → List ℕ → ℕ → List ℕ
+find-unit card text place = find-row (card .hall) (card .line) (slice place (run (in-stretch (card .settings)) text place) text)
 
 -- when the lookup fails, the place goes back and the part carries on without a unit
-unfoldable pub unit-found : Card → List ℕ → ℕ → Found → Outcome declared-unit.Unit
-unit-found card text place (Row i) = ago-step (card .settings) text (product (row (card .units) i)) (run (in-stretch (card .settings)) text place)
-unit-found card text place Nowhere = got (record { multiplier = kind-multiplier (card .settings .«default_kind»); next = place })
+unfoldable pub unit-found : Settings → List ℕ → ℕ → List ℕ → Outcome declared-unit.Unit
+unit-found s text place [] = got (record { multiplier = kind-multiplier (s .«default_kind»); next = place })
+unit-found s text place (size ∷ r) = ago-step s text (product (size ∷ r)) (run (in-stretch s) text place)
 
 unfoldable pub unit-step : Card → List ℕ → ℕ → Outcome declared-unit.Unit
-unit-step card text place = unit-found card text place (find-unit card text place)
+unit-step card text place = unit-found (card .settings) text place (find-unit card text place)
 
 -- ---- 7. at an outer delimiter, a connection: the run, then the first listed conjunction that is a prefix here
 
@@ -224,14 +224,14 @@ numeral-step card text place =
     numeral-found card text place (lookup (card .numerals) (slice place (numeral-end (card .settings) text place) text))
 
 -- step 6 must find a unit: no row, 15 at the byte after the delimiters; `ago` negates the row
-unfoldable pub spoken-unit-found : Card → List ℕ → ℕ → Found → Outcome SpokenUnit
-spoken-unit-found card text place (Row i) =
-    ago-step (card .settings) text (row-multiplier (row (card .units) i)) (run (in-stretch (card .settings)) text place)
-    >>= λ unit. got (record { kind = kind-multiplier (kind (row (card .units) i)); row = unit .multiplier; next = unit .next })
-spoken-unit-found card text place Nowhere = refused (NoUnit place)
+unfoldable pub spoken-unit-found : Settings → List ℕ → ℕ → List ℕ → Outcome SpokenUnit
+spoken-unit-found s text place [] = refused (NoUnit place)
+spoken-unit-found s text place (size ∷ r) =
+    ago-step s text (row-multiplier (size ∷ r)) (run (in-stretch s) text place)
+    >>= λ unit. got (record { kind = kind-multiplier (kind (size ∷ r)); row = unit .multiplier; next = unit .next })
 
 unfoldable pub spoken-unit-step : Card → List ℕ → ℕ → Outcome SpokenUnit
-spoken-unit-step card text place = spoken-unit-found card text place (find-unit card text place)
+spoken-unit-step card text place = spoken-unit-found (card .settings) text place (find-unit card text place)
 
 -- ---- the part: what was typed, and where the next part begins
 

@@ -12,7 +12,7 @@ use Rattle.rules.specs.declared.Multiplier.{Multiplier}
 use Rattle.rules.specs.declared.Found.{Found}
 use Rattle.rules.specs.declared.Found.the-variants.{Row, Nowhere}
 use Rattle.rules.specs.declared.Refusal.{Refusal}
-use Rattle.rules.specs.declared.Refusal.the-variants.{Delimiters, Conjunctions, DefaultKind, TableSize, BadRow, NumeralsSize, BadNumeral}
+use Rattle.rules.specs.declared.Refusal.the-variants.{Delimiters, Conjunctions, DefaultKind, TableSize, BadRow, LineSize, BadLineRow, NumeralsSize, BadNumeral}
 use Rattle.rules.specs.Common.{if_then_else_, between, all, runs, same, starts}
 use Rattle.rules.specs.NumbersHandedBack.{Outcome, got, refused, _>>_, unless}
 
@@ -276,11 +276,19 @@ unfoldable pub rows-check : (ℕ → Bool) → (ℕ → Refusal) → ℕ → ℕ
 rows-check accepted bad i zero = got tt
 rows-check accepted bad i (suc n) = let more = rows-check accepted bad (suc i) n in if accepted i then more else refused (bad i)
 
--- 0 to 64 rows of 32 bytes
+-- 0 to 64 rows of 32 bytes, each table by itself; what is wrong is said of that table
+unfoldable pub units-check : Refusal → (ℕ → Refusal) → Settings → List ℕ → Outcome (Unit {0})
+units-check size bad s table = do
+  unless size (whole-rows most-rows table)
+  rows-check (row-accepted s table) bad 0 (rows table)
+
+-- the hall's table
 unfoldable pub table-check : Settings → List ℕ → Outcome (Unit {0})
-table-check s table = do
-  unless TableSize (whole-rows most-rows table)
-  rows-check (row-accepted s table) BadRow 0 (rows table)
+table-check s hall = units-check TableSize BadRow s hall
+
+-- "The line's own unit names" (request five): the line's table
+unfoldable pub line-check : Settings → List ℕ → Outcome (Unit {0})
+line-check s line = units-check LineSize BadLineRow s line
 
 -- 0 to 32 rows of the same form
 unfoldable pub numerals-check : List ℕ → Outcome (Unit {0})
@@ -288,17 +296,19 @@ numerals-check numerals = do
   unless NumeralsSize (whole-rows most-numerals numerals)
   rows-check (numeral-accepted numerals) BadNumeral 0 (rows numerals)
 
--- what a reading is made under: settings, the unit table and the numeral table
+-- what a reading is made under: settings, the hall's unit table, the line's, and the numeral table
 pub record Card : Type 0 where
   pub settings : Settings
-  pub units : List ℕ
+  pub hall : List ℕ
+  pub line : List ℕ
   pub numerals : List ℕ
 
--- settings first, then the unit table, then the numerals
+-- settings first, then the hall's table, then the line's, then the numerals
 unfoldable pub card-check : Card → Outcome (Unit {0})
 card-check card = do
   settings-check (card .settings)
-  table-check (card .settings) (card .units)
+  table-check (card .settings) (card .hall)
+  line-check (card .settings) (card .line)
   numerals-check (card .numerals)
 
 -- ---- lookup, byte for byte: the first of the n rows from i on that has the name
@@ -309,6 +319,30 @@ lookup-from table wanted i (suc n) = let more = lookup-from table wanted (suc i)
 
 unfoldable pub lookup : List ℕ → List ℕ → Found
 lookup table wanted = lookup-from table wanted 0 (rows table)
+
+-- in which of the two unit tables a name stands, and at which row
+pub data Holder : Type 0 where
+  Line : ℕ → Holder
+  Hall : ℕ → Holder
+  Neither : Holder
+
+-- the line's rows win
+unfoldable pub line-first : Found → Found → Holder
+line-first (Row i) in-hall = Line i
+line-first Nowhere (Row i) = Hall i
+line-first Nowhere Nowhere = Neither
+
+unfoldable pub stands : List ℕ → List ℕ → List ℕ → Holder
+stands hall line wanted = line-first (lookup line wanted) (lookup hall wanted)
+
+-- the row itself, from whichever table holds it; nothing if none does
+unfoldable pub held-row : List ℕ → List ℕ → Holder → List ℕ
+held-row hall line (Line i) = row line i
+held-row hall line (Hall i) = row hall i
+held-row hall line Neither = []
+
+unfoldable pub find-row : List ℕ → List ℕ → List ℕ → List ℕ
+find-row hall line wanted = held-row hall line (stands hall line wanted)
 
 -- ---- the stored form of a row: 64 lower-case hexadecimal digits and a newline
 

@@ -58,8 +58,8 @@ settings-of words = record {
 }
 
 -- a card as it is lent: its settings as words, and the bytes of its tables
-abbrev pub card-of : List ℕ → List ℕ → List ℕ → Card
-card-of words units numerals = record { settings = settings-of words; units = units; numerals = numerals }
+abbrev pub card-of : List ℕ → List ℕ → List ℕ → List ℕ → Card
+card-of words hall line numerals = record { settings = settings-of words; hall = hall; line = line; numerals = numerals }
 
 -- the words of a record
 unfoldable pub settings-words : Settings → List ℕ

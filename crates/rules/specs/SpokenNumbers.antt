@@ -21,7 +21,7 @@ numeral name coefficient power = row-of name 3 coefficient power
 
 -- card A with numerals
 unfoldable pub speaking : List ℕ → Card
-speaking numerals = record { settings = settings-A; units = table-A; numerals = numerals }
+speaking numerals = record { settings = settings-A; hall = table-A; line = []; numerals = numerals }
 
 -- ---- the numeral table, after the unit table: 100, then 68 and the row
 
@@ -39,7 +39,7 @@ accepted numerals = holds-under (speaking numerals) (reads "1s" (plus 1 0))
 pub tables-in-order :
     T (accepted [] && accepted (lettered 32) && refused-with 100 (lettered 33))
     × T (refused-with 100 (replicate 31 0) && refused-with 68 (replicate 32 0) && refused-with 100 (replicate 33 0))
-    × T (holds-under (record { settings = settings-A; units = replicate 32 0; numerals = replicate 31 0 }) (fails "1s" 7 0))
+    × T (holds-under (record { settings = settings-A; hall = replicate 32 0; line = []; numerals = replicate 31 0 }) (fails "1s" 7 0))
     × T (refused-with 99 (lettered 31 ++ numeral "" 5 0))
 unfolding computing space conjunction settings settings-A row-of table-A same-length same-answer reads plus fails holds-under numeral speaking lettered refused-with accepted
 tables-in-order = (tt, tt, tt, tt)
@@ -137,7 +137,7 @@ commas negatives = record {
 }
 
 unfoldable pub with-commas : List ℕ → Card
-with-commas numerals = record { settings = commas true; units = row-of "min" 4 1 0 ++ row-of "s" 3 1 0; numerals = numerals }
+with-commas numerals = record { settings = commas true; hall = row-of "min" 4 1 0 ++ row-of "s" 3 1 0; line = []; numerals = numerals }
 
 pub readings-with-commas :
     T
@@ -159,7 +159,7 @@ readings-with-commas = tt
 
 -- a numeral of seconds and a unit
 unfoldable pub times : List ℕ → List ℕ → Bool → Card
-times one unit negatives = record { settings = commas negatives; units = unit; numerals = one }
+times one unit negatives = record { settings = commas negatives; hall = unit; line = []; numerals = one }
 
 unfoldable pub comes-to : List ℕ → List ℕ → Case → Bool
 comes-to one unit case = holds-under (times one unit true) case

@@ -1,5 +1,5 @@
 -- "What every entry owes": each entry's answer, and what every lent byte or record then holds, for all arguments.
--- The order of refusals: 7 (65, 66, 67, 64, rows upward, 100, numerals upward), 11, 8, 10, then left to right. Assumes nothing.
+-- The order of refusals: 7 (65, 66, 67; 64, the hall's rows upward; 192, the line's; 100, the numerals), 11, 8, 10, then left to right. Assumes nothing.
 use mathlib.Core.List.{List}
 use Prim.Native.Nat.{ℕ}
 use lib.Dec.{leb}

@@ -195,12 +195,15 @@ pub enum Refusal {
     // a spoken number has no unit here; a product of its numeral, kind and row is out of range
     NoUnit(usize),
     OutOfRange,
-    // the card: a wrong delimiter, conjunction, default kind, table size or row, and size or row of the numerals, of which a byte counts the rows
+    // the card: a wrong delimiter, conjunction, default kind, size or row of the hall's table, of the line's, and of the numerals, of which a byte counts
+    // the rows
     Delimiters,
     Conjunctions,
     DefaultKind,
     TableSize,
     BadRow(usize),
+    LineSize,
+    BadLineRow(u8),
     NumeralsSize,
     BadNumeral(u8),
     // the text is longer than a text may be

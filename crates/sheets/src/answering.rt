@@ -20,16 +20,17 @@ pub struct Progress {
 
 // The lines that have their newline, as far as the buffer has room for what is printed for them, which is put at its start. As for
 // every reading under a checked card, the card has been accepted.
-pub fn answer_lines(
+pub fn answer_lines<'a>(
     settings: &[u64; 25],
-    table: &[u8],
+    hall: &'a [u8],
+    line: &'a [u8],
     numerals: &[u8],
     sheet: &[u8],
     out: &mut [u8],
 ) -> Progress
-    requires { ⌜ card-check (card-of (now settings) (now table) (now numerals)) ≡ got tt ⌝ }
-    ensures { λ r. ⌜ r ≡ answered-to (card-of (now (settings .entry)) (now (table .entry)) (now (numerals .entry))) (now (sheet .entry)) (length (now (out .entry))) ⌝ }
-    ensures { λ r. ⌜ now (out .exit) ≡ laid (now (out .entry)) 0 (sheet-printed (card-of (now (settings .entry)) (now (table .entry)) (now (numerals .entry))) (take (r .read) (now (sheet .entry)))) ⌝ }
+    requires { ⌜ card-check (card-of (now settings) (now hall) (now line) (now numerals)) ≡ got tt ⌝ }
+    ensures { λ r. ⌜ r ≡ answered-to (card-of (now (settings .entry)) (now (hall .entry)) (now (line .entry)) (now (numerals .entry))) (now (sheet .entry)) (length (now (out .entry))) ⌝ }
+    ensures { λ r. ⌜ now (out .exit) ≡ laid (now (out .entry)) 0 (sheet-printed (card-of (now (settings .entry)) (now (hall .entry)) (now (line .entry)) (now (numerals .entry))) (take (r .read) (now (sheet .entry)))) ⌝ }
     ensures { λ r. ⌜ (r .read ≤ length (now (sheet .entry))) × (r .printed ≤ length (now (out .exit))) ⌝ }
 {
     let mut read = 0;
@@ -39,7 +40,7 @@ pub fn answer_lines(
         if sheet.len() <= end {
             return Progress { read, printed };
         }
-        let answer = read_total_checked(settings, table, numerals, &sheet[read..end]);
+        let answer = read_total_checked(settings, hall, line, numerals, &sheet[read..end]);
         let next = put_answer(answer, out, printed);
         if next == printed {
             return Progress { read, printed };

@@ -13,10 +13,11 @@ use Rattle.rules.specs.ReadingOnePart.{negated}
 use Rattle.rules.specs.Computing.{computing}
 use Rattle.rules.specs.CardAAndItsReadings.{space, conjunction, settings, settings-A, row-of, table-A, same-length, same-answer, Case, reads, plus, fails}
 use Rattle.rules.specs.SpokenNumbers.{numeral, speaking, some, comma, commas, times, most}
+use Rattle.rules.specs.TheLinesOwnUnitNames.{on-a-line, jaw, line-7, five}
 use Rattle.spoken_numbers.specs.TheReadingBefore as before
 use Rattle.spoken_numbers.specs.WhenNoUnitFollows.{NoUnitAt}
 use Rattle.spoken_numbers.specs.WhenAProductLeavesItsRange.{OutOfItsRange, too-large, too-high, too-low}
-use Rattle.spoken_numbers.specs.WhatIsMultiplied.{Rows, by-ago}
+use Rattle.spoken_numbers.specs.WhatIsMultiplied.{Rows, as-it-is, by-ago}
 
 -- ---- 15
 
@@ -38,6 +39,17 @@ before-a-digit = record {
   signed = record { negative = true; next = 1 };
   asked = record { not-at-end = refl; sign = refl; no-number = refl; no-infinity = refl };
   i = 2;
+  numeral = record { found = refl; followed = refl; behind = refl; goes-on = refl };
+  no-unit = refl;
+}
+
+-- on a line with names of its own: `pouch` is in neither table
+pub in-neither-table : NoUnitAt (on-a-line line-7 five) (ascii "five pouch") 0 5
+unfolding computing space conjunction settings settings-A row-of table-A on-a-line jaw line-7 five
+in-neither-table = record {
+  signed = record { negative = false; next = 0 };
+  asked = record { not-at-end = refl; sign = refl; no-number = refl; no-infinity = refl };
+  i = 0;
   numeral = record { found = refl; followed = refl; behind = refl; goes-on = refl };
   no-unit = refl;
 }
@@ -91,12 +103,31 @@ five-s-ago = record {
   i = 0;
   q = 5;
   numeral-at = record { found = refl; followed = refl; behind = refl; goes-on = refl };
-  j = 2;
+  size = 1;
+  rest = _;
   unit-at = refl;
   sign = refl;
   numeral = refl;
-  kind-of-j = refl;
-  row-of-j = by-ago 7 refl;
+  its-kind = refl;
+  its-row = by-ago 7 refl;
+}
+
+-- `five turn` on that line: the line's row, 15 milliseconds, though the hall has a `turn` too
+pub five-turn : Rows (on-a-line line-7 five) (ascii "five turn") 0 (record { negative = false; numeral = multiplier 5 0 0; kind = multiplier 1 0 3; row = multiplier 15 0 0 })
+unfolding computing space conjunction settings settings-A row-of table-A on-a-line jaw line-7 five
+five-turn = record {
+  signed = record { negative = false; next = 0 };
+  asked = record { not-at-end = refl; sign = refl; no-number = refl; no-infinity = refl };
+  i = 0;
+  q = 5;
+  numeral-at = record { found = refl; followed = refl; behind = refl; goes-on = refl };
+  size = 4;
+  rest = _;
+  unit-at = refl;
+  sign = refl;
+  numeral = refl;
+  its-kind = refl;
+  its-row = as-it-is;
 }
 
 -- ---- as it was

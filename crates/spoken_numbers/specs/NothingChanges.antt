@@ -1,11 +1,12 @@
--- With an empty numeral table nothing changes: whatever its other arguments, every entry answers as before request four. The writer did not
--- move. Assumes nothing.
+-- With an empty numeral table nothing changes: whatever its other arguments, every entry answers as before request four, when a line had no
+-- table of its own. The writer did not move. Assumes nothing.
 use mathlib.Core.Path.{_≡_, refl}
 use mathlib.Core.Bool.{Bool, true, false}
-use mathlib.Core.List.{List}
+use mathlib.Core.List.{List, []}
 use Prim.Native.Nat.{ℕ, zero, suc, zero-le}
 use borrow.Author.Tests.{le-leb}
-use lib.Seq.{slice}
+use native.Mathlib.Omega.{arith}
+use lib.Seq.{slice, drop-cons}
 use Rattle.rules.specs.declared.Found.{Found}
 use Rattle.rules.specs.declared.Found.the-variants.{Row, Nowhere}
 use Rattle.rules.specs.declared.Length.{Length}
@@ -15,12 +16,14 @@ use Rattle.rules.specs.declared.Repr.the-variants.{Typed}
 use Rattle.rules.specs.declared.Settings.{Settings}
 use Rattle.rules.specs.Common.{if_then_else_, between, run}
 use Rattle.rules.specs.NumbersHandedBack.{Outcome, got, refused, _>>=_, _>>_, unless}
-use Rattle.rules.specs.SettingsAndUnitTable.{rows, row, kind, row-formed, row-right, row-accepted, whole-rows, rows-check, table-check, numerals-check, card-check, lookup-from, lookup}
+use Rattle.rules.specs.SettingsAndUnitTable.{rows, row, kind, row-formed, row-right, row-accepted, whole-rows, rows-check, units-check, table-check, line-check, numerals-check, card-check, lookup-from, lookup, line-first, stands, held-row, find-row}
 use Rattle.rules.specs.ReadingOnePart.{in-stretch, find-unit, unit-found, unit-step, numeral-found, numeral-step, infinite-part, finite-part, spoken-part, unsigned-part, part}
 use Rattle.rules.specs.Evaluation.{evaluated, part-reading, parts, total}
 use Rattle.rules.specs.WhatEveryEntryOwes.{read-part, part-answer, read-total, total-answer, add-total, shift-answer, shifted-record}
 use Rattle.rules.specs.CardAAndItsReadings.{unspoken}
 use Rattle.rules.specs.Laws.Outcomes.{bind-assoc}
+use Rattle.rows.specs.Laws.Rows.{length-row}
+use Rattle.rows.specs.Laws.Lookup.{lookup-found}
 use Rattle.spoken_numbers.specs.TheReadingBefore as before
 
 -- a check with nothing behind it
@@ -52,19 +55,22 @@ module _ (s : Settings) (table : List ℕ) where
   rows-as-before i (suc n) = rw (rows-as-before (suc i) n, row-as-before i)
 
   pub card-as-before : card-check (unspoken s table) ≡ before.card-check s table
-  unfolding unspoken card-check table-check numerals-check whole-rows rows rows-check unless _>>_ before.card-check before.table-check
+  unfolding unspoken card-check units-check table-check line-check numerals-check whole-rows rows rows-check unless _>>_ before.card-check before.table-check
   card-as-before = simp (rows-as-before, alone)
 
   module _ (text : List ℕ) where
     -- ---- a part
 
     unit-as-before : (place : ℕ) → unit-step (unspoken s table) text place ≡ before.unit-step s table text place
-    unfolding unspoken unit-step find-unit unit-found before.unit-step before.unit-found
-    unit-as-before place = go (lookup table (slice place (run (in-stretch s) text place) text))
+    unfolding unspoken unit-step find-unit find-row stands held-row line-first unit-found lookup lookup-from rows before.unit-step before.unit-found
+    unit-as-before place = go (lookup table name) refl
       where
-        go : (found : Found) → unit-found (unspoken s table) text place found ≡ before.unit-found s table text place found
-        go (Row i) = refl
-        go Nowhere = refl
+        name : List ℕ
+        name = slice place (run (in-stretch s) text place) text
+
+        go : (found : Found) → lookup table name ≡ found → unit-found s text place (held-row table [] (line-first Nowhere found)) ≡ before.unit-found s table text place found
+        go (Row i) at = rw (drop-cons (row table i) 0 0 (omega (arith, length-row table i (lookup-found table name i at .0))))
+        go Nowhere at = refl
 
     finite-as-before : (negative : Bool) (place : ℕ) → finite-part (unspoken s table) text negative place ≡ (before.finite-part s table text negative place >>= λ p. got (typed p))
     unfolding unspoken finite-part before.finite-part _>>=_

@@ -1,16 +1,15 @@
 -- What a spoken part multiplies: the row of its numeral, the kind of its unit's row, and that row, which `ago` negates. Assumes nothing.
 use mathlib.Core.Path.{_≡_, refl}
 use mathlib.Core.Bool.{true}
-use mathlib.Core.List.{List}
+use mathlib.Core.List.{List, [], _∷_}
 use Prim.Native.Nat.{ℕ}
-use Rattle.rules.specs.declared.Found.{Found}
-use Rattle.rules.specs.declared.Found.the-variants.{Row, Nowhere}
 use Rattle.rules.specs.declared.Multiplier.{Multiplier}
 use Rattle.rules.specs.declared.Repr.{Repr}
 use Rattle.rules.specs.declared.Repr.the-variants.{Typed, Spoken}
 use Rattle.rules.specs.declared.Settings.{Settings}
 use Rattle.rules.specs.declared.Signed.{Signed}
 use Rattle.rules.specs.declared.SpokenRepr.{SpokenRepr}
+use Rattle.rules.specs.declared.SpokenUnit.{SpokenUnit}
 use Rattle.rules.specs.Common.{ascii}
 use Rattle.rules.specs.SettingsAndUnitTable.{kind-multiplier, row, kind, row-multiplier, Card}
 use Rattle.rules.specs.ReadingOnePart.{says, sign-step, negated, ago-step, find-unit, spoken-unit-found, spoken-unit-step, infinite-part, finite-part, spoken-part, unsigned-part, part}
@@ -23,19 +22,21 @@ pub data RowOrAgo (text : List ℕ) (m : Multiplier) : Multiplier → Type 0 whe
   as-it-is : RowOrAgo text m m
   by-ago : (word : ℕ) → says (ascii "ago") text word ≡ true → RowOrAgo text m (negated m)
 
--- the part that begins at a place speaks row i of the numerals and row j of the units
+-- the part that begins at a place speaks row i of the numerals and a row of the units, the line's or else the hall's: its bytes are the size of
+-- its name and the rest
 pub record Rows (card : Card) (text : List ℕ) (place : ℕ) (d : SpokenRepr) : Type 0 where
   pub signed : Signed
   pub asked : NumeralAsked card text place signed
   pub i : ℕ
   pub q : ℕ
   pub numeral-at : NumeralAt card text (signed .next) i q
-  pub j : ℕ
-  pub unit-at : find-unit card text q ≡ Row j
+  pub size : ℕ
+  pub rest : List ℕ
+  pub unit-at : find-unit card text q ≡ size ∷ rest
   pub sign : d .negative ≡ signed .negative
   pub numeral : d .numeral ≡ row-multiplier (row (card .numerals) i)
-  pub kind-of-j : d .kind ≡ kind-multiplier (kind (row (card .units) j))
-  pub row-of-j : RowOrAgo text (row-multiplier (row (card .units) j)) (d .row)
+  pub its-kind : d .kind ≡ kind-multiplier (kind (size ∷ rest))
+  pub its-row : RowOrAgo text (row-multiplier (size ∷ rest)) (d .row)
 
 abbrev pub IfSpoken : (SpokenRepr → Type 0) → Repr → Type 0
 IfSpoken X (Typed d) = Unit {0}
@@ -48,13 +49,20 @@ ago-got s text m place =
     (λ _. all-bind (always _) (λ word _. all-if (λ e. all-got (by-ago word (and-left _ _ e))) (λ _. all-got as-it-is)))
 
 module _ (card : Card) (text : List ℕ) where
-  unit-got : (q : ℕ) → All (λ unit. (j : ℕ) × (find-unit card text q ≡ Row j) × (unit .kind ≡ kind-multiplier (kind (row (card .units) j))) × RowOrAgo text (row-multiplier (row (card .units) j)) (unit .row)) (spoken-unit-step card text q)
+  -- a unit that was found, as it is multiplied
+  abbrev Got : ℕ → SpokenUnit → Type 0
+  Got q unit =
+      (size : ℕ) × (rest : List ℕ) × (find-unit card text q ≡ size ∷ rest)
+      × (unit .kind ≡ kind-multiplier (kind (size ∷ rest)))
+      × RowOrAgo text (row-multiplier (size ∷ rest)) (unit .row)
+
+  unit-got : (q : ℕ) → All (Got q) (spoken-unit-step card text q)
   unfolding spoken-unit-step spoken-unit-found
   unit-got q = go (find-unit card text q) refl
     where
-      go : (f : Found) → find-unit card text q ≡ f → All (λ unit. (j : ℕ) × (find-unit card text q ≡ Row j) × (unit .kind ≡ kind-multiplier (kind (row (card .units) j))) × RowOrAgo text (row-multiplier (row (card .units) j)) (unit .row)) (spoken-unit-found card text q f)
-      go (Row j) found = all-bind (ago-got (card .settings) text _ _) (λ unit read. all-got (j, found, refl, read))
-      go Nowhere found = all-refused
+      go : (r : List ℕ) → find-unit card text q ≡ r → All (Got q) (spoken-unit-found (card .settings) text q r)
+      go [] found = all-refused
+      go (size ∷ rest) found = all-bind (ago-got (card .settings) text _ _) (λ unit read. all-got (size, rest, found, refl, read))
 
   pub rows-multiplied : (place : ℕ) → All (λ p. IfSpoken (Rows card text place) (p .repr)) (part card text place)
   unfolding part unsigned-part finite-part infinite-part spoken-part
@@ -71,7 +79,7 @@ module _ (card : Card) (text : List ℕ) where
       all-bind (numeral-got card text (signed .next))
       (λ numeral (i, numeral-is, numeral-at).
       all-bind (unit-got (numeral .next))
-      (λ unit (j, unit-at, kind-is, row-is).
+      (λ unit (size, rest, unit-at, kind-is, row-is).
       all-bind (always _)
       (λ _ _.
       all-got
@@ -81,10 +89,11 @@ module _ (card : Card) (text : List ℕ) where
         i = i;
         q = numeral .next;
         numeral-at = numeral-at;
-        j = j;
+        size = size;
+        rest = rest;
         unit-at = unit-at;
         sign = refl;
         numeral = numeral-is;
-        kind-of-j = kind-is;
-        row-of-j = row-is;
+        its-kind = kind-is;
+        its-row = row-is;
       }))))))))

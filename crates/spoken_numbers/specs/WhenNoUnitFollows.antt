@@ -1,8 +1,8 @@
 -- A part is refused by 15 exactly if the steps come to the numeral lookup, it finds a row, a run of inner delimiters that does not end the
--- text follows, and the stretch of step 6 from the byte after it names no row; and 15 is at that byte. Assumes nothing.
+-- text follows, and the stretch of step 6 from the byte after it names no row, of the line's table nor of the hall's; and 15 is at that byte. Assumes nothing.
 use mathlib.Core.Path.{_≡_, refl, ap, _∙_}
 use mathlib.Core.Bool.{true, false, _&&_, _||_}
-use mathlib.Core.List.{List}
+use mathlib.Core.List.{List, [], _∷_}
 use mathlib.Core.Logic.{_↔_}
 use Prim.Native.Nat.{ℕ, _≤_}
 use native.Mathlib.Omega.{arith}
@@ -46,7 +46,7 @@ pub record NoUnitAt (card : Card) (text : List ℕ) (place q : ℕ) : Type 0 whe
   pub asked : NumeralAsked card text place signed
   pub i : ℕ
   pub numeral : NumeralAt card text (signed .next) i q
-  pub no-unit : find-unit card text q ≡ Nowhere
+  pub no-unit : find-unit card text q ≡ []
 
 -- ---- the steps
 
@@ -76,7 +76,7 @@ module _ (card : Card) (text : List ℕ) where
   numeral-gets place i q h = rw (h .found, h .followed, h .behind, h .goes-on)
 
   -- without a unit the refusal is at the place
-  unit-refuses : (q : ℕ) → find-unit card text q ≡ Nowhere → spoken-unit-step card text q ≡ refused (NoUnit q)
+  unit-refuses : (q : ℕ) → find-unit card text q ≡ [] → spoken-unit-step card text q ≡ refused (NoUnit q)
   unfolding spoken-unit-step spoken-unit-found
   unit-refuses q none = rw none
 
@@ -92,13 +92,13 @@ module _ (card : Card) (text : List ℕ) where
     two : {A : Type 0} {m : Outcome A} → By 2 m → Refused Why m
     two by = early (lit≤ tt) (up-to 2 (lit≤ tt) by)
 
-    unit-why : (q : ℕ) → (find-unit card text q ≡ Nowhere → NoUnitAt card text place q) → Refused Why (spoken-unit-step card text q)
+    unit-why : (q : ℕ) → (find-unit card text q ≡ [] → NoUnitAt card text place q) → Refused Why (spoken-unit-step card text q)
     unfolding spoken-unit-step spoken-unit-found
     unit-why q missing = go (find-unit card text q) missing
       where
-        go : (found : Found) → (found ≡ Nowhere → NoUnitAt card text place q) → Refused Why (spoken-unit-found card text q found)
-        go (Row i) missing = refused-bind (ago-step (card .settings) text _ _) (two (ago-by (card .settings) text _ _)) (λ unit _. not-refused)
-        go Nowhere missing = refused-by (no-unit (missing refl))
+        go : (r : List ℕ) → (r ≡ [] → NoUnitAt card text place q) → Refused Why (spoken-unit-found (card .settings) text q r)
+        go [] missing = refused-by (no-unit (missing refl))
+        go (size ∷ r) missing = refused-bind (ago-step (card .settings) text _ _) (two (ago-by (card .settings) text _ _)) (λ unit _. not-refused)
 
     pub part-why : Refused Why (part card text place)
     unfolding part unsigned-part spoken-part number

@@ -15,11 +15,12 @@ use Rattle.rules.specs.declared.Refusal.{Refusal}
 use Rattle.rules.specs.declared.Refusal.the-variants.{NoNumber}
 use Rattle.rules.specs.Common.{if_then_else_, starts, sees, run}
 use Rattle.rules.specs.NumbersHandedBack.{Outcome, got, refused, _>>=_}
-use Rattle.rules.specs.SettingsAndUnitTable.{LETTER, is, holds, name-room, Card, rows, row, name-size, row-multiplier, lookup-from, lookup}
+use Rattle.rules.specs.SettingsAndUnitTable.{LETTER, is, holds, Card, rows, row, row-multiplier, lookup-from, lookup}
 use Rattle.rules.specs.ReadingOnePart.{delimiters, numeral-end, numeral-found, numeral-step}
 use Rattle.rules.specs.Laws.Outcomes.{All, all-got, all-refused, all-if, all-bind, always, bind-got, bind-refused}
 use Rattle.rules.specs.Laws.Texts.{sees-here, sees-end, run-from, run-ends}
-use Rattle.card.specs.Laws.Accepted.{lookup-found}
+use Rattle.rows.specs.Named.{Sized}
+use Rattle.rows.specs.Laws.Lookup.{lookup-found}
 use Rattle.settings.specs.declared.sets.AsciiSet.{AsciiSet}
 use Rattle.settings.specs.Sets.{passes}
 use Rattle.steps.specs.declared.numeral.FoundNumeral.{FoundNumeral}
@@ -27,12 +28,12 @@ use Rattle.steps.specs.Units.{Ready, run-alike}
 
 -- what accepted numerals have: room for each name, and what begins with no letter is none of them
 pub record Sayable (numerals : List ℕ) : Type 0 where
-  pub sizes : (i : ℕ) → i < rows numerals → name-size (row numerals i) ≤ name-room
+  pub sizes : Sized numerals
   pub lettered : (wanted : List ℕ) → starts (is LETTER) wanted ≡ false → lookup numerals wanted ≡ Nowhere
 
--- what a part is read under: settings with their stop set and a unit table, and numerals
+-- what a part is read under: what its unit is, and numerals
 pub record CardReady (card : Card) (stops : AsciiSet) : Type 0 where
-  pub ready : Ready (card .settings) stops (card .units)
+  pub ready : Ready (card .settings) stops (card .hall) (card .line)
   pub sayable : Sayable (card .numerals)
 
 -- ---- the step, with the row in place of what it multiplies by

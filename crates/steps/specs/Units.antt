@@ -2,6 +2,7 @@
 use mathlib.Core.Path.{_≡_, refl, sym, ap, _∙_}
 use mathlib.Core.Bool.{Bool, true, false, not, _&&_, _||_, Bool·beq, false≢true}
 use mathlib.Core.List.{List, [], _∷_}
+use mathlib.Core.Logic.{_⊎_, inl, inr}
 use Prim.Native.Nat.{ℕ, suc, _+_, _-_, _≤_, _<_}
 use native.Mathlib.Nat.{add-zero}
 use native.Mathlib.Omega.{arith}
@@ -13,40 +14,41 @@ use Rattle.rules.specs.declared.ByteSet.{ByteSet}
 use Rattle.rules.specs.declared.Settings.{Settings}
 use Rattle.rules.specs.declared.Multiplier.{Multiplier}
 use Rattle.rules.specs.declared.Unit as declared-unit
-use Rattle.rules.specs.declared.Found.{Found}
-use Rattle.rules.specs.declared.Found.the-variants.{Row, Nowhere}
-use Rattle.rules.specs.declared.SpokenUnit.{SpokenUnit}
+use Rattle.rules.specs.declared.Found.the-variants.{Nowhere}
 use Rattle.rules.specs.declared.Refusal.{Refusal}
-use Rattle.rules.specs.declared.Refusal.the-variants.{NoUnit}
 use Rattle.rules.specs.Common.{if_then_else_, between, ascii, ends, sees, front, run}
 use Rattle.rules.specs.NumbersHandedBack.{Outcome, got, refused, _>>=_}
-use Rattle.rules.specs.SettingsAndUnitTable.{settings-check, class, is, is-next-duration, holds, kind-multiplier, name-room, Card, rows, row, name-size, kind, row-multiplier, product, in-range, lookup}
-use Rattle.rules.specs.ReadingOnePart.{says, delimiters, in-stretch, closes-unit, negated, ago-step, find-unit, unit-found, unit-step, spoken-unit-found, spoken-unit-step}
+use Rattle.rules.specs.SettingsAndUnitTable.{settings-check, class, is, is-next-duration, holds, rows, row, kind, row-multiplier, product, in-range, lookup, line-first, stands, held-row, find-row}
+use Rattle.rules.specs.ReadingOnePart.{says, delimiters, in-stretch, closes-unit, negated, ago-step}
 use Rattle.rules.specs.Laws.Ahead.{says-within}
 use Rattle.rules.specs.Laws.Lists.{Bytes}
 use Rattle.rules.specs.Laws.Tests.{or-false}
 use Rattle.rules.specs.Laws.Texts.{sees-here, run-within, slice-shift}
 use Rattle.value.specs.Digits.{run-end}
-use Rattle.card.specs.Laws.Accepted.{lookup-found}
+use Rattle.rows.specs.Named.{Sized}
+use Rattle.rows.specs.Powers.{Fitting}
+use Rattle.rows.specs.Laws.Rows.{row-fitting}
+use Rattle.rows.specs.Laws.Lookup.{found-holds}
 use Rattle.settings.specs.declared.sets.AsciiSet.{AsciiSet}
 use Rattle.settings.specs.Sets.{bytes-of, either, passes}
 use Rattle.settings.specs.Laws.Sets.{runs, either-holds, first-word}
-use Rattle.steps.specs.declared.unit.Ago.{Ago}
 use Rattle.steps.specs.declared.unit.AgoRead.{AgoRead}
 use Rattle.steps.specs.declared.unit.AgoRead.the-variants as AgoRead
+use Rattle.steps.specs.declared.unit.UnitRow.{UnitRow}
 use Rattle.steps.specs.declared.unit.UnitRead.{UnitRead}
 use Rattle.steps.specs.declared.unit.UnitRead.the-variants as UnitRead
 
 -- what an accepted table has: room for each row's name, kind times row in range, of each row, and none has an empty name
 pub record Readable (table : List ℕ) : Type 0 where
-  pub sizes : (i : ℕ) → i < rows table → name-size (row table i) ≤ name-room
+  pub sizes : Sized table
   pub products : (i : ℕ) → i < rows table → in-range (product (row table i)) ≡ true
   pub named : lookup table [] ≡ Nowhere
 
 -- between two places that do not ascend nothing stands, and nothing has no name
-pub nothing-found : (table text : List ℕ) (place end : ℕ) → Readable table → end ≤ place → Nowhere ≡ lookup table (slice place end text)
-nothing-found table text place end t h =
-    sym (ap (lookup table) (drop-of-length-le (take end text) {i = place} (omega (arith, length-take end text))) ∙ t .named)
+pub nothing-found : (hall line text : List ℕ) (place end : ℕ) → Readable hall × Readable line → end ≤ place → [] ≡ find-row hall line (slice place end text)
+unfolding find-row held-row stands line-first
+nothing-found hall line text place end t h =
+    sym (ap (find-row hall line) (drop-of-length-le (take end text) {i = place} (omega (arith, length-take end text))) ∙ rw (t .1 .named, t .0 .named))
 
 -- a run that goes on ends within the text
 pub stretch-within : (test : ℕ → Bool) (text : List ℕ) (place : ℕ) {end : ℕ} → end ≡ run test text place → place < end → end ≤ length text
@@ -108,11 +110,11 @@ outside true false e = refl
 outside false true e = refl
 outside false false e = absurd (false≢true e)
 
--- what a part is read under: accepted settings, their stop set, and a table that can be read
-pub record Ready (s : Settings) (stops : AsciiSet) (table : List ℕ) : Type 0 where
+-- what a part's unit is read under: accepted settings, their stop set, and tables that can be read
+pub record Ready (s : Settings) (stops : AsciiSet) (hall line : List ℕ) : Type 0 where
   pub accepted : settings-check s ≡ got tt
   pub stopped : bytes-of stops ≡ stops-of s
-  pub readable : Readable table
+  pub units : Readable hall × Readable line
 
 -- the bytes that do not stop a name are those of the stretch
 pub stretch-ends : (s : Settings) (text : List ℕ) (place : ℕ) → Bytes text → run (passes (stops-of s) false) text place ≡ run (in-stretch s) text place
@@ -169,7 +171,7 @@ agoed m (AgoRead.Got found) = got (record { multiplier = negated-if (found .nega
 agoed m (AgoRead.Refused cause) = refused cause
 
 -- is document 01's step, of each
-ago-is : (s : Settings) (text : List ℕ) (place : ℕ) (m : Multiplier) → ago-step s text m place ≡ agoed m (ago-read s text place)
+pub ago-is : (s : Settings) (text : List ℕ) (place : ℕ) (m : Multiplier) → ago-step s text m place ≡ agoed m (ago-read s text place)
 unfolding ago-step ago-read ago-after if_then_else_ _>>=_
 ago-is s text place m = go (not (s .ago && sees (holds (s .inner)) text place)) (delimiters (s .inner) text place)
   where
@@ -229,112 +231,37 @@ module _ (s : Settings) {inner : ByteSet} (i : s .inner ≡ inner) (text : List 
 
 -- ---- what the lookup finds
 
-unfoldable pub with-row : ℕ → AgoRead → UnitRead
-with-row i (AgoRead.Got found) = UnitRead.Got (record { row = i; ago = found })
-with-row i (AgoRead.Refused cause) = UnitRead.Refused cause
+-- what a part takes of a row
+abbrev pub unit-row : List ℕ → UnitRow
+unit-row r = record { kind = kind r; own = row-multiplier r }
 
-unfoldable pub row-read : Settings → List ℕ → ℕ → Found → UnitRead
-row-read s text end (Row i) = with-row i (ago-read s text end)
-row-read s text end Nowhere = UnitRead.Nowhere
+unfoldable pub unit-read : List ℕ → UnitRead
+unit-read [] = UnitRead.Nowhere
+unit-read (size ∷ r) = UnitRead.Found (unit-row (size ∷ r))
 
--- the row that the stretch finds, and what follows it
-unfoldable pub unit-row : Settings → List ℕ → List ℕ → ℕ → UnitRead
-unit-row s table text place =
-    row-read s text (run (in-stretch s) text place) (lookup table (slice place (run (in-stretch s) text place) text))
+pub read-nothing : (r : List ℕ) → length r ≡ 0 → UnitRead.Nowhere ≡ unit-read r
+unfolding unit-read
+read-nothing [] h = refl
+read-nothing (size ∷ r) h = absurd (omega arith)
 
-module _
-    (s : Settings) (table text : List ℕ) (place : ℕ)
-    {end : ℕ} (e : end ≡ run (in-stretch s) text place)
-    {found : Found} (f : found ≡ lookup table (slice place end text)) where
-  stretch : lookup table (slice place (run (in-stretch s) text place) text) ≡ found
-  stretch = ap (λ n. lookup table (slice place n text)) (sym e) ∙ sym f
+pub read-row : (r : List ℕ) → (length r ≡ 0 → ⊥) → UnitRead.Found (unit-row r) ≡ unit-read r
+unfolding unit-read
+read-row [] h = absurd (h refl)
+read-row (size ∷ r) h = refl
 
-  pub unit-none : found ≡ Nowhere → UnitRead.Nowhere ≡ unit-row s table text place
-  unfolding unit-row row-read
-  unit-none n = rw (stretch, n)
+-- kind times row is in range
+abbrev pub Fits : UnitRead → Type 0
+Fits (UnitRead.Found unit) = Fitting (unit .kind) (unit .own)
+Fits UnitRead.Nowhere = Unit {0}
 
-  module _ {i : ℕ} (r : found ≡ Row i) {read : AgoRead} (a : read ≡ ago-read s text end) where
-    pub unit-refused : {cause : Refusal} → read ≡ AgoRead.Refused cause → UnitRead.Refused cause ≡ unit-row s table text place
-    unfolding unit-row row-read with-row
-    unit-refused c = rw (stretch, r, ← e, ← a, c)
-
-    pub unit-got : {ago : Ago} → read ≡ AgoRead.Got ago → UnitRead.Got (record { row = i; ago = ago }) ≡ unit-row s table text place
-    unfolding unit-row row-read with-row
-    unit-got g = rw (stretch, r, ← e, ← a, g)
-
--- a row that is found is one of the table's
-abbrev pub Within : List ℕ → UnitRead → Type 0
-Within table (UnitRead.Got unit) = unit .row < rows table
-Within table UnitRead.Nowhere = Unit {0}
-Within table (UnitRead.Refused cause) = Unit {0}
-
-pub unit-within : (s : Settings) (table text : List ℕ) (place : ℕ) → Within table (unit-row s table text place)
-unfolding unit-row row-read with-row
-unit-within s table text place = go (lookup table (slice place (run (in-stretch s) text place) text)) refl
+-- of what is found in two tables that can be read
+pub found-fits : (hall line wanted : List ℕ) → Readable hall × Readable line → Fits (unit-read (find-row hall line wanted))
+unfolding unit-read
+found-fits hall line wanted t =
+    go (find-row hall line wanted)
+    (found-holds (λ r. Fitting (kind r) (row-multiplier r)) hall line wanted (λ i below. row-fitting _ (t .0 .products i below)) (λ i below. row-fitting _ (t .1 .products i below)))
   where
-    end : ℕ
-    end = run (in-stretch s) text place
-
-    there : (i : ℕ) → i < rows table → (read : AgoRead) → Within table (with-row i read)
-    there i below (AgoRead.Got found) = below
-    there i below (AgoRead.Refused cause) = tt
-
-    go : (f : Found) → lookup table (slice place end text) ≡ f → Within table (row-read s text end f)
-    go (Row i) e = there i (lookup-found table (slice place end text) i e .0) (ago-read s text end)
-    go Nowhere e = tt
-
--- ---- for a typed number, and for a spoken one, as document 01 has it
-
-module _ (card : Card) (text : List ℕ) (place : ℕ) where
-  abbrev s : Settings
-  s = card .settings
-
-  abbrev pub typed-unit : UnitRead → Outcome declared-unit.Unit
-  typed-unit (UnitRead.Got unit) =
-      got (record { multiplier = negated-if (unit .ago .negated) (product (row (card .units) (unit .row))); next = unit .ago .next })
-  typed-unit UnitRead.Nowhere = got (record { multiplier = kind-multiplier (s .«default_kind»); next = place })
-  typed-unit (UnitRead.Refused cause) = refused cause
-
-  abbrev pub spoken-unit : UnitRead → Outcome SpokenUnit
-  spoken-unit (UnitRead.Got unit) =
-      got
-      (record {
-        kind = kind-multiplier (kind (row (card .units) (unit .row)));
-        row = negated-if (unit .ago .negated) (row-multiplier (row (card .units) (unit .row)));
-        next = unit .ago .next;
-      })
-  spoken-unit UnitRead.Nowhere = refused (NoUnit place)
-  spoken-unit (UnitRead.Refused cause) = refused cause
-
-  pub typed-is : unit-step card text place ≡ typed-unit (unit-row s (card .units) text place)
-  unfolding unit-step find-unit unit-found unit-row row-read with-row
-  typed-is = go (lookup (card .units) (slice place end text))
-    where
-      end : ℕ
-      end = run (in-stretch s) text place
-
-      told : (i : ℕ) (read : AgoRead) → agoed (product (row (card .units) i)) read ≡ typed-unit (with-row i read)
-      told i (AgoRead.Got found) = refl
-      told i (AgoRead.Refused cause) = refl
-
-      go : (f : Found) → unit-found card text place f ≡ typed-unit (row-read s text end f)
-      go (Row i) = ago-is s text end (product (row (card .units) i)) ∙ told i (ago-read s text end)
-      go Nowhere = refl
-
-  pub spoken-is : spoken-unit-step card text place ≡ spoken-unit (unit-row s (card .units) text place)
-  unfolding spoken-unit-step find-unit spoken-unit-found unit-row row-read with-row _>>=_
-  spoken-is = go (lookup (card .units) (slice place end text))
-    where
-      end : ℕ
-      end = run (in-stretch s) text place
-
-      finish : ℕ → declared-unit.Unit → Outcome SpokenUnit
-      finish i unit = got (record { kind = kind-multiplier (kind (row (card .units) i)); row = unit .multiplier; next = unit .next })
-
-      told : (i : ℕ) (read : AgoRead) → (agoed (row-multiplier (row (card .units) i)) read >>= finish i) ≡ spoken-unit (with-row i read)
-      told i (AgoRead.Got found) = refl
-      told i (AgoRead.Refused cause) = refl
-
-      go : (f : Found) → spoken-unit-found card text place f ≡ spoken-unit (row-read s text end f)
-      go (Row i) = ap (λ o. o >>= finish i) (ago-is s text end (row-multiplier (row (card .units) i))) ∙ told i (ago-read s text end)
-      go Nowhere = refl
+    go : (r : List ℕ) → (r ≡ []) ⊎ Fitting (kind r) (row-multiplier r) → Fits (unit-read r)
+    go [] h = tt
+    go (size ∷ r) (inl none) = let never : _≡_ {A = ℕ} (suc (length r)) 0 = ap length none in absurd (omega arith)
+    go (size ∷ r) (inr fits) = fits

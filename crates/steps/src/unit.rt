@@ -3,20 +3,24 @@ ghost use mathlib.Core.Path.{_≡_};
 ghost use Prim.Native.Nat.{_≤_, _<_};
 ghost use lib.ListN.{length};
 ghost use lib.Seq.{slice};
+ghost use Rattle.rules.specs.declared.Settings.{Settings};
+ghost use Rattle.rules.specs.Common.{run};
 ghost use Rattle.rules.specs.NumbersHandedBack.{got};
 ghost use Rattle.rules.specs.SettingsAsWords.{settings-of};
-ghost use Rattle.rules.specs.SettingsAndUnitTable.{settings-check, lookup};
-ghost use Rattle.rules.specs.ReadingOnePart.{closes-unit};
+ghost use Rattle.rules.specs.SettingsAndUnitTable.{settings-check, find-row};
+ghost use Rattle.rules.specs.ReadingOnePart.{in-stretch, closes-unit};
 ghost use Rattle.settings.specs.Sets.{bytes-of};
-ghost use Rattle.steps.specs.Units.{Readable, Ready, stops-of, ago-read, unit-row};
+ghost use Rattle.steps.specs.Units.{Readable, stops-of, ago-read, unit-read};
 use crate::Next;
 use crate::bytes::is_next_duration;
 use crate::delimiters::is_delimiter;
 use crate::delimiters::past;
 use crate::delimiters::try_consume_delimiter;
 use crate::letters::next_is_ignore_ascii_case;
-use rows::lookup::find;
-use rules::Found;
+use rows::fields::KIND_AT;
+use rows::fields::row_multiplier;
+use rows::lookup::find_row;
+use rules::Multiplier;
 use rules::Refusal;
 use settings::fields::ago;
 use settings::sets::AsciiSet;
@@ -36,16 +40,16 @@ pub enum AgoRead {
     Refused(Refusal),
 }
 
-// The row that a unit's name finds, and what follows the name.
-pub struct FoundUnit {
-    pub row: usize,
-    pub ago: Ago,
+// What a part takes of the row that its unit's name finds: the kind, and what the row itself multiplies by.
+pub struct UnitRow {
+    pub kind: u8,
+    pub own: Multiplier,
 }
 
+// An enum cannot hold the row, which is a part of a lent table: it holds what is taken of it.
 pub enum UnitRead {
-    Got(FoundUnit),
+    Found(UnitRow),
     Nowhere,
-    Refused(Refusal),
 }
 
 // `+`, `-` and the digits, as bits of a set's first word.
@@ -84,7 +88,7 @@ fn closes_unit(settings: &[u64; 25], text: &[u8], place: usize) -> bool
 }
 
 // With ago on, delimiters and `ago` after a unit negate it; otherwise the place goes back to before the delimiters.
-fn parse_ago(settings: &[u64; 25], text: &[u8], place: usize) -> AgoRead
+pub fn parse_ago(settings: &[u64; 25], text: &[u8], place: usize) -> AgoRead
     requires { ⌜ settings-check (settings-of (now settings)) ≡ got tt ⌝ }
     ensures { λ r. ⌜ r ≡ ago-read (settings-of (now (settings .entry))) (now (text .entry)) place ⌝ }
 {
@@ -117,36 +121,43 @@ fn parse_ago(settings: &[u64; 25], text: &[u8], place: usize) -> AgoRead
     }
 }
 
-// The row that has the stretch as its name. A number often has no unit, and then no row is asked.
-fn find_unit(table: &[u8], text: &[u8], place: usize, end: usize) -> Found
-    requires { ⌜ Readable (now table) ⌝ }
-    requires { ⌜ (place < end → end ≤ length (now text)) ⌝ }
-    ensures { λ r. ⌜ r ≡ lookup (now (table .entry)) (slice place end (now (text .entry))) ⌝ }
+// Where a unit's name ends.
+pub fn unit_end(stops: AsciiSet, text: &[u8], place: usize) -> usize
+    ensures { λ r. ⌜ ((s : Settings) → bytes-of stops ≡ stops-of s → r ≡ run (in-stretch s) (now (text .entry)) place) ⌝ }
 {
-    if end <= place {
-        return Found::Nowhere;
-    }
-    find(table, &text[place..end])
+    past(stops, false, text, place)
 }
 
-// The stretch looked up, and what follows it. A typed number without a unit goes on as it is, a spoken one must have one, and of both only
-// one call is made: what is read of most parts is then one piece of code.
-pub fn parse_time_unit(
-    settings: &[u64; 25],
-    stops: AsciiSet,
-    table: &[u8],
+// The row that has the stretch as its name. A number often has no unit, and then no row is asked.
+fn find_unit<'a>(hall: &'a [u8], line: &'a [u8], text: &[u8], place: usize, end: usize) -> &'a [u8]
+    requires { ⌜ Readable (now hall) × Readable (now line) ⌝ }
+    requires { ⌜ (place < end → end ≤ length (now text)) ⌝ }
+    ensures { λ r. ⌜ now r ≡ find-row (now (hall .entry)) (now (line .entry)) (slice place end (now (text .entry))) ⌝ }
+{
+    if end <= place {
+        return &hall[..0];
+    }
+    find_row(hall, line, &text[place..end])
+}
+
+// The stretch looked up. For a typed number and for a spoken one, so that what is read of most parts is one piece of code.
+pub fn parse_time_unit<'a>(
+    hall: &'a [u8],
+    line: &'a [u8],
     text: &[u8],
     place: usize,
+    end: usize,
 ) -> UnitRead
-    requires { ⌜ Ready (settings-of (now settings)) stops (now table) ⌝ }
-    ensures { λ r. ⌜ r ≡ unit-row (settings-of (now (settings .entry))) (now (table .entry)) (now (text .entry)) place ⌝ }
+    requires { ⌜ Readable (now hall) × Readable (now line) ⌝ }
+    requires { ⌜ (place < end → end ≤ length (now text)) ⌝ }
+    ensures { λ r. ⌜ r ≡ unit-read (find-row (now (hall .entry)) (now (line .entry)) (slice place end (now (text .entry)))) ⌝ }
 {
-    let end = past(stops, false, text, place);
-    let Found::Row(row) = find_unit(table, text, place, end) else {
+    let row = find_unit(hall, line, text, place, end);
+    if row.len() == 0 {
         return UnitRead::Nowhere;
-    };
-    match parse_ago(settings, text, end) {
-        AgoRead::Refused(cause) => UnitRead::Refused(cause),
-        AgoRead::Got(ago) => UnitRead::Got(FoundUnit { row, ago }),
     }
+    UnitRead::Found(UnitRow {
+        kind: row[KIND_AT],
+        own: row_multiplier(row),
+    })
 }

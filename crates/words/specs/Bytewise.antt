@@ -3,9 +3,9 @@ use mathlib.Core.Path.{_≡_, refl, sym, ap, ap₂, _∙_}
 use mathlib.Core.Bool.{true}
 use mathlib.Core.List.{List, [], _∷_}
 use Prim.Native.Nat.{ℕ, zero, suc, _+_, _*_, _-_, _/_, _%_, _^_, _<_}
-use native.Mathlib.Nat.{mod-eq-of-lt}
+use native.Mathlib.Nat.{mod-eq-of-lt, pow-suc}
 use native.Mathlib.Omega.{arith}
-use lib.Bits.{bitAnd, and-block, and-high, and-mask, and-le-r}
+use lib.Bits.{bitAnd, and-block, and-high, and-le-r}
 use lib.Dec.{lit<}
 use lib.ListN.{length}
 use borrow.Author.Tests.{le-leb}
@@ -26,49 +26,78 @@ and-first b m rest more p q = ap₂ bitAnd (above b rest) (above m more) ∙ and
     above : (x y : ℕ) → x + 256 * y ≡ y * 2 ^ 8 + x
     above x y = omega arith
 
--- a byte of which the high half is 3, and the low half and 6 stay below 16, is a digit
-digit : (b : ℕ) → b < 256 → bitAnd b 240 ≡ 48 → bitAnd (bitAnd b 15 + 6) 240 ≡ 0 → between 48 57 b ≡ true
-unfolding between
-digit b h high low =
+-- a byte of which the high half is 3
+high-three : (b : ℕ) → b < 256 → bitAnd b 240 ≡ 48 → b / 16 ≡ 3
+high-three b h high =
     let below : b / 16 < 16 = omega arith in
     let half : b / 16 % 16 * 16 ≡ 48 = sym (and-high b 4 4) ∙ high in
-    let three : b / 16 ≡ 3 = omega (arith, mod-eq-of-lt below) in
-    let few : (b % 16 + 6) / 16 < 16 = omega arith in
-    let carried : (b % 16 + 6) / 16 % 16 * 16 ≡ 0 = sym (and-high (b % 16 + 6) 4 4) ∙ ap (λ x. bitAnd (x + 6) 240) (sym (and-mask b 4)) ∙ low in
-    let none : (b % 16 + 6) / 16 ≡ 0 = omega (arith, mod-eq-of-lt few) in
+    omega (arith, mod-eq-of-lt below)
+
+-- is a digit, if it and 6 stay below 64
+digit : (b : ℕ) → b < 256 → bitAnd b 240 ≡ 48 → bitAnd (b + 6) 64 ≡ 0 → between 48 57 b ≡ true
+unfolding between
+digit b h high low =
+    let three : b / 16 ≡ 3 = high-three b h high in
+    let few : (b + 6) / 64 < 2 = omega arith in
+    let carried : (b + 6) / 64 % 2 * 64 ≡ 0 = sym (and-high (b + 6) 1 6) ∙ low in
+    let none : (b + 6) / 64 ≡ 0 = omega (arith, mod-eq-of-lt few) in
     and-both (le-leb 48 b (omega arith)) (le-leb b 57 (omega arith))
 
 -- so of all bytes at once
+
+-- the first byte's high half, and the others'
+halves :
+    (b : ℕ) (bytes : List ℕ) → b < 256
+    → bitAnd (b + 256 * low-first bytes) (240 + 256 * repeated 240 (length bytes)) ≡ 48 + 256 * repeated 48 (length bytes)
+    → (bitAnd b 240 ≡ 48) × (bitAnd (low-first bytes) (repeated 240 (length bytes)) ≡ repeated 48 (length bytes))
+halves b bytes here high =
+    let first : bitAnd b 240 + 256 * bitAnd (low-first bytes) (repeated 240 (length bytes)) ≡ 48 + 256 * repeated 48 (length bytes) =
+    sym (and-first b 240 (low-first bytes) (repeated 240 (length bytes)) here (lit< tt)) ∙ high in
+    (omega (arith, and-le-r b 240), omega (arith, and-le-r b 240))
+
+-- 6 more in each carries out of none
+pub sixes-fit :
+    (bytes : List ℕ)
+    → Bytes bytes
+    → bitAnd (low-first bytes) (repeated 240 (length bytes)) ≡ repeated 48 (length bytes)
+    → low-first bytes + repeated 6 (length bytes) < 256 ^ length bytes
+unfolding low-first repeated
+sixes-fit [] p high = lit< tt
+sixes-fit (b ∷ bytes) p high =
+    let (here, others) = halves b bytes (p 0) high in
+    let longer : 256 ^ suc (length bytes) ≡ 256 ^ length bytes * 256 = pow-suc 256 (length bytes) in
+    omega (arith, high-three b (p 0) here, sixes-fit bytes (λ k. p (suc k)) others)
+
 pub digits-only :
     (bytes : List ℕ)
     → Bytes bytes
     → bitAnd (low-first bytes) (repeated 240 (length bytes)) ≡ repeated 48 (length bytes)
-    → bitAnd (bitAnd (low-first bytes) (repeated 15 (length bytes)) + repeated 6 (length bytes)) (repeated 240 (length bytes)) ≡ 0
+    → bitAnd (low-first bytes + repeated 6 (length bytes)) (repeated 64 (length bytes)) ≡ 0
     → all (between 48 57) bytes ≡ true
 unfolding all low-first repeated
 digits-only [] p high low = refl
 digits-only (b ∷ bytes) p high low =
     let n : ℕ = length bytes in
     let number : ℕ = low-first bytes in
-    let halves : ℕ = bitAnd number (repeated 15 n) in
-    let here : b < 256 = p 0 in
-    let first : bitAnd b 240 + 256 * bitAnd number (repeated 240 n) ≡ 48 + 256 * repeated 48 n = sym (and-first b 240 number (repeated 240 n) here (lit< tt)) ∙ high in
-    let sixes : bitAnd b 15 + 256 * halves + (6 + 256 * repeated 6 n) ≡ bitAnd b 15 + 6 + 256 * (halves + repeated 6 n) = omega arith in
-    let second : bitAnd (bitAnd b 15 + 6) 240 + 256 * bitAnd (halves + repeated 6 n) (repeated 240 n) ≡ 0 =
-    sym (and-first (bitAnd b 15 + 6) 240 (halves + repeated 6 n) (repeated 240 n) (omega (arith, and-le-r b 15)) (lit< tt))
-    ∙ ap (λ x. bitAnd x (240 + 256 * repeated 240 n)) (sym sixes)
-    ∙ ap (λ x. bitAnd (x + (6 + 256 * repeated 6 n)) (240 + 256 * repeated 240 n)) (sym (and-first b 15 number (repeated 15 n) here (lit< tt)))
+    let (here, others) = halves b bytes (p 0) high in
+    let sixes : b + 256 * number + (6 + 256 * repeated 6 n) ≡ b + 6 + 256 * (number + repeated 6 n) = omega arith in
+    let second : bitAnd (b + 6) 64 + 256 * bitAnd (number + repeated 6 n) (repeated 64 n) ≡ 0 =
+    sym (and-first (b + 6) 64 (number + repeated 6 n) (repeated 64 n) (omega (arith, high-three b (p 0) here)) (lit< tt))
+    ∙ ap (λ x. bitAnd x (64 + 256 * repeated 64 n)) (sym sixes)
     ∙ low in
-    and-both (digit b here (omega (arith, and-le-r b 240)) (omega arith))
-    (digits-only bytes (λ k. p (suc k)) (omega (arith, and-le-r b 240)) (omega arith))
+    and-both (digit b (p 0) here (omega arith)) (digits-only bytes (λ k. p (suc k)) others (omega arith))
 
 -- eight of them
+pub eight-sixes-fit : (bytes : List ℕ) → length bytes ≡ 8 → Bytes bytes → bitAnd (low-first bytes) 17361641481138401520 ≡ 3472328296227680304 → low-first bytes + 434041037028460038 < 2 ^ 64
+unfolding repeated
+eight-sixes-fit bytes eight p high = rw eight at (sixes-fit bytes p (rw eight high))
+
 pub eight-digits-only :
     (bytes : List ℕ)
     → length bytes ≡ 8
     → Bytes bytes
     → bitAnd (low-first bytes) 17361641481138401520 ≡ 3472328296227680304
-    → bitAnd (bitAnd (low-first bytes) 1085102592571150095 + 434041037028460038) 17361641481138401520 ≡ 0
+    → bitAnd (low-first bytes + 434041037028460038) 4629771061636907072 ≡ 0
     → all (between 48 57) bytes ≡ true
 unfolding repeated
 eight-digits-only bytes eight p high low = digits-only bytes p (rw eight high) (rw eight low)

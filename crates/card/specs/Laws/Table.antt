@@ -13,7 +13,7 @@ use borrow.Author.Tests.{lt-ltb, le-ltb, le-leb, lt-leb, eq-eqb, eqb-true, ne-eq
 use Rattle.rules.specs.declared.Settings.{Settings}
 use Rattle.rules.specs.declared.Refusal.{Refusal}
 use Rattle.rules.specs.Common.{if_then_else_, all, between, same}
-use Rattle.rules.specs.NumbersHandedBack.{Outcome, got, refused, _>>_, unless}
+use Rattle.rules.specs.NumbersHandedBack.{got, refused, _>>_, unless}
 use Rattle.rules.specs.SettingsAndUnitTable.{last-kind, second-kind, zeros-at, row-size, rows, row, name, kind, may-name, named, product, in-range, led-by-e, e-may-lead, can-be-typed, row-formed, row-right, row-accepted, numeral-accepted, whole-rows, rows-check}
 use Rattle.rules.specs.Laws.Choices.{and-left, and-right}
 use Rattle.rules.specs.Laws.Lists.{Bytes}
@@ -22,7 +22,7 @@ use Rattle.words.specs.LowFirst.{bytes-part}
 use Rattle.settings.specs.Sets.{bytes-of}
 use Rattle.card.specs.declared.table.Further.the-variants.{Nothing, NotLedByE, AsciiSeconds}
 use Rattle.card.specs.declared.table.RowRule.{RowRule}
-use Rattle.card.specs.Fields.{padded, unnameable, no-letters, asked-further, ruled}
+use Rattle.card.specs.Fields.{padded, unnameable, no-letters, asked-further, ruled, tabled}
 use Rattle.card.specs.Laws.Names.{names-alike}
 use Rattle.card.specs.Laws.Unnameable.{outside-names, outside-letters}
 
@@ -98,44 +98,48 @@ module _ (test : ℕ → Bool) where
     unfolding if_then_else_
     check-good n h = checked n 0 ∙ rw (le-ltb (first-bad test 0 n) (0 + n) (omega arith))
 
--- tests that agree find the same row bad
-pub bad-alike : (test other : ℕ → Bool) → ((i : ℕ) → test i ≡ other i) → (n i : ℕ) → first-bad test i n ≡ first-bad other i n
-unfolding first-bad
-bad-alike test other alike zero i = refl
-bad-alike test other alike (suc n) i = rw (alike i, bad-alike test other alike n (suc i))
-
 -- ---- a table's check, by its size and its first bad row
 
 module _ (size : Refusal) (most : ℕ) (test : ℕ → Bool) (bad : ℕ → Refusal) (table : List ℕ) where
-  abbrev check : Outcome (Unit {0})
-  check = unless size (whole-rows most table) >> rows-check test bad 0 (rows table)
-
-  pub half-a-row : (length table % row-size ≡ 0 → ⊥) → refused size ≡ check
+  pub half-a-row : (length table % row-size ≡ 0 → ⊥) → refused size ≡ tabled size most test bad table
   unfolding whole-rows unless _>>_
   half-a-row h = rw (ne-eqb _ _ h)
 
-  pub too-many : most < length table / row-size → refused size ≡ check
+  pub too-many : most < length table / row-size → refused size ≡ tabled size most test bad table
   unfolding whole-rows unless _>>_ rows
   too-many h = rw (lt-leb _ _ h, and-false)
 
   module _
       (whole : length table % row-size ≡ 0) (few : length table / row-size ≤ most)
-      {asked : ℕ → Bool} (alike : (i : ℕ) → asked i ≡ test i)
-      {first : ℕ} (found : first ≡ first-bad asked 0 (rows table)) where
-    sized : check ≡ rows-check test bad 0 (rows table)
+      {first : ℕ} (found : first ≡ first-bad test 0 (rows table)) where
+    sized : tabled size most test bad table ≡ rows-check test bad 0 (rows table)
     unfolding whole-rows unless _>>_ rows
     sized = rw (eq-eqb _ _ whole, le-leb _ _ few)
 
-    first-is : first ≡ first-bad test 0 (rows table)
-    first-is = found ∙ bad-alike asked test alike (rows table) 0
-
-    pub row-refused : first < length table / row-size → refused (bad first) ≡ check
+    pub row-refused : first < length table / row-size → refused (bad first) ≡ tabled size most test bad table
     unfolding rows
-    row-refused h = ap (λ i. refused (bad i)) first-is ∙ sym (sized ∙ check-bad test bad (rows table) (rw (← first-is) h))
+    row-refused h = ap (λ i. refused (bad i)) found ∙ sym (sized ∙ check-bad test bad (rows table) (rw (← found) h))
 
-    pub all-accepted : length table / row-size ≤ first → got tt ≡ check
+    pub all-accepted : length table / row-size ≤ first → got tt ≡ tabled size most test bad table
     unfolding rows
-    all-accepted h = sym (sized ∙ check-good test bad (rows table) (rw (← first-is) h))
+    all-accepted h = sym (sized ∙ check-good test bad (rows table) (rw (← found) h))
+
+-- tests that agree come to the same
+pub tabled-alike :
+    (size : Refusal) (most : ℕ) (test other : ℕ → Bool) (bad : ℕ → Refusal) (table : List ℕ)
+    → ((i : ℕ) → test i ≡ other i)
+    → tabled size most test bad table ≡ tabled size most other bad table
+unfolding rows-check
+tabled-alike size most test other bad table alike = ap (λ rows. unless size (whole-rows most table) >> rows) (go (rows table) 0)
+  where
+    go : (n i : ℕ) → rows-check test bad i n ≡ rows-check other bad i n
+    go zero i = refl
+    go (suc n) i = rw (alike i, go n (suc i))
+
+-- no rows are good
+pub no-rows : (size : Refusal) (most : ℕ) (test : ℕ → Bool) (bad : ℕ → Refusal) (table : List ℕ) → length table ≡ 0 → got tt ≡ tabled size most test bad table
+unfolding whole-rows rows rows-check unless _>>_
+no-rows size most test bad table h = rw (h, le-leb 0 most zero-le)
 
 -- ---- the form of a row
 

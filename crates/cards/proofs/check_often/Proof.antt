@@ -4,10 +4,10 @@ use Rattle.cards.proofs.check_often.Statement.{statement}
 use Rattle.cards.proofs.check_often.Tie as tie
 
 abbrev Inv-loop : tie.InvT-loop
-Inv-loop settings table numerals rounds left₀ left = Unit {0}
+Inv-loop settings hall line numerals rounds left₀ left = Unit {0}
 
 abbrev μ-loop : tie.MeasureT-loop
-μ-loop settings table numerals rounds left₀ left = left
+μ-loop settings hall line numerals rounds left₀ left = left
 
 loop-holds : tie.Need-loop-holds Inv-loop μ-loop
 loop-holds c = search needs

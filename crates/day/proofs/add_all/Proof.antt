@@ -6,10 +6,10 @@ use Rattle.day.proofs.add_all.Statement.{statement}
 use Rattle.day.proofs.add_all.Tie as tie
 
 abbrev Inv-loop : tie.InvT-loop
-Inv-loop settings table numerals rounds buffer₀ total₀ left₀ buffer total left = length buffer ≡ length buffer₀
+Inv-loop settings hall line numerals rounds buffer₀ total₀ left₀ buffer total left = length buffer ≡ length buffer₀
 
 abbrev μ-loop : tie.MeasureT-loop
-μ-loop settings table numerals rounds buffer₀ total₀ left₀ buffer total left = left
+μ-loop settings hall line numerals rounds buffer₀ total₀ left₀ buffer total left = left
 
 pub add-all-spec : {M : Type 1} → statement M
 add-all-spec =

@@ -4,10 +4,10 @@ use Rattle.readings.proofs.check_often.Statement.{statement}
 use Rattle.readings.proofs.check_often.Tie as tie
 
 abbrev Inv-loop : tie.InvT-loop
-Inv-loop settings table numerals buffer size rounds answer₀ left₀ answer left = Unit {0}
+Inv-loop settings hall line numerals buffer size rounds answer₀ left₀ answer left = Unit {0}
 
 abbrev μ-loop : tie.MeasureT-loop
-μ-loop settings table numerals buffer size rounds answer₀ left₀ answer left = left
+μ-loop settings hall line numerals buffer size rounds answer₀ left₀ answer left = left
 
 first-bytes-requires : tie.Need-first-bytes-requires Inv-loop μ-loop
 first-bytes-requires c κs = search needs

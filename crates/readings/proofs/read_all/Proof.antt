@@ -6,10 +6,10 @@ use Rattle.readings.proofs.read_all.Statement.{statement}
 use Rattle.readings.proofs.read_all.Tie as tie
 
 abbrev Inv-loop : tie.InvT-loop
-Inv-loop settings table numerals often buffer₀ left₀ buffer left = length buffer ≡ length buffer₀
+Inv-loop settings hall line numerals often buffer₀ left₀ buffer left = length buffer ≡ length buffer₀
 
 abbrev μ-loop : tie.MeasureT-loop
-μ-loop settings table numerals often buffer₀ left₀ buffer left = left
+μ-loop settings hall line numerals often buffer₀ left₀ buffer left = left
 
 pub read-all-spec : {M : Type 1} → statement M
 read-all-spec =

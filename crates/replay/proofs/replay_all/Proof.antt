@@ -6,10 +6,10 @@ use Rattle.replay.proofs.replay_all.Statement.{statement}
 use Rattle.replay.proofs.replay_all.Tie as tie
 
 abbrev Inv-loop : tie.InvT-loop
-Inv-loop text₀ counts₀ table₀ numerals₀ left₀ text counts table numerals left = (length text ≡ length text₀) × (length table ≡ length table₀) × (length numerals ≡ length numerals₀)
+Inv-loop text₀ counts₀ hall₀ line₀ numerals₀ left₀ text counts hall line numerals left = (length text ≡ length text₀) × (length hall ≡ length hall₀) × (length line ≡ length line₀) × (length numerals ≡ length numerals₀)
 
 abbrev μ-loop : tie.MeasureT-loop
-μ-loop text₀ counts₀ table₀ numerals₀ left₀ text counts table numerals left = left
+μ-loop text₀ counts₀ hall₀ line₀ numerals₀ left₀ text counts hall line numerals left = left
 
 pub replay-all-spec : {M : Type 1} → statement M
 replay-all-spec =
@@ -17,6 +17,7 @@ replay-all-spec =
     (tie.spec
     Inv-loop
     μ-loop
+    (λ c. search needs)
     (λ c. search needs)
     (λ c. search needs)
     (λ c. search needs)

@@ -6,10 +6,10 @@ use Rattle.replay.proofs.replay_requests.Statement.{statement}
 use Rattle.replay.proofs.replay_requests.Tie as tie
 
 abbrev Inv-loop : tie.InvT-loop
-Inv-loop settings table numerals text₀ counts₀ left₀ text counts left = length text ≡ length text₀
+Inv-loop settings hall line numerals text₀ counts₀ left₀ text counts left = length text ≡ length text₀
 
 abbrev μ-loop : tie.MeasureT-loop
-μ-loop settings table numerals text₀ counts₀ left₀ text counts left = left
+μ-loop settings hall line numerals text₀ counts₀ left₀ text counts left = left
 
 pub replay-requests-spec : {M : Type 1} → statement M
 replay-requests-spec =

@@ -5,10 +5,10 @@ use Rattle.round.proofs.read_list.Statement.{statement}
 use Rattle.round.proofs.read_list.Tie as tie
 
 abbrev Inv-loop : tie.InvT-loop
-Inv-loop settings table numerals text first lengths place₀ read₀ differ₀ place read differ = Unit {0}
+Inv-loop settings hall line numerals text first lengths place₀ read₀ differ₀ place read differ = Unit {0}
 
 abbrev μ-loop : tie.MeasureT-loop
-μ-loop settings table numerals text first lengths place₀ read₀ differ₀ place read differ = lengths - read
+μ-loop settings hall line numerals text first lengths place₀ read₀ differ₀ place read differ = lengths - read
 
 loop-holds : tie.Need-loop-holds Inv-loop μ-loop
 loop-holds c = search needs

@@ -5,10 +5,10 @@ use Rattle.round.proofs.round_card.Statement.{statement}
 use Rattle.round.proofs.round_card.Tie as tie
 
 abbrev Inv-loop : tie.InvT-loop
-Inv-loop settings table numerals tally₀ lists₀ tally lists = lists ≤ 200
+Inv-loop settings hall line numerals tally₀ lists₀ tally lists = lists ≤ 200
 
 abbrev μ-loop : tie.MeasureT-loop
-μ-loop settings table numerals tally₀ lists₀ tally lists = 200 - lists
+μ-loop settings hall line numerals tally₀ lists₀ tally lists = 200 - lists
 
 loop-holds : tie.Need-loop-holds Inv-loop μ-loop
 loop-holds c = search needs

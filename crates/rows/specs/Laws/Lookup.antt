@@ -1,20 +1,23 @@
 -- Laws of equal names and of lookup. Assumes nothing.
-use mathlib.Core.Path.{_≡_, refl, ap}
+use mathlib.Core.Path.{_≡_, refl, sym, ap, _∙_}
 use mathlib.Core.Bool.{Bool, true, false, _&&_, false≢true}
 use mathlib.Core.List.{List, [], _∷_}
-use Prim.Native.Nat.{ℕ, suc, _+_, _-_, _≤_, _<_}
+use mathlib.Core.Logic.{_⊎_, ⊎-elim, inl, inr}
+use Prim.Native.Nat.{ℕ, zero, suc, _+_, _*_, _-_, _≤_, _<_}
 use native.Mathlib.Nat.{sub-zero, sub-eq-zero-of-le}
 use native.Mathlib.Numerals.{add-one}
 use native.Mathlib.Omega.{arith}
 use lib.Dec.{eqb}
-use lib.ListN.{length, getD, drop, drop-of-length-le}
-use lib.Seq.{drop-cons}
-use borrow.Author.Tests.{eq-eqb, eqb-true}
+use lib.ListN.{length, getD, take, drop, length-drop, drop-of-length-le}
+use lib.Seq.{drop-cons, drop-drop, take-all}
+use borrow.Author.Tests.{eq-eqb, eqb-true, eqb-false}
 use Rattle.rules.specs.declared.Found.{Found}
 use Rattle.rules.specs.declared.Found.the-variants.{Row, Nowhere}
 use Rattle.rules.specs.Common.{if_then_else_, same}
-use Rattle.rules.specs.SettingsAndUnitTable.{rows, row, name, lookup-from, lookup}
-use Rattle.rules.specs.Laws.Choices.{and-left, and-right}
+use Rattle.rules.specs.SettingsAndUnitTable.{row-size, rows, row, name, named, lookup-from, lookup, line-first, stands, held-row, find-row}
+use Rattle.rules.specs.Laws.Choices.{if-either, and-left, and-right, or-neither}
+use Rattle.rows.specs.Named.{found-row, row-named}
+use Rattle.rows.specs.Laws.Rows.{length-row, row-within}
 
 pub same-refl : (a : List ℕ) → same a a ≡ true
 unfolding same
@@ -75,3 +78,154 @@ module _ (table wanted : List ℕ) where
 -- names of other sizes differ
 pub other-size : (a b : List ℕ) → (length a ≡ length b → ⊥) → same a b ≡ false
 other-size a b h = not-same a b (λ e. h (ap length e))
+
+-- ---- a search: so many rows are left, they are the rest of the table, and what they give is what all of them do
+
+pub record Searching (table wanted : List ℕ) (left : ℕ) (rest : List ℕ) : Type 0 where
+  pub few : left ≤ rows table
+  pub further : rest ≡ drop (row-size * (rows table - left)) table
+  pub decides : rest-of-lookup table wanted (rows table - left) ≡ lookup table wanted
+
+pub search-starts : (table wanted : List ℕ) → Searching table wanted (rows table) table
+search-starts table wanted =
+    let none : rows table - rows table ≡ 0 = omega arith in
+    record { few = omega arith; further = rw none; decides = rw none (lookup-start table wanted) }
+
+module _ {table wanted : List ℕ} {left : ℕ} {rest : List ℕ} (s : Searching table wanted left rest) where
+  -- none is left
+  pub search-ends : left ≤ 0 → lookup table wanted ≡ Nowhere
+  search-ends h = sym (s .decides) ∙ lookup-end table wanted (rows table - left) (omega arith)
+
+  module _ (more : 0 < left) where
+    -- the row that is asked, the first of the rest
+    abbrev at : ℕ
+    at = rows table - left
+
+    pub search-below : at < rows table
+    search-below = omega (arith, s .few)
+
+    pub search-row : take row-size rest ≡ row table at
+    unfolding row
+    search-row = ap (take row-size) (s .further)
+
+    pub search-long : length (take row-size rest) ≡ row-size
+    search-long = ap length search-row ∙ length-row table at search-below
+
+    pub search-within : row-size ≤ length rest
+    search-within = rw (s .further, length-drop) (omega (arith, row-within table at search-below))
+
+    pub search-finds : same (name (row table at)) wanted ≡ true → Row at ≡ lookup table wanted
+    search-finds e = sym (lookup-here table wanted at search-below e) ∙ s .decides
+
+    pub search-goes-on : same (name (row table at)) wanted ≡ false → Searching table wanted (left - 1) (take (length rest - row-size) (drop row-size rest))
+    search-goes-on e =
+        let next : rows table - (left - 1) ≡ at + 1 = omega (arith, s .few) in
+        let places : row-size * (rows table - (left - 1)) ≡ row-size * at + row-size = omega (arith, next) in
+        record {
+          few = omega (arith, s .few);
+          further =
+              take-all (length rest - row-size) (drop row-size rest) (simp length-drop (omega arith))
+              ∙ ap (drop row-size) (s .further)
+              ∙ drop-drop row-size (row-size * at) table
+              ∙ ap (λ n. drop n table) (sym places);
+          decides = ap (rest-of-lookup table wanted) next ∙ sym (lookup-next table wanted at search-below e) ∙ s .decides;
+        }
+
+-- ---- what is found
+
+-- what the rows from i on give
+data Looked (table wanted : List ℕ) (i n : ℕ) : Found → Type 0 where
+  found : {k : ℕ} → i ≤ k → k < i + n → name (row table k) ≡ wanted → Looked table wanted i n (Row k)
+  nowhere : ((k : ℕ) → i ≤ k → k < i + n → name (row table k) ≡ wanted → ⊥) → Looked table wanted i n Nowhere
+
+looked : (table wanted : List ℕ) (n i : ℕ) → Looked table wanted i n (lookup-from table wanted i n)
+unfolding lookup-from
+looked table wanted zero i = nowhere (λ k from to e. omega arith)
+looked table wanted (suc n) i =
+    if-either (Looked table wanted i (suc n)) (same (name (row table i)) wanted)
+    (λ e. found {k = i} (omega arith) (omega arith) (same-equal (name (row table i)) wanted e))
+    (λ e. later e (looked table wanted n (suc i)))
+  where
+    later : same (name (row table i)) wanted ≡ false → {f : Found} → Looked table wanted (suc i) n f → Looked table wanted i (suc n) f
+    later other (found {k = k} from to e) = found {k = k} (omega arith) (omega arith) e
+    later other (nowhere none) = nowhere (λ k from to e. go k (eqb i k) refl from to e)
+      where
+        go : (k : ℕ) (t : Bool) → eqb i k ≡ t → i ≤ k → k < i + suc n → name (row table k) ≡ wanted → ⊥
+        go k true p from to e =
+            false≢true (sym other ∙ rw (eqb-true i k p, e) (same-refl wanted))
+        go k false p from to e = none k (omega (arith, eqb-false i k p)) (omega arith) e
+
+found-in : {table wanted : List ℕ} {i n k : ℕ} → Looked table wanted i n (Row k) → (k < i + n) × (name (row table k) ≡ wanted)
+found-in (found from to e) = (to, e)
+
+found-nowhere : {table wanted : List ℕ} {i n : ℕ} → Looked table wanted i n Nowhere → (k : ℕ) → i ≤ k → k < i + n → name (row table k) ≡ wanted → ⊥
+found-nowhere (nowhere none) = none
+
+module _ (table wanted : List ℕ) where
+  looked-all : Looked table wanted 0 (rows table) (lookup table wanted)
+  unfolding lookup
+  looked-all = looked table wanted (rows table) 0
+
+  -- a row that is found lies in the table and has the name
+  pub lookup-found : (i : ℕ) → lookup table wanted ≡ Row i → (i < rows table) × (name (row table i) ≡ wanted)
+  lookup-found i e =
+      let at-row = found-in (rw e at looked-all) in
+      (omega (arith, at-row .0), at-row .1)
+
+  -- and if none is found, none has it
+  pub lookup-nowhere : lookup table wanted ≡ Nowhere → (i : ℕ) → i < rows table → name (row table i) ≡ wanted → ⊥
+  lookup-nowhere e i below = found-nowhere (rw e at looked-all) i (omega arith) (omega arith)
+
+-- a lookup goes past rows that have other names
+pub past : (table wanted : List ℕ) (n : ℕ) → n ≤ rows table → named table wanted n ≡ false → lookup table wanted ≡ rest-of-lookup table wanted n
+unfolding named
+past table wanted zero most none = sym (lookup-start table wanted)
+past table wanted (suc n) most none =
+    let (other, others) = or-neither (same (name (row table n)) wanted) (named table wanted n) none in
+    past table wanted n (omega arith) others ∙ lookup-next table wanted n (omega arith) other ∙ ap (rest-of-lookup table wanted) (add-one n)
+
+-- a name that no row has is nowhere
+pub unnamed : (table wanted : List ℕ) → ((i : ℕ) → i < rows table → name (row table i) ≡ wanted → ⊥) → lookup table wanted ≡ Nowhere
+unnamed table wanted none = go (lookup table wanted) refl
+  where
+    go : (f : Found) → lookup table wanted ≡ f → f ≡ Nowhere
+    go (Row k) e = let at-row = lookup-found table wanted k e in absurd (none k (at-row .0) (at-row .1))
+    go Nowhere e = refl
+
+-- ---- over two tables
+
+module _ (hall line wanted : List ℕ) where
+  -- a row of the line's that has the name is found
+  pub line-wins : {i : ℕ} → lookup line wanted ≡ Row i → row line i ≡ find-row hall line wanted
+  unfolding find-row held-row stands line-first
+  line-wins e = rw e
+
+  -- else the hall's
+  pub hall-behind : lookup line wanted ≡ Nowhere → row-named hall wanted ≡ find-row hall line wanted
+  unfolding row-named found-row find-row held-row stands line-first
+  hall-behind e = rw e (go (lookup hall wanted))
+    where
+      go : (f : Found) → found-row hall f ≡ held-row hall line (line-first Nowhere f)
+      go (Row i) = refl
+      go Nowhere = refl
+
+-- what holds of each row of both tables holds of the row that is found, unless none is
+pub found-holds :
+    (P : List ℕ → Type 0) (hall line wanted : List ℕ)
+    → ((i : ℕ) → i < rows hall → P (row hall i))
+    → ((i : ℕ) → i < rows line → P (row line i))
+    → (find-row hall line wanted ≡ []) ⊎ P (find-row hall line wanted)
+unfolding find-row held-row stands line-first
+found-holds P hall line wanted halls lines = go (lookup line wanted) refl (lookup hall wanted) refl
+  where
+    go :
+        (f : Found) → lookup line wanted ≡ f → (g : Found) → lookup hall wanted ≡ g
+        → (held-row hall line (line-first f g) ≡ []) ⊎ P (held-row hall line (line-first f g))
+    go (Row i) at g behind = inr (lines i (lookup-found line wanted i at .0))
+    go Nowhere at (Row i) behind = inr (halls i (lookup-found hall wanted i behind .0))
+    go Nowhere at Nowhere behind = inl refl
+
+-- and what is found is whole
+pub found-whole : (hall line wanted : List ℕ) → (length (find-row hall line wanted) ≡ 0 → ⊥) → length (find-row hall line wanted) ≡ row-size
+found-whole hall line wanted some =
+    ⊎-elim (λ none. absurd (some (ap length none))) (λ whole. whole) (found-holds (λ r. length r ≡ row-size) hall line wanted (length-row hall) (length-row line))

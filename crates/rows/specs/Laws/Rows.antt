@@ -1,5 +1,5 @@
 -- Laws of rows and their fields. Assumes nothing.
-use mathlib.Core.Path.{_≡_, refl, sym}
+use mathlib.Core.Path.{_≡_, refl, sym, ap, _∙_}
 use mathlib.Core.Bool.{Bool, true, false, xor, _&&_}
 use mathlib.Core.List.{List}
 use Prim.Native.Nat.{ℕ, zero-le, _+_, _*_, _-_, _/_, _^_, _≤_, _<_}
@@ -14,7 +14,7 @@ use Rattle.rules.specs.SettingsAndUnitTable.{coefficient-size, coefficient-fiel
 use Rattle.rules.specs.Laws.Choices.{if-either, and-left, and-right}
 use Rattle.rules.specs.Laws.Tests.{and-true, same-test}
 use Rattle.rules.specs.Laws.Lists.{all-at}
-use Rattle.rows.specs.Powers.{risen, fallen}
+use Rattle.rows.specs.Powers.{risen, fallen, Fitting}
 
 -- a row of the table lies in it whole
 pub row-within : (table : List ℕ) (i : ℕ) → i < rows table → row-size * i + row-size ≤ length table
@@ -84,19 +84,32 @@ unfolding xor
 xor-false true = refl
 xor-false false = refl
 
-module _ (r : List ℕ) where
-  -- a kind has no sign, and no power above zero
-  pub product-fields :
-      product r
-      ≡ record {
-        negative = row-multiplier r .negative;
-        coefficient = kind-multiplier (kind r) .coefficient * row-multiplier r .coefficient;
-        up = row-multiplier r .up;
-        down = kind-multiplier (kind r) .down + row-multiplier r .down;
-      }
-  unfolding product times kind-multiplier
-  product-fields = rw (zero-add, xor-false (row-multiplier r .negative))
+-- a kind has no sign, and no power above zero
+pub kind-times :
+    (k : ℕ) (own : Multiplier)
+    → times (kind-multiplier k) own
+    ≡ record {
+      negative = own .negative;
+      coefficient = kind-multiplier k .coefficient * own .coefficient;
+      up = own .up;
+      down = kind-multiplier k .down + own .down;
+    }
+unfolding times kind-multiplier
+kind-times k own = rw (zero-add, xor-false (own .negative))
 
+-- what is made of a kind and of a row
+pub product-is :
+    (k : ℕ) (own : Multiplier) {unit : Multiplier} → unit ≡ kind-multiplier k
+    → record {
+      negative = own .negative;
+      coefficient = unit .coefficient * own .coefficient;
+      up = own .up;
+      down = unit .down + own .down;
+    }
+    ≡ times (kind-multiplier k) own
+product-is k own e = rw e (sym (kind-times k own))
+
+module _ (r : List ℕ) where
   -- the fields of a row, as they are read
   pub multiplier-is :
       {c p size up down : ℕ} → c ≡ coefficient-field r → p ≡ power-field r → size ≡ magnitude coefficient-size c → up ≡ risen p → down ≡ fallen p
@@ -108,31 +121,28 @@ module _ (r : List ℕ) where
   unfolding row-multiplier risen
   up-most = risen-most (power-field r)
 
-  pub down-most : kind-multiplier (kind r) .down + row-multiplier r .down ≤ 32777
-  unfolding row-multiplier kind-multiplier fallen
-  down-most = omega (arith, kind-down-most (kind r), fallen-most (power-field r))
+  pub own-down-most : row-multiplier r .down ≤ 32768
+  unfolding row-multiplier fallen
+  own-down-most = fallen-most (power-field r)
 
-  -- what is made of a kind and of a row
-  pub product-is :
-      {unit own : Multiplier} → unit ≡ kind-multiplier (kind r) → own ≡ row-multiplier r
-      → record {
-        negative = own .negative;
-        coefficient = unit .coefficient * own .coefficient;
-        up = own .up;
-        down = unit .down + own .down;
-      }
-      ≡ product r
-  product-is e f = rw (e, f) (sym product-fields)
+  pub down-most : kind-multiplier (kind r) .down + row-multiplier r .down ≤ 32777
+  unfolding kind-multiplier
+  down-most = omega (arith, kind-down-most (kind r), own-down-most)
+
+  -- of a row in range they fit
+  pub row-fitting : in-range (product r) ≡ true → Fitting (kind r) (row-multiplier r)
+  unfolding product
+  row-fitting e = (own-down-most, e)
 
   -- the range of kind times row: a power above zero is never too high
   pub in-range-product :
       in-range (product r)
       ≡ (ltb (kind-multiplier (kind r) .coefficient * row-multiplier r .coefficient) (2 ^ 63)
       && leb (kind-multiplier (kind r) .down + row-multiplier r .down) (row-multiplier r .up + 32768))
-  unfolding in-range
+  unfolding in-range product
   in-range-product =
       let down : ℕ = kind-multiplier (kind r) .down + row-multiplier r .down in
-      rw (product-fields, le-leb (row-multiplier r .up) (down + 32767) (omega (arith, up-most)), and-true)
+      rw (kind-times (kind r) (row-multiplier r), le-leb (row-multiplier r .up) (down + 32767) (omega (arith, up-most)), and-true)
 
   -- which no kind takes a small row out of
   pub in-range-small : (ltb (row-multiplier r .coefficient) 8796093022208 && ltb (row-multiplier r .down) 32760) ≡ true → in-range (product r) ≡ true
@@ -149,6 +159,16 @@ module _ (r : List ℕ) where
         lt-ltb (c * own) (2 ^ 63) (omega arith),
         le-leb (getD kind-downs (kind r) 0 + row-multiplier r .down) (row-multiplier r .up + 32768) (omega (arith, kind-down-most (kind r))),
       )
+
+  -- nor one of which the fields say as they stand that it is small
+  pub in-range-plain : {c p : ℕ} → c ≡ coefficient-field r → p ≡ power-field r → (ltb c 8796093022208 && ltb p 32768) ≡ true → in-range (product r) ≡ true
+  unfolding row-multiplier fallen
+  in-range-plain {c} {p} e f small =
+      let few : c < 8796093022208 = ltb-true c 8796093022208 (and-left _ _ small) in
+      let up : p < 32768 = ltb-true p 32768 (and-right (ltb c 8796093022208) _ small) in
+      let own : magnitude coefficient-size (coefficient-field r) ≡ c = ap (magnitude coefficient-size) (sym e) ∙ magnitude-of coefficient-size c (omega (arith, few)) in
+      let none : fallen (power-field r) ≡ 0 = ap fallen (sym f) ∙ fallen-of p up in
+      in-range-small (rw (own, none, lt-ltb c 8796093022208 few))
 
 -- what the range says in numbers
 pub in-range-bounds : (m : Multiplier) → in-range m ≡ true → (m .coefficient < 2 ^ 63) × (m .up ≤ m .down + 32767) × (m .down ≤ m .up + 32768)

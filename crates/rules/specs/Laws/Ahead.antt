@@ -17,7 +17,7 @@ use Rattle.rules.specs.declared.Found.{Found}
 use Rattle.rules.specs.declared.Found.the-variants.{Row, Nowhere}
 use Rattle.rules.specs.Common.{if_then_else_, ascii, sees, run}
 use Rattle.rules.specs.NumbersHandedBack.{_>>=_}
-use Rattle.rules.specs.SettingsAndUnitTable.{DIGIT, SIGN, POINT, is, holds, Card, lookup, row, row-multiplier, product}
+use Rattle.rules.specs.SettingsAndUnitTable.{DIGIT, SIGN, POINT, is, holds, Card, lookup, row-multiplier, product}
 use Rattle.rules.specs.ReadingOnePart.{prefix, says, delimiters, gap, sign-step, fraction-step, number-step, exponent-digits, exponent-number, exponent-step, same-letter, in-stretch, ago-step, find-unit, unit-found, unit-step, numeral-end, numeral-found, numeral-step, spoken-unit-found, spoken-unit-step, after-conjunction, conjunction-step, connection, letters-step, infinity-closed, infinity-step, infinite-part, finite-part, spoken-part, unsigned-part, part}
 use Rattle.rules.specs.Laws.Choices.{and-left, and-right}
 use Rattle.rules.specs.Laws.Outcomes.{All, all-got, all-refused, all-if, all-bind, all-map}
@@ -157,17 +157,17 @@ module _ (card : Card) (text : List ℕ) where
     unfolding unit-step unit-found
     unit-ahead = go (find-unit card text place)
       where
-        go : (f : Found) → All (λ r. Ahead text place (r .next)) (unit-found card text place f)
-        go (Row i) = after-stretch (product (row (card .units) i))
-        go Nowhere = all-got (record { from = le-refl place; within = h })
+        go : (r : List ℕ) → All (λ r. Ahead text place (r .next)) (unit-found s text place r)
+        go [] = all-got (record { from = le-refl place; within = h })
+        go (size ∷ r) = after-stretch (product (size ∷ r))
 
     pub spoken-unit-ahead : All (λ r. Ahead text place (r .next)) (spoken-unit-step card text place)
     unfolding spoken-unit-step spoken-unit-found
     spoken-unit-ahead = go (find-unit card text place)
       where
-        go : (f : Found) → All (λ r. Ahead text place (r .next)) (spoken-unit-found card text place f)
-        go (Row i) = all-bind (after-stretch (row-multiplier (row (card .units) i))) (λ unit a. all-got a)
-        go Nowhere = all-refused
+        go : (r : List ℕ) → All (λ r. Ahead text place (r .next)) (spoken-unit-found s text place r)
+        go [] = all-refused
+        go (size ∷ r) = all-bind (after-stretch (row-multiplier (size ∷ r))) (λ unit a. all-got a)
 
   -- a numeral and the delimiters behind it are read, so a spoken number ends beyond where it began
   pub numeral-beyond : (place : ℕ) → place ≤ length text → All (λ r. Beyond text place (r .next)) (numeral-step card text place)

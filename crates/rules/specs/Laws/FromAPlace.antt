@@ -31,7 +31,7 @@ use Rattle.rules.specs.declared.Reading.{Reading}
 use Rattle.rules.specs.declared.Refusal.the-variants.{Nothing, SignEnds, DelimiterEnds, FractionOff, FractionEmpty, ExponentOff, ExponentByte, ExponentEnds, ExponentAbove, ExponentBelow, InfinityByte, InfinityEnds, ConjunctionEnds, ConjunctionGoesOn, NoNumber, NoUnit, OutOfRange}
 use Rattle.rules.specs.Common.{if_then_else_, ascii, ends, sees, run}
 use Rattle.rules.specs.NumbersHandedBack.{got, _>>=_, _>>_, unless}
-use Rattle.rules.specs.SettingsAndUnitTable.{DIGIT, SIGN, POINT, is, holds, is-next-duration, letters-of, conjunctions-of, times, in-range, Card, lookup, row, kind, row-multiplier, product}
+use Rattle.rules.specs.SettingsAndUnitTable.{DIGIT, SIGN, POINT, is, holds, is-next-duration, letters-of, conjunctions-of, times, in-range, Card, lookup, find-row, row, row-multiplier, product}
 use Rattle.rules.specs.ReadingOnePart.{same-letter, says, delimiters, gap, sign-step, fraction-step, number-step, exponent-passed, exponent-digits, exponent-number, exponent-step, in-stretch, closes-unit, ago-step, find-unit, unit-found, unit-step, numeral-end, numeral-found, numeral-step, spoken-unit-found, spoken-unit-step, conjunction-size, after-conjunction, conjunction-step, connection, closes-infinity, letters-step, infinity-closed, infinity-step, infinite-part, finite-part, spoken-part, unsigned-part, part}
 use Rattle.rules.specs.Evaluation.{digits-of, evaluate, multiplied, spoken-multiplier, evaluate-spoken, evaluated, allowed, part-reading}
 use Rattle.rules.specs.Laws.Outcomes.{later, Moved, moved-got, moved-refused, moved-to, moved-cause, moved-if, moved-bind}
@@ -201,23 +201,23 @@ module _ (card : Card) (text : List ℕ) (k : ℕ) where
 
   find-at : (p q : ℕ) → q ≡ k + p → find-unit card (drop k text) p ≡ find-unit card text q
   unfolding find-unit
-  find-at p q e = ap (lookup (card .units)) (stretch-at (in-stretch s) p q e)
+  find-at p q e = ap (find-row (card .hall) (card .line)) (stretch-at (in-stretch s) p q e)
 
   unit-from : (p q : ℕ) → q ≡ k + p → Moved move-unit k (unit-step card (drop k text) p) (unit-step card text q)
   unfolding unit-step unit-found
   unit-from p q e = rw (find-at p q e) (go (find-unit card text q))
     where
-      go : (f : Found) → Moved move-unit k (unit-found card (drop k text) p f) (unit-found card text q f)
-      go (Row i) = ago-from (product (row (card .units) i)) _ _ (run-at (in-stretch s) p q e)
-      go Nowhere = moved-to (cc)
+      go : (r : List ℕ) → Moved move-unit k (unit-found s (drop k text) p r) (unit-found s text q r)
+      go [] = moved-to (cc)
+      go (size ∷ r) = ago-from (product (size ∷ r)) _ _ (run-at (in-stretch s) p q e)
 
   spoken-unit-from : (p q : ℕ) → q ≡ k + p → Moved move-spoken-unit k (spoken-unit-step card (drop k text) p) (spoken-unit-step card text q)
   unfolding spoken-unit-step spoken-unit-found later
   spoken-unit-from p q e = rw (find-at p q e) (go (find-unit card text q))
     where
-      go : (f : Found) → Moved move-spoken-unit k (spoken-unit-found card (drop k text) p f) (spoken-unit-found card text q f)
-      go (Row i) = moved-bind _ _ (ago-from (row-multiplier (row (card .units) i)) _ _ (run-at (in-stretch s) p q e)) (λ unit. moved-got)
-      go Nowhere = moved-cause (ap NoUnit e)
+      go : (r : List ℕ) → Moved move-spoken-unit k (spoken-unit-found s (drop k text) p r) (spoken-unit-found s text q r)
+      go [] = moved-cause (ap NoUnit e)
+      go (size ∷ r) = moved-bind _ _ (ago-from (row-multiplier (size ∷ r)) _ _ (run-at (in-stretch s) p q e)) (λ unit. moved-got)
 
   numeral-from : (p q : ℕ) → q ≡ k + p → Moved move-numeral k (numeral-step card (drop k text) p) (numeral-step card text q)
   unfolding numeral-step numeral-found numeral-end later

@@ -13,13 +13,13 @@ use Rattle.rules.specs.declared.Found.the-variants.{Row, Nowhere}
 use Rattle.rules.specs.declared.Length.{Length}
 use Rattle.rules.specs.declared.Multiplier.{Multiplier}
 use Rattle.rules.specs.declared.Refusal.{Refusal}
-use Rattle.rules.specs.declared.Refusal.the-variants.{Delimiters, Conjunctions, DefaultKind, TableSize, BadRow, NumeralsSize, BadNumeral, OutOfRange}
+use Rattle.rules.specs.declared.Refusal.the-variants.{Delimiters, Conjunctions, DefaultKind, TableSize, BadRow, LineSize, BadLineRow, NumeralsSize, BadNumeral, OutOfRange}
 use Rattle.rules.specs.declared.Repr.{Repr}
 use Rattle.rules.specs.declared.Repr.the-variants.{Typed, Spoken}
 use Rattle.rules.specs.declared.Settings.{Settings}
 use Rattle.rules.specs.Common.{if_then_else_, ascii}
-use Rattle.rules.specs.NumbersHandedBack.{Outcome, number, unless}
-use Rattle.rules.specs.SettingsAndUnitTable.{row, lookup, Card, settings-check, rows-check, table-check, numerals-check, card-check, rows}
+use Rattle.rules.specs.NumbersHandedBack.{Outcome, _>>_, number, unless}
+use Rattle.rules.specs.SettingsAndUnitTable.{row, lookup, Card, settings-check, rows-check, units-check, table-check, line-check, numerals-check, card-check}
 use Rattle.rules.specs.ReadingOnePart.{delimiters, gap, sign-step, fraction-step, number-step, exponent-passed, exponent-digits, exponent-number, exponent-step, ago-step, find-unit, unit-found, unit-step, numeral-end, numeral-found, numeral-step, spoken-unit-found, spoken-unit-step, after-conjunction, conjunction-step, connection, letters-step, infinity-closed, infinity-step, infinite-part, finite-part}
 use Rattle.rules.specs.Evaluation.{multiplied, spoken-multiplier, evaluate-spoken, evaluated, allowed}
 use Rattle.rules.specs.Laws.Outcomes.{Refused, not-refused, refused-by, refused-map, refused-if, refused-bind, refused-then, refused-unless}
@@ -118,9 +118,9 @@ module _ (card : Card) (text : List ℕ) where
   unfolding unit-step unit-found
   unit-by place = go (find-unit card text place)
     where
-      go : (found : Found) → By 2 (unit-found card text place found)
-      go (Row i) = ago-by (card .settings) text _ _
-      go Nowhere = not-refused
+      go : (r : List ℕ) → By 2 (unit-found (card .settings) text place r)
+      go [] = not-refused
+      go (size ∷ r) = ago-by (card .settings) text _ _
 
   -- a numeral has 6 besides, where it is none, and its unit 15: so whatever holds of these numbers holds of what is handed back
   module _ (P : ℕ → Type 0) (two : P 2) where
@@ -139,9 +139,9 @@ module _ (card : Card) (text : List ℕ) where
     unfolding spoken-unit-step spoken-unit-found number
     spoken-unit-by fifteen place = go (find-unit card text place)
       where
-        go : (found : Found) → Refused (λ cause. P (number cause)) (spoken-unit-found card text place found)
-        go (Row i) = refused-bind (ago-step (card .settings) text _ _) (refused-map (ago-by (card .settings) text _ _) (λ cause e. rw e two)) (λ unit _. not-refused)
-        go Nowhere = refused-by fifteen
+        go : (r : List ℕ) → Refused (λ cause. P (number cause)) (spoken-unit-found (card .settings) text place r)
+        go [] = refused-by fifteen
+        go (size ∷ r) = refused-bind (ago-step (card .settings) text _ _) (refused-map (ago-by (card .settings) text _ _) (λ cause e. rw e two)) (λ unit _. not-refused)
 
   -- ---- a part that is typed
 
@@ -186,12 +186,18 @@ unfolding rows-check
 rows-by accepted bad seven i zero = not-refused
 rows-by accepted bad seven i (suc n) = refused-if (λ _. rows-by accepted bad seven (suc i) n) (λ _. refused-by (seven i))
 
+-- a table: its size, then its rows
+table-by :
+    (size : Refusal) (bad : ℕ → Refusal) → number size ≡ 7 → ((i : ℕ) → number (bad i) ≡ 7)
+    → (whole : Bool) (accepted : ℕ → Bool) (n : ℕ) → By 7 (unless size whole >> rows-check accepted bad 0 n)
+table-by size bad seven sevens whole accepted n = refused-then (unless size whole) (refused-unless size whole (λ _. seven)) (rows-by accepted bad sevens 0 n)
+
 pub card-by : (card : Card) → By 7 (card-check card)
-unfolding card-check settings-check table-check numerals-check number
+unfolding card-check settings-check units-check table-check line-check numerals-check number
 card-by card =
     refused-then (settings-check (card .settings))
     (refused-then (unless Delimiters _) (refused-unless Delimiters _ (λ _. refl))
     (refused-then (unless Conjunctions _) (refused-unless Conjunctions _ (λ _. refl)) (refused-unless DefaultKind _ (λ _. refl))))
-    (refused-then (table-check (card .settings) (card .units))
-    (refused-then (unless TableSize _) (refused-unless TableSize _ (λ _. refl)) (rows-by _ BadRow (λ i. refl) 0 (rows (card .units))))
-    (refused-then (unless NumeralsSize _) (refused-unless NumeralsSize _ (λ _. refl)) (rows-by _ BadNumeral (λ i. refl) 0 (rows (card .numerals)))))
+    (refused-then (table-check (card .settings) (card .hall)) (table-by TableSize BadRow refl (λ i. refl) _ _ _)
+    (refused-then (line-check (card .settings) (card .line)) (table-by LineSize BadLineRow refl (λ i. refl) _ _ _)
+    (table-by NumeralsSize BadNumeral refl (λ i. refl) _ _ _)))

@@ -1,39 +1,37 @@
--- `card::table::numerals_check` meets its contract: none at all, then the size, then the first bad numeral, of which a byte holds the
--- number. Assumes nothing.
-use native.Mathlib.Omega.{arith}
+-- `card::table::numerals_check` meets its contract: no rows are good, and what was found is said of the numerals. Assumes nothing.
+use mathlib.Core.Path.{_≡_, sym, ap, _∙_}
+use borrow.Author.Needs.{needs}
 use Rattle.rules.specs.declared.Refusal.the-variants.{NumeralsSize, BadNumeral}
-use Rattle.rules.specs.NumbersHandedBack.{_>>_, unless}
-use Rattle.rules.specs.SettingsAndUnitTable.{rows, whole-rows, rows-check, numerals-check}
+use Rattle.rules.specs.SettingsAndUnitTable.{numerals-check}
 use Rattle.settings.specs.Outcomes.{outcome}
-use Rattle.card.specs.Laws.Table.{half-a-row, too-many, row-refused, all-accepted}
+use Rattle.card.specs.Fields.{said}
+use Rattle.card.specs.Laws.Table.{tabled-alike, no-rows}
 use Rattle.card.proofs.table.numerals_check.Statement.{statement}
 use Rattle.card.proofs.table.numerals_check.Tie as tie
 
+found : (c : tie.After-rows-found) → said NumeralsSize BadNumeral (c .rows-found .result) ≡ numerals-check (c .before .before .before .before .args .numerals .now)
+unfolding numerals-check
+found c =
+    c .rows-found .ensures NumeralsSize BadNumeral
+    ∙ tabled-alike NumeralsSize _ _ _ BadNumeral _ (c .before .numeral-rule .ensures _ (λ k. c .before .before .before .shared-slice-known .given k .fits))
+
 returns : tie.Need-returns
-unfolding outcome numerals-check whole-rows rows rows-check unless _>>_
-returns c = rw (c .if1 .taken)
+unfolding outcome numerals-check
+returns c = no-rows NumeralsSize _ _ BadNumeral _ (c .if1 .taken)
 
 returns-2 : tie.Need-returns-2
-unfolding outcome numerals-check
-returns-2 c = half-a-row NumeralsSize _ _ BadNumeral _ (c .if2 .taken)
+unfolding outcome
+returns-2 c = ap (said NumeralsSize BadNumeral) (sym (c .enum-told .given .1)) ∙ found (c .before .before)
 
 returns-3 : tie.Need-returns-3
-unfolding outcome numerals-check
-returns-3 c = too-many NumeralsSize _ _ BadNumeral _ (c .if3 .taken)
+unfolding outcome
+returns-3 c = ap (said NumeralsSize BadNumeral) (sym (c .enum-told2 .given .1)) ∙ found (c .before .before)
 
 returns-4 : tie.Need-returns-4
-unfolding outcome numerals-check
-returns-4 c =
-    let sized = c .before .before .before in
-    row-refused NumeralsSize _ _ BadNumeral _ (sized .before .if2 .left) (sized .if3 .left)
-    (c .before .before .numeral-rule .ensures _ (λ k. sized .before .before .before .shared-slice-known .given k .fits)) (c .before .first-bad .ensures) (c .if4 .taken)
-
-returns-5 : tie.Need-returns-5
-unfolding outcome numerals-check
-returns-5 c =
-    let sized = c .before .before .before in
-    all-accepted NumeralsSize _ _ BadNumeral _ (sized .before .if2 .left) (sized .if3 .left)
-    (c .before .before .numeral-rule .ensures _ (λ k. sized .before .before .before .shared-slice-known .given k .fits)) (c .before .first-bad .ensures) (c .if4 .left)
+unfolding outcome
+returns-4 c = ap (said NumeralsSize BadNumeral) (sym (c .before .row .given .1)) ∙ found (c .before .before .before)
 
 pub numerals-check-spec : {M : Type 1} → statement M
-numerals-check-spec = tie.close (tie.spec returns returns-2 returns-3 (λ c κs. tt) (λ c κs. tt) (λ c. omega arith) returns-4 returns-5)
+numerals-check-spec =
+    tie.close
+    (tie.spec returns (λ c κs. tt) (λ c κs. search needs) (λ c. search needs) (λ c. search needs) (λ c. search needs) returns-2 returns-3 returns-4)

@@ -15,10 +15,10 @@ use Rattle.reading.proofs.part.connected_part.Statement.{statement}
 use Rattle.reading.proofs.part.connected_part.Tie as tie
 
 abbrev start : tie.After-typed-part → tie.Start
-start c = c .before .before .before .before
+start c = c .before .before .before .before .before
 
 abbrev card : tie.Start → Card
-card c = card-of (c .args .settings .now) (c .args .table .now) (c .args .numerals .now)
+card c = card-of (c .args .settings .now) (c .args .hall .now) (c .args .line .now) (c .args .numerals .now)
 
 -- what was typed, as its definition has it
 typed :
@@ -65,10 +65,10 @@ pub connected-part-spec : {M : Type 1} → statement M
 connected-part-spec =
     tie.close
     (tie.spec
-    (λ c κs. c .before .before .before .pre)
+    (λ c κs. c .before .before .before .before .pre)
     (λ c. search needs)
     (λ c. search needs)
-    (λ c κs. c .before .before .before .before .before .before .before .pre .ready .accepted)
+    (λ c κs. c .before .before .before .before .before .before .before .before .pre .ready .accepted)
     (λ c. search needs)
     (λ c. search needs)
     returns

@@ -15,10 +15,10 @@ use Rattle.reading.proofs.part.parse_part.Statement.{statement}
 use Rattle.reading.proofs.part.parse_part.Tie as tie
 
 abbrev start : tie.After-connected-part → tie.Start
-start c = c .before .before .before .before
+start c = c .before .before .before .before .before
 
 abbrev card : tie.Start → Card
-card c = card-of (c .args .settings .now) (c .args .table .now) (c .args .numerals .now)
+card c = card-of (c .args .settings .now) (c .args .hall .now) (c .args .line .now) (c .args .numerals .now)
 
 -- the part that was read, as its definition has it
 read :
@@ -57,7 +57,7 @@ pub parse-part-spec : {M : Type 1} → statement M
 parse-part-spec =
     tie.close
     (tie.spec
-    (λ c κs. c .before .before .before .pre)
+    (λ c κs. c .before .before .before .before .pre)
     (λ c. search needs)
     (λ c. search needs)
     returns

@@ -1,18 +1,14 @@
 -- `reading::typed::unitless_part` meets its contract: a spoken number is refused, and a typed one has the default kind. Assumes nothing.
 use mathlib.Core.Path.{_∙_}
 use borrow.Author.Needs.{needs}
-use Rattle.reading.specs.Coded.{multiplied-part, unit-coded}
 use Rattle.reading.proofs.typed.unitless_part.Statement.{statement}
 use Rattle.reading.proofs.typed.unitless_part.Tie as tie
 
 returns : tie.Need-returns
-unfolding unit-coded
-returns c = λ units numerals. rw (c .enum-told .given .1)
+returns c = rw (c .enum-told .given .1)
 
 returns-2 : tie.Need-returns-2
-unfolding unit-coded
 returns-2 c =
-    λ units numerals.
     c .multiplied-part .ensures
     ∙ rw (c .before .before .before .enum-told2 .given .1, c .before .kind-multiplier .ensures, c .before .before .default-kind .ensures)
 

@@ -18,11 +18,11 @@ use Rattle.reading.proofs.typed.unsigned_part.Tie as tie
 
 -- ---- what the class says
 
-abbrev start : tie.After-shared-slice-known3 → tie.Start
-start c = c .before .before .before
+abbrev start : tie.After-shared-slice-known4 → tie.Start
+start c = c .before .before .before .before
 
 abbrev card : tie.Start → Card
-card c = card-of (c .args .settings .now) (c .args .table .now) (c .args .numerals .now)
+card c = card-of (c .args .settings .now) (c .args .hall .now) (c .args .line .now) (c .args .numerals .now)
 
 digits : (c : tie.At-match-keys1) → let s = start (c .before) in typed-finite (card s) (s .args .text .now) (s .args .negative) (s .args .place) ≡ typed-unsigned (card s) (s .args .text .now) (s .args .negative) (s .args .place)
 digits c = let s = start (c .before) in unsigned-number (card s) _ _ _ (rw (← (s .pre .1)) (c .match .keys1))
@@ -126,7 +126,7 @@ pub unsigned-part-spec : {M : Type 1} → statement M
 unsigned-part-spec =
     tie.close
     (tie.spec
-    (λ c κs. c .before .before .before .before .pre .0 .ready .accepted)
+    (λ c κs. c .before .before .before .before .before .pre .0 .ready .accepted)
     (λ c. search needs)
     (λ c. search needs)
     returns
@@ -135,10 +135,10 @@ unsigned-part-spec =
     next-is-ignore-ascii-case-requires
     infinite-part-requires
     returns-2
-    (λ c κs. let pre = c .before .before .before .before .before .before .pre in (pre .0 .ready .accepted, pre .0 .sayable))
+    (λ c κs. let pre = c .before .before .before .before .before .before .before .pre in (pre .0 .ready .accepted, pre .0 .sayable))
     (λ c. search needs)
     (λ c. search needs)
     returns-3
     returns-4
-    (λ c κs. (c .before .before .before .before .pre .0, counted c .1))
+    (λ c κs. (c .before .before .before .before .before .pre .0, counted c .1))
     returns-5)

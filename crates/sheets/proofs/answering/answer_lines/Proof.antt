@@ -12,10 +12,10 @@ use Rattle.sheets.proofs.answering.answer_lines.Statement.{statement}
 use Rattle.sheets.proofs.answering.answer_lines.Tie as tie
 
 abbrev Inv-loop : tie.InvT-loop
-Inv-loop settings table numerals sheet out₀ read₀ printed₀ out read printed = Answered (card-of settings table numerals) sheet out₀ out read printed
+Inv-loop settings hall line numerals sheet out₀ read₀ printed₀ out read printed = Answered (card-of settings hall line numerals) sheet out₀ out read printed
 
 abbrev μ-loop : tie.MeasureT-loop
-μ-loop settings table numerals sheet out₀ read₀ printed₀ out read printed = length sheet - read
+μ-loop settings hall line numerals sheet out₀ read₀ printed₀ out read printed = length sheet - read
 
 -- ---- what is known on the way
 
@@ -26,16 +26,16 @@ before-end c = rw (c .line-end .ensures) (end-from _ (c .before .loop .read))
 line-answer :
     (c : tie.After-read-total-checked Inv-loop μ-loop)
     → let turn = c .before .before .before .before in
-    let args = turn .before .before .before .before .before .args in
-    c .read-total-checked .result ≡ total-answer (card-of (args .settings .now) (args .table .now) (args .numerals .now)) (line-at (args .sheet .now) (turn .loop .read))
+    let args = turn .before .before .before .before .before .before .args in
+    c .read-total-checked .result ≡ total-answer (card-of (args .settings .now) (args .hall .now) (args .line .now) (args .numerals .now)) (line-at (args .sheet .now) (turn .loop .read))
 line-answer c = rw (c .before .before .before .line-end .ensures) at (c .read-total-checked .ensures)
 
 -- a line that has no room is the last, and leaves the buffer as it was
 no-more :
     (c : tie.Then2 Inv-loop μ-loop)
     → let turn = c .before .before .before .before .before .before .before .before .before in
-    let args = turn .before .before .before .before .before .args in
-    (record { read = turn .loop .read; printed = turn .loop .printed } ≡ answered-to (card-of (args .settings .now) (args .table .now) (args .numerals .now)) (args .sheet .now) (length (args .out .now)))
+    let args = turn .before .before .before .before .before .before .args in
+    (record { read = turn .loop .read; printed = turn .loop .printed } ≡ answered-to (card-of (args .settings .now) (args .hall .now) (args .line .now) (args .numerals .now)) (args .sheet .now) (length (args .out .now)))
     × (turn .loop .out ≡ c .before .before .before .put-answer .last .1 .0)
 no-more c =
     let put = c .before .before .before in

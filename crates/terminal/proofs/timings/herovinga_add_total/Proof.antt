@@ -12,9 +12,9 @@ use Rattle.terminal.proofs.timings.herovinga_add_total.Tie as tie
 -- what the total by value gives, said of the words
 shifted :
     (c : tie.After-shifted-total)
-    → let args = c .before .before .before .before .before .before .args in
-    (c .shifted-total .result .answer ≡ shift-answer (length-of (args .total .now)) (card-of (args .settings .now) (args .table .now) (args .numerals .now)) (args .text .now))
-    × (c .shifted-total .result .total ≡ shifted-record (length-of (args .total .now)) (card-of (args .settings .now) (args .table .now) (args .numerals .now)) (args .text .now))
+    → let args = c .before .before .before .before .before .before .before .args in
+    (c .shifted-total .result .answer ≡ shift-answer (length-of (args .total .now)) (card-of (args .settings .now) (args .hall .now) (args .line .now) (args .numerals .now)) (args .text .now))
+    × (c .shifted-total .result .total ≡ shifted-record (length-of (args .total .now)) (card-of (args .settings .now) (args .hall .now) (args .line .now) (args .numerals .now)) (args .text .now))
 shifted c = rw (c .before .length-of .ensures) at (c .shifted-total .ensures)
 
 returns : tie.Need-returns
