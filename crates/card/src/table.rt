@@ -317,7 +317,7 @@ fn table_check(settings: &[u64; 25], hall: &[u8]) -> Checked
     }
 }
 
-// The line's table. None is accepted at once: most cards have none.
+// The line's table. One without rows is accepted at once: most cards are without.
 fn line_check(settings: &[u64; 25], line: &[u8]) -> Checked
     requires { ⌜ settings-check (settings-of (now settings)) ≡ got tt ⌝ }
     ensures { λ r. ⌜ outcome r ≡ line-check (settings-of (now (settings .entry))) (now (line .entry)) ⌝ }
@@ -345,7 +345,7 @@ fn numeral_rule() -> RowRule
     }
 }
 
-// No numerals are accepted at once too.
+// The numeral table, which most cards are without too.
 fn numerals_check(numerals: &[u8]) -> Checked
     ensures { λ r. ⌜ outcome r ≡ numerals-check (now (numerals .entry)) ⌝ }
 {

@@ -12,11 +12,17 @@ Inv-loop hall₀ line₀ numerals₀ tally₀ left₀ hall line numerals tally l
 abbrev μ-loop : tie.MeasureT-loop
 μ-loop hall₀ line₀ numerals₀ tally₀ left₀ hall line numerals tally left = left
 
+-- the turn in which a card was tried
+turn : tie.After-round-card Inv-loop μ-loop → tie.In-loop Inv-loop μ-loop
+turn c = c .before .before .before .before .before .before .before .before .before .before .before .before .before .before .before .before .before .before .before .before
+
 sub-left : tie.Need-sub-left Inv-loop μ-loop
-sub-left c = omega (arith, c .before .before .before .before .before .before .before .before .before .before .before .before .before .before .before .before .before .before .before .before .loop-test .taken)
+unfolding turn
+sub-left c = omega (arith, turn c .loop-test .taken)
 
 loop-less : tie.Need-loop-less Inv-loop μ-loop
-loop-less c = omega (arith, c .before .before .before .before .before .before .before .before .before .before .before .before .before .before .before .before .before .before .before .before .loop-test .taken)
+unfolding turn
+loop-less c = omega (arith, turn c .loop-test .taken)
 
 pub round-all-spec : {M : Type 1} → statement M
 round-all-spec =
