@@ -34,7 +34,6 @@ extern "C" {
 enum herovinga_number {
     HEROVINGA_DONE = 0,           /* read or written: the next place, or the text's size for a total and for an ISO text */
     HEROVINGA_NOTHING = 1,        /* nothing at the place: the place */
-    HEROVINGA_SYNTAX = 2,         /* the text is no timing: where that shows */
     HEROVINGA_EXPONENT_ABOVE = 3, /* an exponent above 32767: the digit with which it passes that */
     HEROVINGA_EXPONENT_BELOW = 4, /* an exponent below -32768: the digit with which it passes that */
     HEROVINGA_NEGATIVE = 5,       /* a part is negative while negatives are off, or a length is that is to be written as ISO: 0 */
@@ -48,7 +47,17 @@ enum herovinga_number {
     HEROVINGA_YEAR_OR_MONTH = 13, /* the letter of years or months, which have no length: that byte */
     HEROVINGA_TOO_LARGE = 14,     /* an ISO text beyond the largest length: 0 */
     HEROVINGA_NO_UNIT = 15,       /* no unit behind a numeral and its delimiters: the byte behind them, which is 5 for "five x" */
-    HEROVINGA_OUT_OF_RANGE = 16   /* numeral times unit is out of range, as "most min" is if most is 9223372036854775807: 0 */
+    HEROVINGA_OUT_OF_RANGE = 16,  /* numeral times unit is out of range, as "most min" is if most is 9223372036854775807: 0 */
+
+    /* Slips in the typing of a text, and where they are to be mended. They were one number, 2, which is no longer given. */
+    HEROVINGA_TEXT_ENDS = 17,      /* the text ends after a sign or within an exponent, as "+" and "1e-" do: its size, where digits are wanted */
+    HEROVINGA_DELIMITERS_END = 18, /* delimiters end the text, as in "1s ": the first of them, from which on they are to go */
+    HEROVINGA_CONJUNCTION = 19,    /* a conjunction ends the text, as in "1s and": its first byte, and a part is wanted behind it; or no outer
+                                      delimiter, digit or sign is behind it, as in "1s android": the byte where one is wanted */
+    HEROVINGA_FRACTION = 20,       /* a point with a digit on neither side, as in ".s", or while fractions are off: the point, which is to go */
+    HEROVINGA_EXPONENT = 21,       /* a byte in the place of an exponent's digit, as in "1ex": that byte; or exponents are off: the 'e' to go */
+    HEROVINGA_INFINITY = 22        /* the text ends within "infinity", as in "infi": its first byte, and the whole word is wanted; or a letter of
+                                      it is wrong, as in "infix", or no outer delimiter is behind it, as in "inf+1": that byte */
 };
 
 /* Positions of number 7 beside those of the hall's rows, which are 0 to 63. What is wrong is looked for in the order settings, hall, line,

@@ -11,7 +11,10 @@
 #include "herovinga.h"
 
 #define LARGEST UINT64_MAX
-#define NUMBERS 17
+#define NUMBERS 23
+
+/* What was one number for syntax. */
+#define NOT_GIVEN 2
 
 static unsigned long checks, wrong, answers[NUMBERS];
 
@@ -248,8 +251,8 @@ static void readings(const card_a *a)
     reads(a, "18446744073709551616s", 0, LARGEST, 999999999);
     reads(a, "-inf", 1, LARGEST, 999999999);
     fails(a, "", HEROVINGA_NOTHING, 0);
-    fails(a, ".", HEROVINGA_SYNTAX, 0);
-    fails(a, "1s and", HEROVINGA_SYNTAX, 3);
+    fails(a, ".", HEROVINGA_FRACTION, 0);
+    fails(a, "1s and", HEROVINGA_CONJUNCTION, 3);
     fails(a, "1 and 2", HEROVINGA_NO_NUMBER, 2);
     forbidden.settings.negatives = 0;
     fails(&forbidden, "1s -1s", HEROVINGA_NEGATIVE, 0);
@@ -298,6 +301,139 @@ static void exponents(const card_a *a)
     text[last] = '9';
     fails(a, text, HEROVINGA_EXPONENT_BELOW, last);
     part(a, text, 0, HEROVINGA_EXPONENT_BELOW, last, 0);
+}
+
+/* ---- the six slips: each of their causes in a first part and in a later one, and beside it a text that has none or another */
+
+static void texts_that_end(const card_a *a)
+{
+    reads(a, "+1", 0, 1, 0);
+    fails(a, "+", HEROVINGA_TEXT_ENDS, 1);
+    fails(a, "-", HEROVINGA_TEXT_ENDS, 1);
+    fails(a, "1s-", HEROVINGA_TEXT_ENDS, 3);
+    fails(a, "1s and +", HEROVINGA_TEXT_ENDS, 8);
+    fails(a, "five min -", HEROVINGA_TEXT_ENDS, 10);
+    fails(a, "+x", HEROVINGA_NO_NUMBER, 1);
+    part(a, "1s +", 3, HEROVINGA_TEXT_ENDS, 4, 0);
+
+    reads(a, "1e0", 0, 1, 0);
+    fails(a, "1e", HEROVINGA_TEXT_ENDS, 2);
+    fails(a, "1E", HEROVINGA_TEXT_ENDS, 2);
+    fails(a, "1e+", HEROVINGA_TEXT_ENDS, 3);
+    fails(a, "1.5E-", HEROVINGA_TEXT_ENDS, 5);
+    fails(a, "1s 1e-", HEROVINGA_TEXT_ENDS, 6);
+    part(a, "1s 1e", 3, HEROVINGA_TEXT_ENDS, 5, 0);
+    part(a, "1s 1e", 0, HEROVINGA_DONE, 3, 1);
+}
+
+/* After a sign, before a unit, before "ago" and behind it, behind a numeral, of a connection and behind a conjunction. */
+static void delimiters_at_the_end(const card_a *a)
+{
+    card_a c = *a;
+    fails(a, "1 ", HEROVINGA_DELIMITERS_END, 1);
+    fails(a, "1s ", HEROVINGA_DELIMITERS_END, 2);
+    fails(a, "1s  ", HEROVINGA_DELIMITERS_END, 2);
+    fails(a, "1s ago ", HEROVINGA_DELIMITERS_END, 6);
+    fails(a, "-five  ", HEROVINGA_DELIMITERS_END, 5);
+    fails(a, "inf ", HEROVINGA_DELIMITERS_END, 3);
+    fails(a, "1s and ", HEROVINGA_DELIMITERS_END, 6);
+    fails(a, "1s and 2s ", HEROVINGA_DELIMITERS_END, 9);
+    part(a, "1s and 2s ", 7, HEROVINGA_DELIMITERS_END, 9, 0);
+    part(a, "1s and 2s ", 0, HEROVINGA_DONE, 7, 1);
+    fails(a, " ", HEROVINGA_NO_NUMBER, 0);
+    fails(a, "+ ", HEROVINGA_NO_NUMBER, 1);
+    c.settings.after_sign = 1;
+    fails(&c, "+ ", HEROVINGA_DELIMITERS_END, 1);
+    c.settings.ago = c.settings.before_unit = 0;
+    fails(&c, "1 ", HEROVINGA_DELIMITERS_END, 1);
+    fails(&c, "1s ", HEROVINGA_DELIMITERS_END, 2);
+}
+
+static void conjunction_slips(const card_a *a)
+{
+    card_a c = *a;
+    reads(a, "1s and1s", 0, 2, 0);
+    fails(a, "1s AND", HEROVINGA_CONJUNCTION, 3);
+    fails(a, "inf and", HEROVINGA_CONJUNCTION, 4);
+    fails(a, "five min and", HEROVINGA_CONJUNCTION, 9);
+    fails(a, "1s and 2s and", HEROVINGA_CONJUNCTION, 10);
+    fails(a, "1s android", HEROVINGA_CONJUNCTION, 6);
+    fails(a, "1s and.5", HEROVINGA_CONJUNCTION, 6);
+    fails(a, "1s and 2s andx", HEROVINGA_CONJUNCTION, 13);
+    fails(a, "1s an", HEROVINGA_NO_NUMBER, 3);
+    part(a, "1s and 2s and", 7, HEROVINGA_CONJUNCTION, 10, 0);
+    part(a, "1s and 2s andx", 7, HEROVINGA_CONJUNCTION, 13, 0);
+    c.settings.conjunctions = 0;
+    fails(&c, "1s and", HEROVINGA_NO_NUMBER, 3);
+}
+
+static void fraction_slips(const card_a *a)
+{
+    card_a c = *a;
+    reads(a, ".5", 0, 0, 500000000);
+    reads(a, "1.", 0, 1, 0);
+    fails(a, ".s", HEROVINGA_FRACTION, 0);
+    fails(a, "-.", HEROVINGA_FRACTION, 1);
+    fails(a, "1s and .", HEROVINGA_FRACTION, 7);
+    part(a, "1s .", 3, HEROVINGA_FRACTION, 3, 0);
+    c.settings.fractions = 0;
+    reads(&c, "15", 0, 15, 0);
+    fails(&c, "1.", HEROVINGA_FRACTION, 1);
+    fails(&c, ".5", HEROVINGA_FRACTION, 0);
+    fails(&c, "1s -1.5", HEROVINGA_FRACTION, 5);
+    part(&c, "1s -1.5", 3, HEROVINGA_FRACTION, 5, 0);
+}
+
+static void exponent_slips(const card_a *a)
+{
+    card_a c = *a;
+    reads(a, "1E+1", 0, 10, 0);
+    fails(a, "1ex", HEROVINGA_EXPONENT, 2);
+    fails(a, "1E ", HEROVINGA_EXPONENT, 2);
+    fails(a, "1e+x", HEROVINGA_EXPONENT, 3);
+    fails(a, "1e--1", HEROVINGA_EXPONENT, 3);
+    fails(a, "1s 1ex", HEROVINGA_EXPONENT, 5);
+    part(a, "1s 1e+x", 3, HEROVINGA_EXPONENT, 6, 0);
+    c.settings.exponents = 0;
+    reads(&c, "1", 0, 1, 0);
+    fails(&c, "1e", HEROVINGA_EXPONENT, 1);
+    fails(&c, "1.5E5", HEROVINGA_EXPONENT, 3);
+    fails(&c, "1s 1e5", HEROVINGA_EXPONENT, 4);
+    part(&c, "1s 1e5", 3, HEROVINGA_EXPONENT, 4, 0);
+}
+
+static void infinity_slips(const card_a *a)
+{
+    card_a c = *a;
+    reads(a, "InFiNiTy", 0, LARGEST, 999999999);
+    fails(a, "infi", HEROVINGA_INFINITY, 0);
+    fails(a, "-INFINIT", HEROVINGA_INFINITY, 1);
+    fails(a, "infx", HEROVINGA_INFINITY, 3);
+    fails(a, "infix", HEROVINGA_INFINITY, 4);
+    fails(a, "infinitx", HEROVINGA_INFINITY, 7);
+    fails(a, "inf+1", HEROVINGA_INFINITY, 3);
+    fails(a, "infinityx", HEROVINGA_INFINITY, 8);
+    fails(a, "1s infi", HEROVINGA_INFINITY, 3);
+    fails(a, "in", HEROVINGA_NO_NUMBER, 0);
+    part(a, "1s infi", 3, HEROVINGA_INFINITY, 3, 0);
+    part(a, "1s infx", 3, HEROVINGA_INFINITY, 6, 0);
+    part(a, "1s infinity1", 3, HEROVINGA_INFINITY, 11, 0);
+    c.settings.infinity = 0;
+    fails(&c, "infi", HEROVINGA_NO_NUMBER, 0);
+}
+
+/* They are found from left to right, and in their part before 5. */
+static void order_of_slips(const card_a *a)
+{
+    card_a forbidden = *a;
+    fails(a, "1ex infi", HEROVINGA_EXPONENT, 2);
+    fails(a, "infx 1ex", HEROVINGA_INFINITY, 3);
+    fails(a, ". 1s and", HEROVINGA_FRACTION, 0);
+    fails(a, "1e99999 .", HEROVINGA_EXPONENT_ABOVE, 6);
+    fails(a, "five x ", HEROVINGA_NO_UNIT, 5);
+    forbidden.settings.negatives = 0;
+    fails(&forbidden, "-1s and", HEROVINGA_CONJUNCTION, 4);
+    fails(&forbidden, "-1s 1e", HEROVINGA_NEGATIVE, 0);
 }
 
 /* Null with size 0 is an empty table, text or buffer, or no numerals. */
@@ -356,8 +492,8 @@ static void switches(const card_a *a)
         uint64_t position;
     } of[7] = {
         {"-1s", 1, 1, 0, HEROVINGA_NEGATIVE, 0},
-        {"1.5s", 0, 1, 500000000, HEROVINGA_SYNTAX, 1},
-        {"1e1s", 0, 10, 0, HEROVINGA_SYNTAX, 1},
+        {"1.5s", 0, 1, 500000000, HEROVINGA_FRACTION, 1},
+        {"1e1s", 0, 10, 0, HEROVINGA_EXPONENT, 1},
         {"inf", 0, LARGEST, 999999999, HEROVINGA_NO_NUMBER, 0},
         {"2s ago", 1, 2, 0, HEROVINGA_NO_NUMBER, 3},
         {"+ 1s", 0, 1, 0, HEROVINGA_NO_NUMBER, 1},
@@ -475,7 +611,7 @@ static void names_led_by_e(const card_a *a)
     fails(&c, "3ms", HEROVINGA_CARD, 2);
     c = with_e(a, "eon", 0, 1, underscore);
     reads(&c, "3_eon", 0, 15, 0);
-    fails(&c, "3eon", HEROVINGA_SYNTAX, 1);
+    fails(&c, "3eon", HEROVINGA_EXPONENT, 1);
     c = with_e(a, "Eon", 1, 0, 0);
     reads(&c, "3e0Eon", 0, 15, 0);
     c = with_e(a, "neon", 0, 0, 0);
@@ -687,8 +823,8 @@ static void numerals_alone(const card_a *a)
     fails(a, "fivemin", HEROVINGA_NO_NUMBER, 0);
     fails(a, "Five min", HEROVINGA_NO_NUMBER, 0);
     fails(a, "six min", HEROVINGA_NO_NUMBER, 0);
-    fails(a, "five ", HEROVINGA_SYNTAX, 4);
-    fails(a, "1s five  ", HEROVINGA_SYNTAX, 7);
+    fails(a, "five ", HEROVINGA_DELIMITERS_END, 4);
+    fails(a, "1s five  ", HEROVINGA_DELIMITERS_END, 7);
     fails(a, "five x", HEROVINGA_NO_UNIT, 5);
     fails(a, "five  minutes", HEROVINGA_NO_UNIT, 6);
     fails(a, "five five min", HEROVINGA_NO_UNIT, 5);
@@ -731,8 +867,8 @@ static void products(const card_a *a)
 
     /* It is found after all else of its part, before what follows, and before 5. */
     fails(a, "most x", HEROVINGA_NO_UNIT, 5);
-    fails(a, "most min ", HEROVINGA_SYNTAX, 8);
-    fails(a, "most min and", HEROVINGA_SYNTAX, 9);
+    fails(a, "most min ", HEROVINGA_DELIMITERS_END, 8);
+    fails(a, "most min and", HEROVINGA_CONJUNCTION, 9);
     fails(a, "most min x", HEROVINGA_OUT_OF_RANGE, 0);
     forbidden.settings.negatives = 0;
     fails(&forbidden, "-most min", HEROVINGA_OUT_OF_RANGE, 0);
@@ -890,7 +1026,7 @@ static void shift_totals(const card_a *a)
     adds(a, odd, "61.7ms", HEROVINGA_DONE, 6, less);
     adds(a, odd, "25jaw", HEROVINGA_DONE, 5, zero);
     adds(a, odd, "1s", HEROVINGA_DONE, 2, zero);
-    adds(a, odd, ".", HEROVINGA_SYNTAX, 0, odd);
+    adds(a, odd, ".", HEROVINGA_FRACTION, 0, odd);
     adds(a, largest, "1ns", HEROVINGA_DONE, 3, largest);
     adds(a, odd_zero, "1s", HEROVINGA_MALFORMED, 0, odd_zero);
     adds(a, minus_zero, ".", HEROVINGA_MALFORMED, 0, minus_zero);
@@ -1032,6 +1168,13 @@ int main(void)
     readings(&a);
     parts(&a);
     exponents(&a);
+    texts_that_end(&a);
+    delimiters_at_the_end(&a);
+    conjunction_slips(&a);
+    fraction_slips(&a);
+    exponent_slips(&a);
+    infinity_slips(&a);
+    order_of_slips(&a);
     nothing_there(&a);
     switches(&a);
     counts(&a);
@@ -1056,7 +1199,10 @@ int main(void)
     check("the numerals are as they were", memcmp(words, words_before, sizeof words) == 0);
     for (i = 0; i < NUMBERS; i++) {
         sum += answers[i];
-        check("every number was handed back", answers[i] > 0);
+        if (i == NOT_GIVEN)
+            check("2 is not handed back", answers[i] == 0);
+        else
+            check("every number was handed back", answers[i] > 0);
     }
     printf("%lu answers, %lu checks, %lu wrong\n", sum, checks, wrong);
     return wrong != 0;

@@ -34,6 +34,8 @@ mod request;
 #[allow(dead_code)]
 mod rng;
 #[allow(dead_code)]
+mod slips;
+#[allow(dead_code)]
 mod table;
 
 use std::process::ExitCode;

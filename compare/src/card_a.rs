@@ -2,6 +2,7 @@
 
 use crate::crate_side::{CrateAnswer, ask};
 use crate::request::{Answer, ByteSet, Card, Conjunctions, Length, Request, Switches};
+use crate::slips::folded;
 use crate::table::{Row, table_bytes};
 
 /// All switches on but the one after a sign; both sets hold the space.
@@ -53,12 +54,13 @@ pub fn row(name: &str, kind: u8, coefficient: i64, power: i16) -> Row {
 }
 
 /// The table "Card A and its readings" and the line program's example. The table
-/// has no place for its 3; that is request three's.
+/// has no place for its 3; that is request three's. For its 2 stand the numbers of
+/// request six.
 fn readings() -> Vec<(&'static str, Answer)> {
     vec![
         ("61.7ms", reads("61.7ms", '+', 0, 61_700_000)),
         ("", Answer::refusal(1, 0)),
-        (".", Answer::refusal(2, 0)),
+        (".", Answer::refusal(20, 0)),
         ("1.", reads("1.", '+', 1, 0)),
         ("1e-32768", reads("1e-32768", '+', 0, 0)),
         ("1e32768", Answer::refusal(3, 6)),
@@ -75,12 +77,12 @@ fn readings() -> Vec<(&'static str, Answer)> {
         ("1.5.5", reads("1.5.5", '+', 2, 0)),
         ("1s and 2ms", reads("1s and 2ms", '+', 1, 2_000_000)),
         ("1 and 2", Answer::refusal(6, 2)),
-        ("1s android", Answer::refusal(2, 6)),
-        ("1s and", Answer::refusal(2, 3)),
+        ("1s android", Answer::refusal(19, 6)),
+        ("1s and", Answer::refusal(19, 3)),
         ("-2s ago", reads("-2s ago", '+', 2, 0)),
-        ("1s ", Answer::refusal(2, 2)),
-        ("inf+1", Answer::refusal(2, 3)),
-        ("infi", Answer::refusal(2, 0)),
+        ("1s ", Answer::refusal(18, 2)),
+        ("inf+1", Answer::refusal(22, 3)),
+        ("infi", Answer::refusal(22, 0)),
         ("+1.5-2+0", reads("+1.5-2+0", '-', 0, 500_000_000)),
         ("2s ago", reads("2s ago", '-', 2, 0)),
         (" ", Answer::refusal(6, 0)),
@@ -109,10 +111,10 @@ fn reads(text: &str, sign: char, seconds: u64, nanos: u64) -> Answer {
     Answer::success(text.len() as u64, length)
 }
 
-/// Whether the crate's answer is the one wanted; for 1, 3, 4 and 6 the crate
-/// gives no place, so only the number counts there.
+/// Whether the crate's answer is the one wanted, of which a slip is folded; for 1,
+/// 3, 4 and 6 the crate gives no place, so only the number counts there.
 pub fn same_answer(crate_answer: &Answer, wanted: &Answer) -> bool {
-    crate_answer.number == wanted.number
+    Some(crate_answer.number) == folded(wanted.number)
         && crate_answer.length == wanted.length
         && (crate_answer.position.is_none() || crate_answer.position == wanted.position)
 }
@@ -131,7 +133,7 @@ pub fn check() -> bool {
         if as_written {
             println!("`{text}` -> {answer} (as document 01)");
         } else {
-            println!("`{text}` -> {answer} (DIFFERENT: document 01 has {wanted})");
+            println!("`{text}` -> {answer} (DIFFERENT: {wanted} is wanted)");
         }
         all_as_written &= as_written;
     }

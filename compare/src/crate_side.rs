@@ -20,6 +20,7 @@ use fundu_core::time::{Duration, Multiplier, TimeUnit, TimeUnitsLike};
 use crate::left_out::Reason;
 use crate::plain;
 use crate::request::{Answer, ByteSet, Card, Length, Request};
+use crate::slips::SYNTAX;
 use crate::table::{Row, merged, rows_of};
 
 const KINDS: [TimeUnit; 8] = [
@@ -275,7 +276,7 @@ fn said(answer: Answer) -> CrateAnswer {
 fn refusal(error: ParseError, base: u64) -> CrateAnswer {
     let (number, position) = match error {
         ParseError::Empty => (1, None),
-        ParseError::Syntax(place, _) => (2, Some(base + place as u64)),
+        ParseError::Syntax(place, _) => (SYNTAX, Some(base + place as u64)),
         ParseError::PositiveExponentOverflow => (3, None),
         ParseError::NegativeExponentOverflow => (4, None),
         ParseError::NegativeNumber => (5, Some(0)),

@@ -6,7 +6,8 @@ use crate::card_a::same_answer;
 use crate::crate_side::CrateAnswer;
 use crate::left_out::LeftOut;
 use crate::progress::Progress;
-use crate::request::{Answer, Card, Request};
+use crate::request::{Answer, Card, NUMBERS, Request};
+use crate::slips::SLIPS;
 use crate::spoil::Spoiler;
 use crate::table::{MOST_ROWS, ROW_BYTES, merged};
 
@@ -31,10 +32,10 @@ pub struct Found {
     kinds: [OfAKind; 4],
     /// The readings, counted from 0, in which port and crate differ.
     differing: Vec<u64>,
-    /// The port's places of 3 and 4, which the crate does not give, and those of
-    /// them that are not the plain reading's.
-    places: u64,
-    differing_places: u64,
+    /// The port's 3 and 4, of which the crate does not give the place.
+    places: HeldAgainstPlain,
+    /// The port's slips, which are one number of the crate's.
+    slips: HeldAgainstPlain,
     /// What the port was asked about itself: texts, their parts, and lengths
     /// written and read back.
     pub texts: u64,
@@ -46,7 +47,7 @@ pub struct Found {
 
 /// How many answers there are of each number.
 #[derive(Default)]
-struct Numbers([u64; 17]);
+struct Numbers([u64; NUMBERS]);
 
 impl Numbers {
     fn count(&mut self, number: u8) {
@@ -58,6 +59,14 @@ impl Numbers {
     fn all(&self) -> u64 {
         self.0.iter().sum()
     }
+
+    /// How many there are of each slip, also where there are none.
+    fn slips(&self) -> String {
+        let counted: Vec<String> = SLIPS
+            .map(|number| format!("{number}: {}", self.0[usize::from(number)]))
+            .collect();
+        counted.join("; ")
+    }
 }
 
 impl fmt::Display for Numbers {
@@ -68,6 +77,24 @@ impl fmt::Display for Numbers {
             .map(|(number, count)| format!("{number}: {count}"))
             .collect();
         out.write_str(&counted.join("; "))
+    }
+}
+
+/// Answers of the port that the crate does not confirm whole, so that the plain
+/// reading is asked too, for number and position.
+#[derive(Default)]
+struct HeldAgainstPlain {
+    numbers: Numbers,
+    differing: u64,
+}
+
+impl HeldAgainstPlain {
+    /// True if the two are the same.
+    fn compare(&mut self, plain: &Answer, port: &Answer) -> bool {
+        let same = plain == port;
+        self.numbers.count(port.number);
+        self.differing += u64::from(!same);
+        same
     }
 }
 
@@ -158,8 +185,8 @@ impl Found {
                 OfAKind::new("more than 64 units in both", merges_to_more),
             ],
             differing: Vec::new(),
-            places: 0,
-            differing_places: 0,
+            places: HeldAgainstPlain::default(),
+            slips: HeldAgainstPlain::default(),
             texts: 0,
             parts_of_texts: 0,
             written: 0,
@@ -205,13 +232,14 @@ impl Found {
         same
     }
 
-    /// Counts a place of 3 or 4 and compares the port's answer with the plain
-    /// reading's; true if they are the same.
-    pub fn compare_place(&mut self, plain: &Answer, port: &Answer) -> bool {
-        let same = plain == port;
-        self.places += 1;
-        self.differing_places += u64::from(!same);
-        same
+    /// Counts an answer of the port that the crate does not confirm whole, and
+    /// compares it with the plain reading's; true if they are the same.
+    pub fn compare_with_plain(&mut self, plain: &Answer, port: &Answer) -> bool {
+        let held = match port.number {
+            3 | 4 => &mut self.places,
+            _ => &mut self.slips,
+        };
+        held.compare(plain, port)
     }
 
     /// Counts something in which the port differs from itself.
@@ -220,7 +248,11 @@ impl Found {
     }
 
     fn differing(&self) -> u64 {
-        self.differing.len() as u64 + self.differing_places + self.differing_itself
+        self.differing.len() as u64 + self.differing_from_plain() + self.differing_itself
+    }
+
+    fn differing_from_plain(&self) -> u64 {
+        self.places.differing + self.slips.differing
     }
 
     /// Shows a request that was just counted as differing, with the answers.
@@ -266,7 +298,14 @@ impl Found {
         }
         println!(
             "places of 3 and 4: {} held against the plain reading, {} differ",
-            self.places, self.differing_places
+            self.places.numbers.all(),
+            self.places.differing
+        );
+        println!(
+            "slips, which are one number in the crate: {} held against the plain reading, {} differ; by number: {}",
+            self.slips.numbers.all(),
+            self.slips.differing,
+            self.slips.numbers.slips()
         );
         println!(
             "by the port alone: {} texts read in parts and added to a total, {} parts, {} lengths written and read back; {} differ",
@@ -277,7 +316,9 @@ impl Found {
             self.a_second(),
             self.progress.seconds()
         );
-        self.only_what_was_spoiled() && self.differing_places == 0 && self.differing_itself == 0
+        self.only_what_was_spoiled()
+            && self.differing_from_plain() == 0
+            && self.differing_itself == 0
     }
 
     /// Whether exactly the spoiled answers differ; a run that is to spoil some

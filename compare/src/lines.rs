@@ -22,6 +22,24 @@ const EXPONENTS: [(&str, u8, u64); 3] = [
     ("1s 1e32768", 3, 9),
 ];
 
+/// The six slips, with number and place: what document 01's readings and single
+/// bytes do not have of them under card A.
+const SLIPS: [(&str, u8, u64); 13] = [
+    ("1s +", 17, 4),
+    ("1e", 17, 2),
+    ("1s 1E-", 17, 6),
+    ("1 ", 18, 1),
+    ("1s ago ", 18, 6),
+    ("inf ", 18, 3),
+    ("1s and ", 18, 6),
+    ("inf and", 19, 4),
+    ("1s .s", 20, 3),
+    ("1ex", 21, 2),
+    ("1s 1E-x", 21, 6),
+    ("infix", 22, 4),
+    ("infinityx", 22, 8),
+];
+
 /// Digits alone, about as many as a text may have, and more than the program
 /// reads at once.
 const DIGITS: [usize; 5] = [4_095, 4_096, 4_097, 5_000, 70_000];
@@ -62,8 +80,8 @@ impl Sheet {
     }
 }
 
-/// The sheet of the gate: document 01's lines, exponents out of range, every byte
-/// as a line but the newline, lines about as long as a text may be, and empty
+/// The sheet of the gate: document 01's lines, exponents out of range, slips, every
+/// byte as a line but the newline, lines about as long as a text may be, and empty
 /// ones.
 pub fn write_files(lines_path: &str, printed_path: &str) -> Result<bool, String> {
     let mut sheet = Sheet::default();
@@ -76,7 +94,7 @@ pub fn write_files(lines_path: &str, printed_path: &str) -> Result<bool, String>
         };
         sheet.put(&text, Some(answer))?;
     }
-    for (text, number, place) in EXPONENTS {
+    for (text, number, place) in EXPONENTS.into_iter().chain(SLIPS) {
         sheet.put(text.as_bytes(), Some(Answer::refusal(number, place)))?;
     }
     for byte in (0..=u8::MAX).filter(|byte| *byte != NEWLINE) {

@@ -32,6 +32,7 @@ mod replay;
 mod request;
 mod rng;
 mod round;
+mod slips;
 mod spoken;
 mod stored;
 mod table;
@@ -48,6 +49,7 @@ use request::Request;
 const USAGE: &str = "\
 usage: compare make SEED COUNT          make requests
        compare answer                   the crate's answers to requests on standard input
+       compare split                    the same, which slip its 2 is by the plain reading
        compare plain                    the plain reading's answers to the same
        compare agree SEED COUNT         make requests and compare the two
        compare check                    document 01's readings of card A, asked of the crate
@@ -76,8 +78,9 @@ fn main() -> ExitCode {
     let arguments: Vec<&str> = arguments.iter().map(String::as_str).collect();
     let done = match arguments.as_slice() {
         ["make", seed, count] => make_lines(seed, count),
-        ["answer"] => answer_lines(|request| crate_side::ask(request).to_string()),
-        ["plain"] => answer_lines(plain::answer_line),
+        ["answer"] => answer_lines(|request| Ok(crate_side::ask(request).to_string())),
+        ["split"] => answer_lines(chosen::split_line),
+        ["plain"] => answer_lines(|request| Ok(plain::answer_line(request))),
         ["agree", seed, count] => agree_on(seed, count),
         ["check"] => Ok(card_a::check()),
         ["points"] => points::ask_points(),
@@ -158,12 +161,12 @@ fn agree_on(seed: &str, count: &str) -> Result<bool, String> {
 }
 
 /// Answers each request on standard input by one line, in order.
-fn answer_lines(answer: impl Fn(&Request) -> String) -> Result<bool, String> {
+fn answer_lines(answer: impl Fn(&Request) -> Result<String, String>) -> Result<bool, String> {
     let mut out = BufWriter::new(io::stdout().lock());
     for (index, line) in io::stdin().lock().lines().enumerate() {
         let line = line.map_err(|error| error.to_string())?;
         let request = Request::parse(&line).map_err(|why| format!("line {}: {why}", index + 1))?;
-        writeln!(out, "{}", answer(&request)).map_err(|error| error.to_string())?;
+        writeln!(out, "{}", answer(&request)?).map_err(|error| error.to_string())?;
     }
     out.flush().map_err(|error| error.to_string())?;
     Ok(true)

@@ -1,9 +1,10 @@
 //! A plain reading of document 01, written from its words: the acceptance of
 //! settings and tables, the steps of a part, the evaluation, the total, the
-//! writer and the shift total. The words of requests two to five are among them:
+//! writer and the shift total. The words of requests two to six are among them:
 //! a unit that nobody could type is not accepted, an exponent out of range is
-//! refused at the digit with which it is, a numeral may stand for a number, and a
-//! line's own units win over the hall's.
+//! refused at the digit with which it is, a numeral may stand for a number, a
+//! line's own units win over the hall's, and what was one number for syntax is
+//! six, each for a slip of its own.
 
 use crate::natural::Natural;
 use crate::request::{Answer, ByteSet, Card, Length, Request, bytes_field};
@@ -17,6 +18,19 @@ const NANOS_OF_A_SECOND: u64 = 1_000_000_000;
 
 /// What is added to the position of what is wrong with the line's table.
 const OF_THE_LINE: usize = 128;
+
+/// The six slips of request six.
+mod slip {
+    /// The text ends straight after a sign, or within an exponent.
+    pub const TEXT_ENDS: u8 = 17;
+    /// A run of delimiters ends the text.
+    pub const DELIMITERS_END: u8 = 18;
+    pub const CONJUNCTION: u8 = 19;
+    pub const FRACTION: u8 = 20;
+    /// Exponents are off, or a byte stands where an exponent's digit is wanted.
+    pub const EXPONENT: u8 = 21;
+    pub const INFINITY: u8 = 22;
+}
 
 struct Refusal {
     number: u8,
@@ -378,7 +392,7 @@ impl<'a> Reader<'a> {
         };
         let after = place + 1;
         if after == self.text.len() {
-            return refuse(2, after);
+            return refuse(slip::TEXT_ENDS, after);
         }
         if self.card.switches.sign_delimiter {
             return Ok((minus, self.delimiters(after, &self.card.inner)?));
@@ -405,11 +419,11 @@ impl<'a> Reader<'a> {
             return Ok((&[], place));
         }
         if !self.card.switches.fractions {
-            return refuse(2, place);
+            return refuse(slip::FRACTION, place);
         }
         let (fraction, after) = self.digits(place + 1);
         if fraction.is_empty() && !has_whole {
-            return refuse(2, place);
+            return refuse(slip::FRACTION, place);
         }
         Ok((fraction, after))
     }
@@ -420,7 +434,7 @@ impl<'a> Reader<'a> {
             return Ok((0, place));
         }
         if !self.card.switches.exponents {
-            return refuse(2, place);
+            return refuse(slip::EXPONENT, place);
         }
         let (minus, wanted) = match self.byte(place + 1) {
             Some(b'-') => (true, place + 2),
@@ -429,7 +443,12 @@ impl<'a> Reader<'a> {
         };
         let (digits, after) = self.digits(wanted);
         if digits.is_empty() {
-            return refuse(2, wanted);
+            // Nothing more was typed, or something that is no digit.
+            let number = match self.byte(wanted) {
+                None => slip::TEXT_ENDS,
+                Some(_) => slip::EXPONENT,
+            };
+            return refuse(number, wanted);
         }
         let (number, most) = if minus {
             (4, LOWEST_EXPONENT_SIZE)
@@ -505,10 +524,10 @@ impl<'a> Reader<'a> {
         };
         let after = start + word.len();
         match self.byte(after) {
-            None => refuse(2, start),
+            None => refuse(slip::CONJUNCTION, start),
             Some(byte) if self.card.outer.holds(byte) => self.delimiters(after, &self.card.outer),
             Some(byte) if is_digit_or_sign(byte) => Ok(after),
-            Some(_) => refuse(2, after),
+            Some(_) => refuse(slip::CONJUNCTION, after),
         }
     }
 
@@ -521,15 +540,15 @@ impl<'a> Reader<'a> {
         let mut at = after_inf;
         for letter in b"inity" {
             match self.byte(at) {
-                None => return refuse(2, place),
+                None => return refuse(slip::INFINITY, place),
                 Some(byte) if byte.to_ascii_lowercase() == *letter => at += 1,
-                Some(_) => return refuse(2, at),
+                Some(_) => return refuse(slip::INFINITY, at),
             }
         }
         if self.is_end_or_outer(at) {
             return self.connection_step(at);
         }
-        refuse(2, at)
+        refuse(slip::INFINITY, at)
     }
 
     fn is_end_or_outer(&self, place: usize) -> bool {
@@ -545,7 +564,7 @@ impl<'a> Reader<'a> {
             .take_while(|byte| set.holds(**byte))
             .count();
         if length > 0 && place + length == self.text.len() {
-            return refuse(2, place);
+            return refuse(slip::DELIMITERS_END, place);
         }
         Ok(place + length)
     }

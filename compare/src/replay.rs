@@ -22,7 +22,7 @@ use crate::limits;
 use crate::long_texts;
 use crate::make::Maker;
 use crate::make_odd::OddMaker;
-use crate::request::{Answer, Card, Request, hex};
+use crate::request::{Answer, Card, NUMBERS, Request, hex};
 use crate::stored;
 
 /// The seed of the stored list, and how many of its requests are made by it.
@@ -161,7 +161,7 @@ struct List<Out: Write> {
     held: Vec<Listed>,
     cards: u64,
     requests: u64,
-    numbers: [u64; 17],
+    numbers: [u64; NUMBERS],
 }
 
 impl<Out: Write> List<Out> {
@@ -171,7 +171,7 @@ impl<Out: Write> List<Out> {
             held: Vec::new(),
             cards: 0,
             requests: 0,
-            numbers: [0; 17],
+            numbers: [0; NUMBERS],
         }
     }
 

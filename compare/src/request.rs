@@ -15,6 +15,9 @@ use std::fmt;
 /// should be an error and not an exhausted memory.
 const MOST_FIELD_BYTES: usize = 1 << 24;
 
+/// The numbers of answers are 0 to 22.
+pub const NUMBERS: usize = 23;
+
 /// A run of equal bytes at least this long is not written out.
 pub const RUN_WORTH_FOLDING: usize = 24;
 

@@ -1,6 +1,6 @@
 //! The port beside the crate under one card: both are asked about texts, the
-//! plain reading too where the crate gives no place, and then the port about
-//! itself.
+//! plain reading too where the crate gives no place or has one number for six,
+//! and then the port about itself.
 
 use crate::crate_side::{self, CrateAnswer, SetUp};
 use crate::found::Found;
@@ -8,6 +8,7 @@ use crate::nanoseconds::{clamped_sum, nanoseconds};
 use crate::plain;
 use crate::port_side::Port;
 use crate::request::{Answer, Card, Length, Request};
+use crate::slips::{SYNTAX, is_slip};
 use crate::there_and_back::{Line, Wrong};
 
 /// Both set up for one card.
@@ -77,20 +78,20 @@ impl SideBySide<'_> {
             let answers = [("port", port.to_string()), ("crate", said.to_string())];
             self.found.show(&request, answers);
         }
-        if matches!(port.number, 3 | 4) {
-            self.compare_place(place, text, port);
+        if matches!(port.number, SYNTAX | 3 | 4) || is_slip(port.number) {
+            self.compare_with_plain(place, text, port);
         }
     }
 
-    /// Of 3 and 4 the crate confirms the number alone, so the plain reading is
-    /// asked for the place. What is spoiled of the crate's answers is no matter
-    /// here.
-    fn compare_place(&mut self, place: Option<u64>, text: &[u8], port: &Answer) {
+    /// Of 3 and 4 the crate confirms the number alone, and of a slip the place, so
+    /// the plain reading is asked for both. A 2 is never right, also where the crate
+    /// is not compared. What is spoiled of the crate's answers is no matter here.
+    fn compare_with_plain(&mut self, place: Option<u64>, text: &[u8], port: &Answer) {
         let plain = match place {
             None => plain::total(self.card, text),
             Some(place) => plain::part(self.card, text, place),
         };
-        if !self.found.compare_place(&plain, port) {
+        if !self.found.compare_with_plain(&plain, port) {
             let request = Request::reading(place, self.card.clone(), text.to_vec());
             let answers = [("port", port.to_string()), ("plain", plain.to_string())];
             self.found.show(&request, answers);

@@ -55,7 +55,7 @@ const STRETCHES: [Asked; 9] = [
     ("1five,min+1", "0 11 + 302 0", "0 11 + 302 0"),
     ("1five,min_1", "6 * + 0 0", "0 11 + 302 0"),
     ("1five,x", "6 * + 0 0", "15 6 + 0 0"),
-    ("1five,", "6 * + 0 0", "2 5 + 0 0"),
+    ("1five,", "6 * + 0 0", "18 5 + 0 0"),
 ];
 
 /// With ago on that stretch ends at an inner delimiter, as a numeral's does.

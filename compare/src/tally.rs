@@ -3,7 +3,7 @@
 use std::collections::{BTreeMap, HashSet};
 use std::fs;
 
-use crate::request::Request;
+use crate::request::{NUMBERS, Request};
 
 pub fn tally(requests_path: &str, answers_path: &str) -> Result<bool, String> {
     let requests = read(requests_path)?;
@@ -20,7 +20,7 @@ pub fn tally(requests_path: &str, answers_path: &str) -> Result<bool, String> {
     let mut parts = 0;
     let mut left_out: BTreeMap<&str, u64> = BTreeMap::new();
     let mut loud = 0;
-    let mut numbers = [0_u64; 17];
+    let mut numbers = [0_u64; NUMBERS];
     for (line, answer) in requests.lines().zip(answers.lines()) {
         let request = Request::parse(line)?;
         if let Some(card) = request.card() {

@@ -31,8 +31,11 @@
 //!
 //! // What cannot be read is refused with a number and a place.
 //! let refused = card.read_total("1s android").unwrap_err();
-//! assert_eq!(refused, Refusal { number: 2, position: 6 });
-//! assert_eq!(refused.to_string(), "the text cannot be read on at place 6");
+//! assert_eq!(refused, Refusal { number: 19, position: 6 });
+//! assert_eq!(
+//!     refused.to_string(),
+//!     "a conjunction leads to no part at place 6: type a delimiter and a part behind it, or take it away"
+//! );
 //!
 //! // Part by part, and written back.
 //! let mut written = Vec::new();

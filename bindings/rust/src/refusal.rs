@@ -10,7 +10,7 @@ use crate::raw::Answer;
 /// number; `Display` says it in a sentence.
 #[derive(Clone, Copy, PartialEq, Eq, Hash, Debug)]
 pub struct Refusal {
-    /// 1 to 16.
+    /// 1 to 22. 2 is no longer given: 17 to 22 tell apart what it was for.
     pub number: u8,
     /// A place of the text or buffer, 0, or for 7 what is wrong: 65 the
     /// delimiters, 66 the conjunctions, 67 the default kind; 64 the size of the
@@ -60,6 +60,37 @@ impl Refusal {
             }
         }
     }
+
+    /// What is wrong with how a text is typed, and what to mend.
+    fn describe_slip(self, out: &mut fmt::Formatter<'_>) -> fmt::Result {
+        let position = self.position;
+        match self.number {
+            17 => write!(
+                out,
+                "the text ends at place {position}, after a sign or within an exponent: type the digits, or take it away"
+            ),
+            18 => write!(
+                out,
+                "delimiters end the text from place {position} on: take them away, or type what they lead to"
+            ),
+            19 => write!(
+                out,
+                "a conjunction leads to no part at place {position}: type a delimiter and a part behind it, or take it away"
+            ),
+            20 => write!(
+                out,
+                "the point at place {position} has no digit beside it, or the card allows no fraction: type a digit, or take the point away"
+            ),
+            21 => write!(
+                out,
+                "an exponent has no digit at place {position}, or the card allows no exponent: type a digit there, or take the exponent away"
+            ),
+            _ => write!(
+                out,
+                "infinity is not whole or not alone at place {position}: type `inf` or `infinity`, and a delimiter before what follows"
+            ),
+        }
+    }
 }
 
 impl fmt::Display for Refusal {
@@ -67,7 +98,6 @@ impl fmt::Display for Refusal {
         let position = self.position;
         match self.number {
             1 => write!(out, "there is nothing to read at place {position}"),
-            2 => write!(out, "the text cannot be read on at place {position}"),
             3 => write!(out, "an exponent goes above 32767 at place {position}"),
             4 => write!(out, "an exponent goes below -32768 at place {position}"),
             5 => out.write_str(
@@ -97,6 +127,7 @@ impl fmt::Display for Refusal {
             16 => out.write_str(
                 "a numeral times its unit has a coefficient or a power of ten that is out of range",
             ),
+            17..=22 => self.describe_slip(out),
             number => write!(out, "refusal {number} at {position}"),
         }
     }

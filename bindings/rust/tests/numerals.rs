@@ -73,7 +73,7 @@ fn refused() {
         ("fivemin", refusal(6, 0)),
         ("five", refusal(6, 0)),
         ("1s -five", refusal(6, 4)),
-        ("five ", refusal(2, 4)),
+        ("five ", refusal(18, 4)),
         // No unit behind it.
         ("five x", refusal(15, 5)),
         ("five five min", refusal(15, 5)),
@@ -82,7 +82,7 @@ fn refused() {
         ("most min", refusal(16, 0)),
         ("1s most min 1s", refusal(16, 0)),
         ("tiny ns", refusal(16, 0)),
-        ("most min and", refusal(2, 9)),
+        ("most min and", refusal(19, 9)),
         ("most x", refusal(15, 5)),
     ] {
         assert_eq!(card.read_total(text), Err(wanted), "`{text}`");

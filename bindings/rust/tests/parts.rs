@@ -65,7 +65,7 @@ fn the_shift_total() {
     assert_eq!(total, length(true, 2, 0));
 
     let refusal = Refusal {
-        number: 2,
+        number: 18,
         position: 2,
     };
     assert_eq!(card.add_total(&mut total, "1s "), Err(refusal));

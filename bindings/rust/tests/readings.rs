@@ -18,13 +18,14 @@ fn refused(number: u8, position: usize) -> Result<Length, Refusal> {
     Err(Refusal { number, position })
 }
 
-/// The table "Card A and its readings", with request three's place for its 3,
-/// the texts of the line program and the text of one space.
+/// The table "Card A and its readings", with request three's place for its 3 and
+/// request six's numbers for its 2, the texts of the line program and the text of
+/// one space.
 fn readings() -> Vec<(&'static str, Result<Length, Refusal>)> {
     vec![
         ("61.7ms", plus(0, 61_700_000)),
         ("", refused(1, 0)),
-        (".", refused(2, 0)),
+        (".", refused(20, 0)),
         ("1.", plus(1, 0)),
         ("1e-32768", plus(0, 0)),
         ("1e32768", refused(3, 6)),
@@ -35,12 +36,12 @@ fn readings() -> Vec<(&'static str, Result<Length, Refusal>)> {
         ("1.5.5", plus(2, 0)),
         ("1s and 2ms", plus(1, 2_000_000)),
         ("1 and 2", refused(6, 2)),
-        ("1s android", refused(2, 6)),
-        ("1s and", refused(2, 3)),
+        ("1s android", refused(19, 6)),
+        ("1s and", refused(19, 3)),
         ("-2s ago", plus(2, 0)),
-        ("1s ", refused(2, 2)),
-        ("inf+1", refused(2, 3)),
-        ("infi", refused(2, 0)),
+        ("1s ", refused(18, 2)),
+        ("inf+1", refused(22, 3)),
+        ("infi", refused(22, 0)),
         ("+1.5-2+0", minus(0, 500_000_000)),
         ("2s ago", minus(2, 0)),
         (" ", refused(6, 0)),
@@ -95,6 +96,6 @@ fn the_line_programs_lines() {
     });
     assert_eq!(
         lines,
-        ["0 6 + 0 61700000", "0 2 + 1 0", "2 0 + 0 0", "0 6 - 2 0"]
+        ["0 6 + 0 61700000", "0 2 + 1 0", "20 0 + 0 0", "0 6 - 2 0"]
     );
 }

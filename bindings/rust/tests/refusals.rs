@@ -19,7 +19,7 @@ fn texts() {
     let card = Card::a();
     assert_eq!(total(&card, ""), refusal(1, 0));
     assert_eq!(card.read_part("1s", 2), Err(refusal(1, 2)));
-    assert_eq!(total(&card, "1s 2e"), refusal(2, 5));
+    assert_eq!(total(&card, "1s 2e"), refusal(17, 5));
     assert_eq!(total(&card, "1s 1e32768"), refusal(3, 9));
     assert_eq!(total(&card, "1s 1e-32769"), refusal(4, 10));
     assert_eq!(total(&card, "1s hour"), refusal(6, 3));
@@ -218,7 +218,8 @@ fn what_is_well_formed() {
 fn sentences() {
     let sentences = [
         ((1, 0), "there is nothing to read at place 0"),
-        ((2, 6), "the text cannot be read on at place 6"),
+        // It is no longer given, and has no sentence of its own.
+        ((2, 6), "refusal 2 at 6"),
         ((3, 6), "an exponent goes above 32767 at place 6"),
         ((4, 9), "an exponent goes below -32768 at place 9"),
         (
@@ -295,6 +296,31 @@ fn sentences() {
             (16, 0),
             "a numeral times its unit has a coefficient or a power of ten that is out of range",
         ),
+        (
+            (17, 3),
+            "the text ends at place 3, after a sign or within an exponent: type the digits, or take it away",
+        ),
+        (
+            (18, 2),
+            "delimiters end the text from place 2 on: take them away, or type what they lead to",
+        ),
+        (
+            (19, 6),
+            "a conjunction leads to no part at place 6: type a delimiter and a part behind it, or take it away",
+        ),
+        (
+            (20, 0),
+            "the point at place 0 has no digit beside it, or the card allows no fraction: type a digit, or take the point away",
+        ),
+        (
+            (21, 2),
+            "an exponent has no digit at place 2, or the card allows no exponent: type a digit there, or take the exponent away",
+        ),
+        (
+            (22, 8),
+            "infinity is not whole or not alone at place 8: type `inf` or `infinity`, and a delimiter before what follows",
+        ),
+        ((23, 1), "refusal 23 at 1"),
     ];
     for ((number, position), sentence) in sentences {
         let error: Box<dyn std::error::Error> = Box::new(refusal(number, position));

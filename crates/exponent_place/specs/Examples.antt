@@ -5,7 +5,8 @@ use lib.Dec.{lit≤}
 use Rattle.rules.specs.Common.{ascii}
 use Rattle.rules.specs.Computing.{computing}
 use Rattle.rules.specs.CardAAndItsReadings.{space, conjunction, settings, settings-A, row-of, table-A, unspoken, card-A}
-use Rattle.exponent_place.specs.TheWrongDigit.{minus-behind, first-digit, power-before, after-number, WrongDigit, Reached, at-first, behind}
+use Rattle.handed_back.specs.WhatIsRead.{Reached, at-first, behind}
+use Rattle.exponent_place.specs.TheWrongDigit.{minus-behind, first-digit, power-before, after-number, WrongDigit}
 
 -- `1e-0032769`: the power before the last digit is 3276
 pub behind-zeros : WrongDigit settings-A (ascii "1e-0032769") 0 true 9

@@ -1,14 +1,16 @@
 -- What is said of 3 and 4 alone; and no step but 4 refuses by them. Assumes nothing.
-use mathlib.Core.Path.{_≡_, refl, sym, ap, _∙_}
-use mathlib.Core.Bool.{Bool, true, false, false≢true}
+use mathlib.Core.Path.{_≡_, refl, sym, _∙_}
+use mathlib.Core.Bool.{Bool, true, false, not, false≢true}
 use mathlib.Core.List.{List}
 use Prim.Native.Nat.{ℕ}
+use borrow.Author.Tests.{not-true}
 use Rattle.rules.specs.declared.Refusal.{Refusal}
+use Rattle.rules.specs.Common.{all}
 use Rattle.rules.specs.NumbersHandedBack.{Outcome, refused, number}
 use Rattle.rules.specs.SettingsAndUnitTable.{Card}
 use Rattle.rules.specs.ReadingOnePart.{numeral-step, spoken-unit-step, connection, spoken-part}
 use Rattle.rules.specs.Laws.Outcomes.{Refused, not-refused, refused-by, refused-map, refused-bind}
-use Rattle.rules.specs.Laws.Refusals.{By, numeral-by, spoken-unit-by, connection-by}
+use Rattle.rules.specs.Laws.Refusals.{By, by-passing, numeral-by, spoken-unit-by, connection-by}
 use Rattle.exponent_place.specs.TheWrongDigit.{out-of-range}
 
 -- X holds of what is refused by 3 or 4
@@ -20,17 +22,17 @@ module _ {A : Type 0} {X : Refusal → Type 0} where
   pub no-other : {m : Outcome A} → Refused (λ cause. out-of-range (number cause) ≡ false) m → Refused (IfOutOfRange X) m
   no-other by = refused-map by (λ cause right wrong. absurd (false≢true (sym right ∙ wrong)))
 
-  pub other-number : {m : Outcome A} {n : ℕ} → By n m → out-of-range n ≡ false → Refused (IfOutOfRange X) m
-  other-number by right = no-other (refused-map by (λ cause is. ap out-of-range is ∙ right))
+  pub other-numbers : {m : Outcome A} {numbers : List ℕ} → By numbers m → all (λ n. not (out-of-range n)) numbers ≡ true → Refused (IfOutOfRange X) m
+  other-numbers by right = no-other (refused-map (by-passing _ right by) (λ cause e. not-true _ e))
 
   pub by-other : (cause : Refusal) → out-of-range (number cause) ≡ false → Refused {A = A} (IfOutOfRange X) (refused cause)
   by-other cause right = no-other (refused-by right)
 
 -- a spoken number has no exponent
 pub spoken-other : {X : Refusal → Type 0} (card : Card) (text : List ℕ) (negative : Bool) (place : ℕ) → Refused (IfOutOfRange X) (spoken-part card text negative place)
-unfolding spoken-part out-of-range
+unfolding spoken-part out-of-range all
 spoken-other card text negative place =
-    refused-bind (numeral-step card text place) (no-other (numeral-by card text (λ n. out-of-range n ≡ false) refl refl place))
+    refused-bind (numeral-step card text place) (other-numbers (numeral-by card text place) refl)
     (λ numeral _.
-    refused-bind (spoken-unit-step card text (numeral .next)) (no-other (spoken-unit-by card text (λ n. out-of-range n ≡ false) refl refl (numeral .next)))
-    (λ unit _. refused-bind (connection (card .settings) text (unit .next)) (other-number (connection-by (card .settings) text (unit .next)) refl) (λ next _. not-refused)))
+    refused-bind (spoken-unit-step card text (numeral .next)) (other-numbers (spoken-unit-by card text (numeral .next)) refl)
+    (λ unit _. refused-bind (connection (card .settings) text (unit .next)) (other-numbers (connection-by (card .settings) text (unit .next)) refl) (λ next _. not-refused)))

@@ -23,7 +23,8 @@ use Rattle.exponent_place.specs.TheWrongDigit.{out-of-range}
 
 -- ---- as it was
 
--- written out, so that it does not follow what is handed back now; what later requests refuse has the place that they give it
+-- written out, so that it does not follow what is handed back now; what later requests refuse has the place that they give it,
+-- and each refusal the number that it has now
 unfoldable pub position-before : Refusal → ℕ
 position-before (Nothing p) = p
 position-before (SignEnds p) = p
@@ -155,6 +156,6 @@ was text n p =
     same-answer (total-before card-A (ascii text)) (fails text n p .comes-to)
     && same-answer (folded (total-answer card-A (ascii text))) (fails text n p .comes-to)
 
-pub before : T (was "1e-0032769" 4 0 && was "1s 1e99999s" 3 0 && was "1s 1e-x" 2 6 && was "1s 1e9 x" 6 7)
+pub before : T (was "1e-0032769" 4 0 && was "1s 1e99999s" 3 0 && was "1s 1e-x" 21 6 && was "1s 1e9 x" 6 7)
 unfolding computing space conjunction settings settings-A row-of table-A unspoken card-A same-length same-answer fails was position-before answered-before total-before fold-position folded out-of-range
 before = tt

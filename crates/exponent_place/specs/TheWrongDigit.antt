@@ -1,21 +1,18 @@
 -- Request three: the exponent that step 4 reads, the digit of it at which the range is passed, and what is handed back for it. An exponent
 -- is named by the place of its `e`. Assumes nothing.
 use mathlib.Core.Path.{_≡_}
-use mathlib.Core.Bool.{Bool, true, false, _||_}
+use mathlib.Core.Bool.{Bool, true, _||_}
 use mathlib.Core.List.{List}
 use Prim.Native.Nat.{ℕ, suc, _+_, _≤_, _<_}
 use lib.Dec.{eqb}
 use lib.Seq.{slice}
-use Rattle.rules.specs.declared.Answer.{Answer}
 use Rattle.rules.specs.declared.Settings.{Settings}
-use Rattle.rules.specs.declared.Reading.{Reading}
 use Rattle.rules.specs.declared.Refusal.the-variants.{Nothing, NoNumber}
 use Rattle.rules.specs.Common.{if_then_else_, ends, sees, run}
-use Rattle.rules.specs.ThePartOfTheCrateWeTake.{zero-length}
 use Rattle.rules.specs.NumbersHandedBack.{Outcome, got, refused, _>>=_}
-use Rattle.rules.specs.SettingsAndUnitTable.{DIGIT, SIGN, POINT, is, Card}
+use Rattle.rules.specs.SettingsAndUnitTable.{DIGIT, SIGN, POINT, is}
 use Rattle.rules.specs.ReadingOnePart.{same-letter, sign-step, number-step, exponent-limit}
-use Rattle.rules.specs.Evaluation.{spelled, part-reading}
+use Rattle.rules.specs.Evaluation.{spelled}
 
 -- ---- an exponent
 
@@ -61,22 +58,11 @@ pub record WrongDigit (s : Settings) (text : List ℕ) (from : ℕ) (negative : 
   pub sign : minus-behind text e ≡ negative
   pub passed : Passed text e place
 
--- ---- the parts of a text
-
--- the total comes to read a part at the place
-pub data Reached (card : Card) (text : List ℕ) : ℕ → Type 0 where
-  at-first : Reached card text 0
-  behind : {place : ℕ} {r : Reading} → Reached card text place → part-reading card text place ≡ got r → ends text (r .next) ≡ false → Reached card text (r .next)
-
--- the wrong digit of a part that the total comes to read
-abbrev pub WrongInTotal : Card → List ℕ → Bool → ℕ → Type 0
-WrongInTotal card text negative place = (from : ℕ) × Reached card text from × WrongDigit (card .settings) text from negative place
-
 -- ---- what is handed back for an exponent out of range
 
--- 3, or 4 for one below zero, at the place, with a zero length
-abbrev pub passed-at : Bool → ℕ → Answer
-passed-at negative place = record { number = if negative then 4 else 3; position = place; length = zero-length }
+-- 3, or 4 for one below zero
+abbrev pub number-of : Bool → ℕ
+number-of negative = if negative then 4 else 3
 
 -- these numbers
 unfoldable pub out-of-range : ℕ → Bool

@@ -4,16 +4,16 @@ use libc::STDOUT_FILENO;
 // More of anything than a list has.
 pub const MOST: u64 = 1_000_000_000_000;
 
-// What a program counts: answers by their number, which is 0 to 16, and behind these what differs, the entries of its list and the cards.
-pub const NUMBERS: usize = 17;
+// What a program counts: answers by their number, which is 0 to 22, and behind these what differs, the entries of its list and the cards.
+pub const NUMBERS: usize = 23;
 
-pub const DIFFERENCE: usize = 17;
+pub const DIFFERENCE: usize = 23;
 
-pub const ENTRY: usize = 18;
+pub const ENTRY: usize = 24;
 
-pub const CARD: usize = 19;
+pub const CARD: usize = 25;
 
-pub const COUNTS: usize = 20;
+pub const COUNTS: usize = 26;
 
 pub fn one_more(count: u64) -> u64 {
     if count < MOST { count + 1 } else { count }
@@ -40,10 +40,15 @@ pub fn count(what: usize, counts: &mut [u64; COUNTS]) {
     }
 }
 
-// One answer more of a number, and one difference more unless all agrees.
+// One answer more of a number, and one difference more unless all agrees. A number that no list has is a difference, and nothing else.
 pub fn count_answer(number: u8, agrees: bool, counts: &mut [u64; COUNTS]) {
-    count(number as usize, counts);
-    if !agrees {
+    let number = number as usize;
+    if number < NUMBERS {
+        count(number, counts);
+        if !agrees {
+            count(DIFFERENCE, counts);
+        }
+    } else {
         count(DIFFERENCE, counts);
     }
 }

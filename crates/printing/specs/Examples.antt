@@ -21,7 +21,7 @@ holds s = same (sheet-printed card-A (ascii (s .typed))) (ascii (s .gives))
 -- byte like any other
 unfoldable pub sheets : List Sheet
 sheets =
-    record { typed = "61.7ms\n1.\n.\n2s ago"; gives = "0 6 + 0 61700000\n0 2 + 1 0\n2 0 + 0 0\n0 6 - 2 0\n" }
+    record { typed = "61.7ms\n1.\n.\n2s ago"; gives = "0 6 + 0 61700000\n0 2 + 1 0\n20 0 + 0 0\n0 6 - 2 0\n" }
     ∷ record { typed = ""; gives = "" }
     ∷ record { typed = "\n\n"; gives = "1 0 + 0 0\n1 0 + 0 0\n" }
     ∷ record { typed = "1s\n\n2s\n"; gives = "0 2 + 1 0\n1 0 + 0 0\n0 2 + 2 0\n" }

@@ -53,7 +53,7 @@ nobody = (tt, tt, tt, tt)
 -- with exponents on, or with a delimiter before units, both letters can be typed; and any other name always
 pub somebody :
     T (all (holds-under (unspoken (asked true false none) (seconds "eon" 5 ++ seconds "E" 7))) (reads "3e0eon" (plus 15 0) ∷ reads "3e0E" (plus 21 0) ∷ []))
-    × T (all (holds-under (unspoken (asked false true space) (seconds "eon" 5 ++ seconds "E" 7))) (reads "3 eon" (plus 15 0) ∷ reads "3 E" (plus 21 0) ∷ fails "3eon" 2 1 ∷ []))
+    × T (all (holds-under (unspoken (asked false true space) (seconds "eon" 5 ++ seconds "E" 7))) (reads "3 eon" (plus 15 0) ∷ reads "3 E" (plus 21 0) ∷ fails "3eon" 21 1 ∷ []))
     × T (all (holds-under (unspoken (asked false false none) (seconds "neon" 5 ++ seconds "sE" 7))) (reads "3neon" (plus 15 0) ∷ reads "3sE" (plus 21 0) ∷ []))
 unfolding computing space conjunction settings settings-A row-of unspoken same-length same-answer reads plus fails holds-under none asked seconds
 somebody = (tt, tt, tt)

@@ -107,7 +107,7 @@ unfoldable pub starred : List Case
 starred =
     reads "61.7ms" (plus 0 61700000)
     ∷ fails "" 1 0
-    ∷ fails "." 2 0
+    ∷ fails "." 20 0
     ∷ reads "1." (plus 1 0)
     ∷ fails "1e32768" 3 6
     ∷ reads "18446744073709551615s" (plus 18446744073709551615 0)
@@ -116,7 +116,7 @@ starred =
     ∷ reads "1.5.5" (plus 2 0)
     ∷ reads "1s and 2ms" (plus 1 2000000)
     ∷ fails "1 and 2" 6 2
-    ∷ fails "inf+1" 2 3
+    ∷ fails "inf+1" 22 3
     ∷ reads "+1.5-2+0" (minus 0 500000000)
     ∷ []
 
@@ -142,10 +142,10 @@ beside =
     ∷ fails "1x" 6 1
     ∷ reads "1e-32768" (plus 0 0)
     ∷ reads "3turn" (plus 0 36900000)
-    ∷ fails "1s android" 2 6
-    ∷ fails "1s and" 2 3
-    ∷ fails "1s " 2 2
-    ∷ fails "infi" 2 0
+    ∷ fails "1s android" 19 6
+    ∷ fails "1s and" 19 3
+    ∷ fails "1s " 18 2
+    ∷ fails "infi" 22 0
     ∷ []
 
 pub readings-beside : T (all (holds-under card-A) beside)
@@ -157,7 +157,7 @@ unfoldable pub card-A-with-a : Card
 card-A-with-a = unspoken (settings true 2 "a" "and") table-A
 
 -- the first listed conjunction that is a prefix, not the longest
-pub first-listed-reading : T (holds-under card-A-with-a (fails "1s and 2ms" 2 4))
+pub first-listed-reading : T (holds-under card-A-with-a (fails "1s and 2ms" 19 4))
 unfolding computing space conjunction settings row-of table-A unspoken card-A-with-a same-length same-answer fails holds-under
 first-listed-reading = tt
 
@@ -165,7 +165,7 @@ first-listed-reading = tt
 unfoldable pub card-A-without-negatives : Card
 card-A-without-negatives = unspoken (settings false 1 "and" "") table-A
 
--- a part is read to its end, connection included, before it is tested for 5; and an earlier part's 5 comes before a later part's 2
-pub forbidden-readings : T (all (holds-under card-A-without-negatives) (fails "-1s and" 2 4 ∷ fails "-1s 1e" 5 0 ∷ []))
+-- a part is read to its end, connection included, before it is tested for 5; and an earlier part's 5 comes before a later part's 17
+pub forbidden-readings : T (all (holds-under card-A-without-negatives) (fails "-1s and" 19 4 ∷ fails "-1s 1e" 5 0 ∷ []))
 unfolding computing space conjunction settings row-of table-A unspoken card-A-without-negatives same-length same-answer fails holds-under
 forbidden-readings = tt

@@ -140,6 +140,6 @@ pub shifts-at-their-limits :
     × T (shifts (minus 0 0) (blank 31) (wordy 4097) (refusal-of 7 64) (minus 0 0))
     × T (shifts (minus 0 0) table-A (wordy 4097) (refusal-of 11 0) (minus 0 0))
     × T (shifts (plus 1 0) table-A (wordy 4097) (refusal-of 8 4096) (plus 1 0))
-    × T (shifts (plus 1 0) table-A (ascii "2s and") (refusal-of 2 3) (plus 1 0))
+    × T (shifts (plus 1 0) table-A (ascii "2s and") (refusal-of 19 3) (plus 1 0))
 unfolding computing space conjunction settings settings-A row-of table-A unspoken card-A same-length same-answer plus minus refusal-of blank wordy shifts
 shifts-at-their-limits = (tt, tt, tt, tt, tt, tt)

@@ -15,4 +15,5 @@ pub mod AUnitNobodyCouldType
 pub mod WhichExponentDigitIsWrong
 pub mod SpokenNumbers
 pub mod TheLinesOwnUnitNames
+pub mod SixSlipsUnderOneNumber
 pub mod Laws

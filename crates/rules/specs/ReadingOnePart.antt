@@ -42,7 +42,7 @@ prefix (w ∷ word) (b ∷ rest) = same-letter w b && prefix word rest
 unfoldable pub says : List ℕ → List ℕ → ℕ → Bool
 says word text place = prefix word (drop place text)
 
--- a delimiter run that a step takes and that reaches the end of the text is 2 at its first byte
+-- a delimiter run that a step takes and that reaches the end of the text is 18 at its first byte
 unfoldable pub delimiters : ByteSet → List ℕ → ℕ → Outcome ℕ
 delimiters set text place =
     if sees (holds set) text place && ends text (run (holds set) text place)
@@ -53,7 +53,7 @@ delimiters set text place =
 unfoldable pub gap : Bool → Settings → List ℕ → ℕ → Outcome ℕ
 gap on s text place = if on then delimiters (s .inner) text place else got place
 
--- ---- 1. an optional sign; end after it: 2 there; inner delimiters follow if switched on
+-- ---- 1. an optional sign; end after it: 17 there; inner delimiters follow if switched on
 
 unfoldable pub sign-step : Settings → List ℕ → ℕ → Outcome Signed
 sign-step s text place =
@@ -63,7 +63,7 @@ sign-step s text place =
     then refused (SignEnds (place + 1))
     else (gap (s .«after_sign») s text (place + 1) >>= λ next. got (record { negative = sees (eqb 45) text place; next = next }))
 
--- ---- 3. a point: fractions off, 2 at it; no digit after it: fine if there was a whole part, else 2 at it
+-- ---- 3. a point: fractions off, 20 at it; no digit after it: fine if there was a whole part, else 20 at it
 
 unfoldable pub fraction-step : Settings → List ℕ → Bool → Whole → ℕ → Outcome Number
 fraction-step s text any-whole whole place =
@@ -88,7 +88,7 @@ number-step s text place =
     fraction-step s text (sees (is DIGIT) text place) (record { start = run (eqb 48) text place; end = run (is DIGIT) text place })
     (run (is DIGIT) text place)
 
--- ---- 4. `e` or `E`: exponents off, 2 at it; else optional sign and at least one digit; missing, 2 where it was wanted
+-- ---- 4. `e` or `E`: exponents off, 21 at it; else optional sign and at least one digit; missing, 17 where the text ends, 21 at another byte
 
 unfoldable pub exponent-limit : Bool → ℕ
 exponent-limit negative = if negative then 32768 else 32767
@@ -163,7 +163,7 @@ conjunction-size (c ∷ others) text place =
     let more = conjunction-size others text place in
     if says (letters-of c) text place then c .size else more
 
--- after the word: outer delimiters, or a digit or sign, else 2 at that byte; end of text, 2 at the word's start
+-- after the word: outer delimiters, or a digit or sign, else 19 at that byte; end of text, 19 at the word's start
 unfoldable pub after-conjunction : Settings → List ℕ → ℕ → ℕ → Outcome ℕ
 after-conjunction s text word place =
     if ends text place
@@ -186,7 +186,7 @@ connection s text place =
 unfoldable pub closes-infinity : Settings → List ℕ → ℕ → Bool
 closes-infinity s text place = ends text place || sees (holds (s .outer)) text place
 
--- a wrong letter is 2 at it, an end 2 at the `i` of `inf`
+-- a wrong letter is 22 at it, an end 22 at the `i` of `inf`
 unfoldable pub letters-step : ℕ → List ℕ → List ℕ → ℕ → Outcome ℕ
 letters-step inf [] rest place = got place
 letters-step inf (w ∷ word) [] place = refused (InfinityEnds inf)

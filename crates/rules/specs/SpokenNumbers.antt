@@ -87,7 +87,7 @@ spoken =
     ∷ reads "inf inf" (largest false)
     ∷ []
 
--- no numeral, or nothing behind it: 6 at its first byte; delimiters that end the text: 2 at the first of them; no unit: 15 behind them
+-- no numeral, or nothing behind it: 6 at its first byte; delimiters that end the text: 18 at the first of them; no unit: 15 behind them
 unfoldable pub unspoken-for : List Case
 unspoken-for =
     fails "five" 6 0
@@ -96,15 +96,15 @@ unspoken-for =
     ∷ fails "six min" 6 0
     ∷ fails "1s six min" 6 3
     ∷ fails "five5 min" 6 0
-    ∷ fails "five " 2 4
-    ∷ fails "five  " 2 4
+    ∷ fails "five " 18 4
+    ∷ fails "five  " 18 4
     ∷ fails "five pouch" 15 5
     ∷ fails "five  pouch" 15 6
     ∷ fails "five 5s" 15 5
     ∷ fails "five five min" 15 5
     ∷ fails "1s five and" 15 8
-    ∷ fails "five min " 2 8
-    ∷ fails "five min and" 2 9
+    ∷ fails "five min " 18 8
+    ∷ fails "five min and" 19 9
     ∷ []
 
 pub readings-spoken : T (all (holds-under (speaking some)) spoken) × T (all (holds-under (speaking some)) unspoken-for)
@@ -148,8 +148,8 @@ pub readings-with-commas :
     ∷ reads "inf,s" (plus 7 0)
     ∷ fails "five min" 6 0
     ∷ fails "five ,min" 6 0
-    ∷ fails "five," 2 4
-    ∷ fails "five,," 2 4
+    ∷ fails "five," 18 4
+    ∷ fails "five,," 18 4
     ∷ fails "five, min" 15 5
     ∷ []))
 unfolding computing space conjunction row-of same-length same-answer reads plus fails holds-under numeral comma commas with-commas
@@ -182,7 +182,7 @@ products = (tt, tt, tt, tt, tt, tt, tt)
 pub found-when-evaluated :
     T
     (all (holds-under (times (numeral "n" most 0) (row-of "u" 3 2 0) false))
-    (fails "-n,u" 16 0 ∷ fails "-n,u " 2 4 ∷ fails "1s -n,u" 6 1 ∷ fails "-1 -n,u" 5 0 ∷ fails "-n,u -1" 16 0 ∷ []))
+    (fails "-n,u" 16 0 ∷ fails "-n,u " 18 4 ∷ fails "1s -n,u" 6 1 ∷ fails "-1 -n,u" 5 0 ∷ fails "-n,u -1" 16 0 ∷ []))
 unfolding computing space conjunction row-of same-length same-answer fails holds-under numeral comma commas times most
 found-when-evaluated = tt
 

@@ -139,7 +139,7 @@ was c = same-answer (before.total-answer settings-A table-A (ascii (c .typed))) 
 pub readings-before :
     T (all was (fails "five min" 6 0 ∷ fails "1s five min" 6 3 ∷ fails "five " 6 0 ∷ reads "5 min" (plus 300 0) ∷ reads "inf" (largest false) ∷ []))
     × T (same-answer (before.part-answer settings-A table-A (ascii "1s five min") 3) (fails "" 6 3 .comes-to))
-    × T (same-answer (before.shift-answer (plus 1 0) settings-A table-A (ascii "2s ")) (fails "" 2 2 .comes-to))
+    × T (same-answer (before.shift-answer (plus 1 0) settings-A table-A (ascii "2s ")) (fails "" 18 2 .comes-to))
     × T (same-answer (before.total-answer settings-A (replicate 33 0) (ascii "1s")) (fails "" 7 64 .comes-to))
 unfolding computing space conjunction settings settings-A row-of table-A same-length same-answer reads plus fails was before.row-right before.row-accepted before.rows-check before.table-check before.card-check before.unit-found before.unit-step before.infinite-part before.finite-part before.unsigned-part before.part before.part-reading before.parts before.total before.read-part before.part-answer before.read-total before.total-answer before.add-total before.shift-answer
 readings-before = (tt, tt, tt, tt)

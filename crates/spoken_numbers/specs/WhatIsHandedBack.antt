@@ -1,88 +1,71 @@
--- What an entry hands back with 15 and 16: whatever the arguments, a part from a place has these numbers exactly if the checks pass and the
--- part that begins there is refused so. Assumes nothing.
+-- What an entry hands back with 15 and 16: exactly if its checks pass and a part that it reads has a numeral and no unit, or a product that leaves
+-- its range. Of every entry that reads, whatever its arguments. Assumes nothing.
 use mathlib.Core.Path.{_≡_, refl, sym, ap, _∙_}
 use mathlib.Core.List.{List}
 use mathlib.Core.Logic.{_↔_}
-use Prim.Native.Nat.{ℕ, _≤_}
-use native.Mathlib.Omega.{arith}
-use borrow.Author.Tests.{leb-true, le-leb}
-use lib.ListN.{length}
-use Rattle.rules.specs.declared.Answer.{Answer}
-use Rattle.rules.specs.declared.Refusal.{Refusal}
-use Rattle.rules.specs.declared.Refusal.the-variants.{TextTooLong, Beyond, NoUnit, OutOfRange}
-use Rattle.rules.specs.ThePartOfTheCrateWeTake.{longest-text}
-use Rattle.rules.specs.NumbersHandedBack.{Outcome, got, refused, _>>_, unless, number, position, done, refusal, answered}
-use Rattle.rules.specs.SettingsAndUnitTable.{Card, card-check}
+use Prim.Native.Nat.{ℕ}
+use Rattle.rules.specs.declared.Length.{Length}
+use Rattle.rules.specs.declared.Refusal.the-variants.{NoUnit, OutOfRange}
+use Rattle.rules.specs.NumbersHandedBack.{number, position}
+use Rattle.rules.specs.SettingsAndUnitTable.{Card}
 use Rattle.rules.specs.Evaluation.{part-reading}
-use Rattle.rules.specs.WhatEveryEntryOwes.{read-part, part-answer}
-use Rattle.rules.specs.Laws.Outcomes.{the-cause, refused-unless, unless-got, check-got}
-use Rattle.rules.specs.Laws.Refusals.{card-by}
+use Rattle.rules.specs.WhatEveryEntryOwes.{part-answer, total-answer, shift-answer}
+use Rattle.rules.specs.Laws.Outcomes.{the-cause}
+use Rattle.rules.specs.Laws.Refusals.{among}
+use Rattle.handed_back.specs.RefusedWith.{RefusedWith, refused-at}
+use Rattle.handed_back.specs.BehindTheChecks as handed
+use Rattle.handed_back.specs.BehindTheChecks.{of-the-text, InPart, InTotal, InShift}
 use Rattle.spoken_numbers.specs.WhenNoUnitFollows as no-unit
 use Rattle.spoken_numbers.specs.WhenNoUnitFollows.{NoUnitAt, no-unit-exactly}
 use Rattle.spoken_numbers.specs.WhenAProductLeavesItsRange as out-of-range
 use Rattle.spoken_numbers.specs.WhenAProductLeavesItsRange.{OutOfItsRange, out-of-range-exactly}
 
--- an answer with such a number comes of a refusal
-late : {A : Type 0} (show : A → Answer) (m : Outcome A) → ((a : A) → (show a) .number ≡ 0) → 15 ≤ (answered show m) .number → (cause : Refusal) × (m ≡ refused cause)
-unfolding answered
-late show (got a) read h = absurd (omega (arith, read a))
-late show (refused cause) read h = (cause, refl)
+module _ (card : Card) (text : List ℕ) where
+  -- ---- a part
 
-module _ (card : Card) (text : List ℕ) (place : ℕ) where
-  -- the checks pass
-  pub record Checked : Type 0 where
-    pub accepted : card-check card ≡ got tt
-    pub short : length text ≤ longest-text
-    pub within : place ≤ length text
-
-  -- they refuse by 7, 8 and 10, so what is refused by 15 or 16 has passed them
-  behind-the-checks : (cause : Refusal) → 15 ≤ number cause → read-part card text place ≡ refused cause → Checked × (part-reading card text place ≡ refused cause)
-  unfolding read-part number
-  behind-the-checks cause above e =
-      let (accepted, e) = check-got _ (card-by card) (λ is. omega arith) e in
-      let (short, e) = check-got {P = λ c. number c ≡ 8} _ (refused-unless TextTooLong _ (λ _. refl)) (λ is. omega arith) e in
-      let (within, e) = check-got {P = λ c. number c ≡ 10} _ (refused-unless (Beyond place) _ (λ _. refl)) (λ is. omega arith) e in
-      (record { accepted = accepted; short = leb-true _ _ (unless-got _ _ short); within = leb-true _ _ (unless-got _ _ within) }, e)
-
-  -- so such an answer is the part's refusal, and with the checks passed the part's refusal is the answer
-  told : 15 ≤ (part-answer card text place) .number → (cause : Refusal) × (part-answer card text place ≡ refusal cause) × Checked × (part-reading card text place ≡ refused cause)
-  unfolding part-answer answered refusal done
-  told above =
-      let (cause, e) = late _ (read-part card text place) (λ r. refl) above in
-      let (checked, e′) = behind-the-checks cause (rw e at above) e in
-      (cause, ap (answered _) e, checked, e′)
-
-  given : {cause : Refusal} → Checked → part-reading card text place ≡ refused cause → part-answer card text place ≡ refusal cause
-  unfolding part-answer answered read-part unless _>>_
-  given h e = rw (h .accepted, le-leb (length text) longest-text (h .short), le-leb place (length text) (h .within), e)
-
-  -- ---- 15
-
-  pub fifteen-says : (part-answer card text place) .number ≡ 15 → (q : ℕ) × (part-answer card text place ≡ refusal (NoUnit q)) × Checked × NoUnitAt card text place q
-  unfolding refusal
-  fifteen-says is =
-      let (cause, answer, checked, e) = told (omega arith) in
-      let (q, same, missing) = the-cause (no-unit.reading-told card text place) e (sym (ap (λ a. a .number) answer) ∙ is) in
-      (q, answer ∙ ap refusal same, checked, missing)
-
-  pub fifteen-exactly : (q : ℕ) → (part-answer card text place ≡ refusal (NoUnit q)) ↔ (Checked × NoUnitAt card text place q)
-  unfolding refusal number position
-  fifteen-exactly q = (there, λ (checked, missing). given checked (no-unit-exactly card text place q .1 missing))
+  pub fifteen-exactly : (from q : ℕ) → RefusedWith (part-reading card text from) 15 q ↔ NoUnitAt card text from q
+  unfolding number position
+  fifteen-exactly from q = (there, back)
     where
-      there : part-answer card text place ≡ refusal (NoUnit q) → Checked × NoUnitAt card text place q
-      there e =
-          let (at, answer, checked, missing) = fifteen-says (ap (λ a. a .number) e) in
-          (checked, rw (ap (λ a. a .position) (sym e ∙ answer)) missing)
+      there : RefusedWith (part-reading card text from) 15 q → NoUnitAt card text from q
+      there h =
+          let (at, is, missing) = the-cause (no-unit.reading-told card text from) (h .refuses) (h .its-number) in
+          rw (ap position (sym is) ∙ h .its-position) at missing
 
-  -- ---- 16
+      back : NoUnitAt card text from q → RefusedWith (part-reading card text from) 15 q
+      back missing = record { cause = NoUnit q; refuses = no-unit-exactly card text from q .1 missing; its-number = refl; its-position = refl }
 
-  pub sixteen-says : (part-answer card text place) .number ≡ 16 → (part-answer card text place ≡ refusal OutOfRange) × Checked × OutOfItsRange card text place
-  unfolding refusal
-  sixteen-says is =
-      let (cause, answer, checked, e) = told (omega arith) in
-      let (same, out) = the-cause (out-of-range.reading-told card text place) e (sym (ap (λ a. a .number) answer) ∙ is) in
-      (answer ∙ ap refusal same, checked, out)
+  -- 16 has no place, so its position is 0
+  pub sixteen-exactly : (from : ℕ) → RefusedWith (part-reading card text from) 16 0 ↔ OutOfItsRange card text from
+  unfolding number position
+  sixteen-exactly from = (
+    (λ h. the-cause (out-of-range.reading-told card text from) (h .refuses) (h .its-number) .1),
+    λ out. record { cause = OutOfRange; refuses = out-of-range-exactly card text from .1 out; its-number = refl; its-position = refl },
+  )
 
-  pub sixteen-exactly : (part-answer card text place ≡ refusal OutOfRange) ↔ (Checked × OutOfItsRange card text place)
-  unfolding refusal number
-  sixteen-exactly = (λ e. let (_, checked, out) = sixteen-says (ap (λ a. a .number) e) in (checked, out), λ (checked, out). given checked (out-of-range-exactly card text place .1 out))
+  -- ---- the entries
+
+  pub part-fifteen : (place q : ℕ) → (part-answer card text place ≡ refused-at 15 q) ↔ InPart card text place (NoUnitAt card text place q)
+  unfolding of-the-text among
+  part-fifteen place q = handed.part-exactly card text 15 q refl place (fifteen-exactly place q)
+
+  pub part-sixteen : (place : ℕ) → (part-answer card text place ≡ refused-at 16 0) ↔ InPart card text place (OutOfItsRange card text place)
+  unfolding of-the-text among
+  part-sixteen place = handed.part-exactly card text 16 0 refl place (sixteen-exactly place)
+
+  pub total-fifteen : (q : ℕ) → (total-answer card text ≡ refused-at 15 q) ↔ InTotal card text (λ from. NoUnitAt card text from q)
+  unfolding of-the-text among
+  total-fifteen q = handed.total-exactly card text 15 q refl (λ from. fifteen-exactly from q)
+
+  pub total-sixteen : (total-answer card text ≡ refused-at 16 0) ↔ InTotal card text (OutOfItsRange card text)
+  unfolding of-the-text among
+  total-sixteen = handed.total-exactly card text 16 0 refl sixteen-exactly
+
+  module _ (so-far : Length) where
+    pub shift-fifteen : (q : ℕ) → (shift-answer so-far card text ≡ refused-at 15 q) ↔ InShift card text so-far (λ from. NoUnitAt card text from q)
+    unfolding of-the-text among
+    shift-fifteen q = handed.shift-exactly card text 15 q refl (λ from. fifteen-exactly from q) so-far
+
+    pub shift-sixteen : (shift-answer so-far card text ≡ refused-at 16 0) ↔ InShift card text so-far (OutOfItsRange card text)
+    unfolding of-the-text among
+    shift-sixteen = handed.shift-exactly card text 16 0 refl sixteen-exactly so-far

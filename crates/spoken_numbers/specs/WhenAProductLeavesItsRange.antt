@@ -1,8 +1,8 @@
 -- A part is refused by 16 exactly if it is a spoken one, read to its end, connection included, and one of its two products leaves its range;
 -- and what is multiplied are the rows that were found. Assumes nothing.
-use mathlib.Core.Path.{_≡_, refl, _∙_}
-use mathlib.Core.Bool.{Bool, true, false}
-use mathlib.Core.List.{List}
+use mathlib.Core.Path.{_≡_, refl, sym, ap, _∙_}
+use mathlib.Core.Bool.{Bool, true, false, false≢true}
+use mathlib.Core.List.{List, [], _∷_}
 use mathlib.Core.Logic.{_↔_, _⊎_, inl, inr, ⊎-elim}
 use Prim.Native.Nat.{ℕ, _+_, _^_, _≤_, _<_}
 use native.Mathlib.Omega.{arith}
@@ -21,9 +21,9 @@ use Rattle.rules.specs.ReadingOnePart.{part}
 use Rattle.rules.specs.Evaluation.{multiplied, spoken-multiplier, evaluate-spoken, evaluated, part-reading}
 use Rattle.rules.specs.Laws.Choices.{and-either}
 use Rattle.rules.specs.Laws.Outcomes.{All, all-got, all-refused, all-of, bind-got, bind-refused, Refused, not-refused, the-cause, refused-map, refused-bind, refused-then, refused-unless}
-use Rattle.rules.specs.Laws.Refusals.{allowed-by}
+use Rattle.rules.specs.Laws.Refusals.{among, by-one, allowed-by}
 use Rattle.rules.specs.Laws.Tests.{and-false}
-use Rattle.spoken_numbers.specs.WhenNoUnitFollows.{Why, as-before, no-unit, part-why}
+use Rattle.spoken_numbers.specs.WhenNoUnitFollows.{Why, otherwise, no-unit, part-why}
 
 -- ---- in numbers
 
@@ -106,15 +106,15 @@ evaluated-told text (Spoken d) = refused-bind (spoken-multiplier d) (refused-map
 module _ (card : Card) (text : List ℕ) (place : ℕ) where
   -- no step refuses by it, and 5 is another number
   pub reading-told : Refused (λ cause. number cause ≡ 16 → (cause ≡ OutOfRange) × OutOfItsRange card text place) (part-reading card text place)
-  unfolding part-reading number
+  unfolding part-reading number among
   reading-told =
       refused-bind (part card text place) (refused-map (part-why card text place) told)
       (λ p read.
       refused-bind (evaluated text (p .repr)) (refused-map (evaluated-told text (p .repr)) (λ cause (is, (d, is-spoken, h)) _. (is, record { p = p; read = read; d = d; is-spoken = is-spoken; product = h })))
-      (λ l _. refused-map (allowed-by (card .settings) place (p .next) l) (λ cause e is. absurd (omega arith))))
+      (λ l _. refused-map (by-one (allowed-by (card .settings) place (p .next) l)) (λ cause e is. absurd (omega arith))))
     where
       told : (cause : Refusal) → Why card text place cause → number cause ≡ 16 → (cause ≡ OutOfRange) × OutOfItsRange card text place
-      told cause (as-before h) is = absurd (omega arith)
+      told cause (otherwise h) is = absurd (false≢true (sym h ∙ ap (among (15 ∷ 16 ∷ [])) is))
       told cause (no-unit missing) is = absurd (omega arith)
 
   reading-refuses : OutOfItsRange card text place → part-reading card text place ≡ refused OutOfRange

@@ -1,12 +1,12 @@
 -- A part is refused by 15 exactly if the steps come to the numeral lookup, it finds a row, a run of inner delimiters that does not end the
 -- text follows, and the stretch of step 6 from the byte after it names no row, of the line's table nor of the hall's; and 15 is at that byte. Assumes nothing.
-use mathlib.Core.Path.{_≡_, refl, ap, _∙_}
-use mathlib.Core.Bool.{true, false, _&&_, _||_}
+use mathlib.Core.Path.{_≡_, refl, sym, ap, _∙_}
+use mathlib.Core.Bool.{true, false, not, _&&_, _||_, false≢true}
 use mathlib.Core.List.{List, [], _∷_}
 use mathlib.Core.Logic.{_↔_}
-use Prim.Native.Nat.{ℕ, _≤_}
+use Prim.Native.Nat.{ℕ}
 use native.Mathlib.Omega.{arith}
-use lib.Dec.{lit≤}
+use borrow.Author.Tests.{not-true}
 use lib.Seq.{slice}
 use Rattle.rules.specs.declared.ByteSet.{ByteSet}
 use Rattle.rules.specs.declared.Found.{Found}
@@ -14,14 +14,14 @@ use Rattle.rules.specs.declared.Found.the-variants.{Row, Nowhere}
 use Rattle.rules.specs.declared.Refusal.{Refusal}
 use Rattle.rules.specs.declared.Refusal.the-variants.{NoUnit}
 use Rattle.rules.specs.declared.Signed.{Signed}
-use Rattle.rules.specs.Common.{if_then_else_, ascii, ends, sees, run}
+use Rattle.rules.specs.Common.{if_then_else_, ascii, all, ends, sees, run}
 use Rattle.rules.specs.NumbersHandedBack.{Outcome, got, refused, _>>=_, number, position}
 use Rattle.rules.specs.SettingsAndUnitTable.{DIGIT, POINT, is, holds, Card, lookup, row, row-multiplier}
 use Rattle.rules.specs.ReadingOnePart.{says, delimiters, sign-step, ago-step, find-unit, numeral-end, numeral-found, numeral-step, spoken-unit-found, spoken-unit-step, connection, spoken-part, unsigned-part, part}
 use Rattle.rules.specs.Evaluation.{evaluated, part-reading}
 use Rattle.rules.specs.Laws.Choices.{if-else}
 use Rattle.rules.specs.Laws.Outcomes.{All, all-got, all-refused, all-of, all-if, all-bind, bind-got, bind-refused, Refused, not-refused, refused-by, the-cause, refused-map, refused-if, refused-bind}
-use Rattle.rules.specs.Laws.Refusals.{By, UpTo, up-to, sign-by, ago-by, connection-by, numeral-by, infinite-by, finite-by, evaluated-by, allowed-by}
+use Rattle.rules.specs.Laws.Refusals.{among, By, by-passing, by-one, sign-by, ago-by, connection-by, numeral-by, infinite-by, finite-by, evaluated-by, allowed-by}
 
 -- ---- a numeral without a unit
 
@@ -81,37 +81,34 @@ module _ (card : Card) (text : List ℕ) where
   unit-refuses q none = rw none
 
   module _ (place : ℕ) where
-    -- why the part is refused: by a number that document 01 has for it, or by 15
+    -- why the part is refused: by another number than a spoken one alone has, or by 15
     pub data Why : Refusal → Type 0 where
-      as-before : {cause : Refusal} → number cause ≤ 6 → Why cause
+      otherwise : {cause : Refusal} → among (15 ∷ 16 ∷ []) (number cause) ≡ false → Why cause
       no-unit : {q : ℕ} → NoUnitAt card text place q → Why (NoUnit q)
 
-    early : {A : Type 0} {m : Outcome A} {n : ℕ} → n ≤ 6 → UpTo n m → Refused Why m
-    early h by = refused-map by (λ cause e. as-before (omega arith))
-
-    two : {A : Type 0} {m : Outcome A} → By 2 m → Refused Why m
-    two by = early (lit≤ tt) (up-to 2 (lit≤ tt) by)
+    others : {A : Type 0} {m : Outcome A} {numbers : List ℕ} → By numbers m → all (λ n. not (among (15 ∷ 16 ∷ []) n)) numbers ≡ true → Refused Why m
+    others by right = refused-map (by-passing _ right by) (λ cause e. otherwise (not-true _ e))
 
     unit-why : (q : ℕ) → (find-unit card text q ≡ [] → NoUnitAt card text place q) → Refused Why (spoken-unit-step card text q)
-    unfolding spoken-unit-step spoken-unit-found
+    unfolding spoken-unit-step spoken-unit-found among all
     unit-why q missing = go (find-unit card text q) missing
       where
         go : (r : List ℕ) → (r ≡ [] → NoUnitAt card text place q) → Refused Why (spoken-unit-found (card .settings) text q r)
         go [] missing = refused-by (no-unit (missing refl))
-        go (size ∷ r) missing = refused-bind (ago-step (card .settings) text _ _) (two (ago-by (card .settings) text _ _)) (λ unit _. not-refused)
+        go (size ∷ r) missing = refused-bind (ago-step (card .settings) text _ _) (others (ago-by (card .settings) text _ _) refl) (λ unit _. not-refused)
 
     pub part-why : Refused Why (part card text place)
-    unfolding part unsigned-part spoken-part number
+    unfolding part unsigned-part spoken-part number among all
     part-why =
-        refused-if (λ _. refused-by (as-before (lit≤ tt)))
+        refused-if (λ _. refused-by (otherwise refl))
         (λ not-at-end.
-        refused-bind (sign-step (card .settings) text place) (two (sign-by (card .settings) text place))
+        refused-bind (sign-step (card .settings) text place) (others (sign-by (card .settings) text place) refl)
         (λ signed sign.
-        refused-if (λ _. early (lit≤ tt) (finite-by card text (signed .negative) (signed .next)))
+        refused-if (λ _. others (finite-by card text (signed .negative) (signed .next)) refl)
         (λ no-number.
-        refused-if (λ _. two (infinite-by card text (signed .negative) (signed .next)))
+        refused-if (λ _. others (infinite-by card text (signed .negative) (signed .next)) refl)
         (λ no-infinity.
-        refused-bind (numeral-step card text (signed .next)) (early (lit≤ tt) (numeral-by card text (λ n. n ≤ 6) (lit≤ tt) (lit≤ tt) (signed .next)))
+        refused-bind (numeral-step card text (signed .next)) (others (numeral-by card text (signed .next)) refl)
         (λ numeral read.
         let (i, _, numeral-at) = all-of (numeral-got (signed .next)) read in
         refused-bind (spoken-unit-step card text (numeral .next))
@@ -124,21 +121,21 @@ module _ (card : Card) (text : List ℕ) where
           numeral = numeral-at;
           no-unit = none;
         }))
-        (λ unit _. refused-bind (connection (card .settings) text (unit .next)) (two (connection-by (card .settings) text (unit .next))) (λ next _. not-refused)))))))
+        (λ unit _. refused-bind (connection (card .settings) text (unit .next)) (others (connection-by (card .settings) text (unit .next)) refl) (λ next _. not-refused)))))))
 
     -- ---- refused by 15
 
     -- no other step refuses by it
     pub reading-told : Refused (λ cause. number cause ≡ 15 → (q : ℕ) × (cause ≡ NoUnit q) × NoUnitAt card text place q) (part-reading card text place)
-    unfolding part-reading
+    unfolding part-reading among
     reading-told =
         refused-bind (part card text place) (refused-map part-why told)
         (λ p _.
-        refused-bind (evaluated text (p .repr)) (refused-map (evaluated-by text (p .repr)) (λ cause e is. absurd (omega arith)))
-        (λ l _. refused-map (allowed-by (card .settings) place (p .next) l) (λ cause e is. absurd (omega arith))))
+        refused-bind (evaluated text (p .repr)) (refused-map (by-one (evaluated-by text (p .repr))) (λ cause e is. absurd (omega arith)))
+        (λ l _. refused-map (by-one (allowed-by (card .settings) place (p .next) l)) (λ cause e is. absurd (omega arith))))
       where
         told : (cause : Refusal) → Why cause → number cause ≡ 15 → (q : ℕ) × (cause ≡ NoUnit q) × NoUnitAt card text place q
-        told cause (as-before h) is = absurd (omega arith)
+        told cause (otherwise h) is = absurd (false≢true (sym h ∙ ap (among (15 ∷ 16 ∷ [])) is))
         told cause (no-unit {q = q} missing) is = (q, refl, missing)
 
     -- and the steps do where it is due

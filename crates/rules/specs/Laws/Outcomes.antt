@@ -112,6 +112,11 @@ pub data Refused {A : Type 0} (P : Refusal → Type 0) : Outcome A → Type 0 wh
   not-refused : {a : A} → Refused P (got a)
   refused-by : {cause : Refusal} → P cause → Refused P (refused cause)
 
+-- whatever is refused is what the outcome is
+pub refused-itself : {A : Type 0} (m : Outcome A) → Refused (λ cause. m ≡ refused cause) m
+refused-itself (got a) = not-refused
+refused-itself (refused cause) = refused-by refl
+
 module _ {A : Type 0} {P : Refusal → Type 0} where
   pub the-cause : {m : Outcome A} {cause : Refusal} → Refused P m → m ≡ refused cause → P cause
   the-cause h e = go (rw e at h)
