@@ -20,7 +20,7 @@ use Rattle.rules.specs.Laws.Outcomes.{Refused, not-refused, refused-by, refused
 use Rattle.rules.specs.Laws.Texts.{front-pass, run-stop, slice-shift}
 use Rattle.value.specs.Digits.{spelled-grows}
 use Rattle.exponent_place.specs.TheWrongDigit.{minus-behind, first-digit, power-before, Passed, out-of-range}
-use Rattle.exponent_place.specs.NoOtherStep.{IfOutOfRange, by-other}
+use Rattle.exponent_place.specs.OtherNumbers.{IfOutOfRange, by-other}
 
 -- ---- the digits, one after another
 

@@ -12,19 +12,20 @@ use Rattle.rules.specs.declared.Length.{Length}
 use Rattle.rules.specs.declared.Refusal.{Refusal}
 use Rattle.rules.specs.declared.Refusal.the-variants.{Nothing, SignEnds, DelimiterEnds, FractionOff, FractionEmpty, ExponentOff, ExponentByte, ExponentEnds, ExponentAbove, ExponentBelow, InfinityByte, InfinityEnds, InfinityGoesOn, ConjunctionEnds, ConjunctionGoesOn, NegativeForbidden, NoNumber, NoUnit, OutOfRange, Delimiters, Conjunctions, DefaultKind, TableSize, BadRow, LineSize, BadLineRow, NumeralsSize, BadNumeral, TextTooLong, NoRoom, Beyond, Malformed, NotIso, YearOrMonth, TooLarge}
 use Rattle.rules.specs.Common.{if_then_else_, ascii}
-use Rattle.rules.specs.ThePartOfTheCrateWeTake.{longest-text, zero-length}
-use Rattle.rules.specs.NumbersHandedBack.{Outcome, got, refused, number, position, done, refusal, answered}
+use Rattle.rules.specs.ThePartOfTheCrateWeTake.{longest-text}
+use Rattle.rules.specs.NumbersHandedBack.{number, position, refusal}
 use Rattle.rules.specs.SettingsAndUnitTable.{Card}
-use Rattle.rules.specs.WriterAndShiftTotal.{writing}
-use Rattle.rules.specs.WhatEveryEntryOwes.{read-part, part-answer, read-total, total-answer, write-answer, add-total, shift-answer}
+use Rattle.rules.specs.WhatEveryEntryOwes.{part-answer, total-answer, write-answer, shift-answer}
 use Rattle.rules.specs.Computing.{computing}
 use Rattle.rules.specs.CardAAndItsReadings.{space, conjunction, settings, settings-A, row-of, table-A, unspoken, card-A, same-length, same-answer, fails}
+use Rattle.handed_back.specs.RefusedWith.{refused-at}
+use Rattle.handed_back.specs.ByAnotherTable as by-table
+use Rattle.handed_back.specs.ByAnotherTable.{Table, answered-by, part-by, total-by, write-by, shift-by, Folds}
 use Rattle.exponent_place.specs.TheWrongDigit.{out-of-range}
 
 -- ---- as it was
 
--- written out, so that it does not follow what is handed back now; what later requests refuse has the place that they give it,
--- and each refusal the number that it has now
+-- written out, so that it does not follow what is handed back now; what later requests refuse has the place that they give it
 unfoldable pub position-before : Refusal → ℕ
 position-before (Nothing p) = p
 position-before (SignEnds p) = p
@@ -62,21 +63,9 @@ position-before (NotIso p) = p
 position-before (YearOrMonth p) = p
 position-before TooLarge = 0
 
-unfoldable pub answered-before : {A : Type 0} → (A → Answer) → Outcome A → Answer
-answered-before show (got a) = show a
-answered-before show (refused cause) = record { number = number cause; position = position-before cause; length = zero-length }
-
-unfoldable pub part-before : Card → List ℕ → ℕ → Answer
-part-before card text place = answered-before (λ r. done (r .next) (r .length)) (read-part card text place)
-
-unfoldable pub total-before : Card → List ℕ → Answer
-total-before card text = answered-before (done (length text)) (read-total card text)
-
-unfoldable pub write-before : Length → List ℕ → ℕ → Answer
-write-before l buffer place = answered-before (λ r. done (r .next) (r .length)) (writing l buffer place)
-
-unfoldable pub shift-before : Length → Card → List ℕ → Answer
-shift-before so-far card text = answered-before (done (length text)) (add-total so-far card text)
+-- the numbers were as they are
+unfoldable pub before : Table
+before = record { number = number; position = position-before }
 
 -- ---- folded back: the place of 3 and 4 is 0 again, and nothing else is touched
 
@@ -124,38 +113,36 @@ position-folded (NotIso p) = refl
 position-folded (YearOrMonth p) = refl
 position-folded TooLarge = refl
 
--- whatever is handed back
-pub folded-back : {A : Type 0} (show : A → Answer) (m : Outcome A) → ((a : A) → (show a) .number ≡ 0) → folded (answered show m) ≡ answered-before show m
-unfolding folded fold-position answered answered-before refusal out-of-range if_then_else_
-folded-back show (got a) read = rw (read a) refl
-folded-back show (refused cause) read = ap (λ place. record { number = number cause; position = place; length = zero-length }) (position-folded cause)
+-- of every refusal, and of nothing else
+folds : Folds before folded
+unfolding before folded fold-position refusal out-of-range if_then_else_
+folds = record {
+  refusals = λ cause. ap (λ place. refused-at (number cause) place) (position-folded cause);
+  others = λ a read. rw read refl;
+}
 
 -- ---- the entries
 
-pub part-folded : (card : Card) (text : List ℕ) (place : ℕ) → folded (part-answer card text place) ≡ part-before card text place
-unfolding part-answer part-before done
-part-folded card text place = folded-back _ (read-part card text place) (λ r. refl)
+pub part-folded : (card : Card) (text : List ℕ) (place : ℕ) → folded (part-answer card text place) ≡ part-by before card text place
+part-folded = by-table.part-folded before folded folds
 
-pub total-folded : (card : Card) (text : List ℕ) → folded (total-answer card text) ≡ total-before card text
-unfolding total-answer total-before done
-total-folded card text = folded-back _ (read-total card text) (λ r. refl)
+pub total-folded : (card : Card) (text : List ℕ) → folded (total-answer card text) ≡ total-by before card text
+total-folded = by-table.total-folded before folded folds
 
-pub write-folded : (l : Length) (buffer : List ℕ) (place : ℕ) → folded (write-answer l buffer place) ≡ write-before l buffer place
-unfolding write-answer write-before done
-write-folded l buffer place = folded-back _ (writing l buffer place) (λ r. refl)
+pub write-folded : (l : Length) (buffer : List ℕ) (place : ℕ) → folded (write-answer l buffer place) ≡ write-by before l buffer place
+write-folded = by-table.write-folded before folded folds
 
-pub shift-folded : (so-far : Length) (card : Card) (text : List ℕ) → folded (shift-answer so-far card text) ≡ shift-before so-far card text
-unfolding shift-answer shift-before done
-shift-folded so-far card text = folded-back _ (add-total so-far card text) (λ r. refl)
+pub shift-folded : (so-far : Length) (card : Card) (text : List ℕ) → folded (shift-answer so-far card text) ≡ shift-by before so-far card text
+shift-folded = by-table.shift-folded before folded folds
 
 -- ---- computed
 
 -- an exponent out of range was handed back with 0, and a wrong byte in one with its place, as now
 unfoldable pub was : String → ℕ → ℕ → Bool
 was text n p =
-    same-answer (total-before card-A (ascii text)) (fails text n p .comes-to)
+    same-answer (total-by before card-A (ascii text)) (fails text n p .comes-to)
     && same-answer (folded (total-answer card-A (ascii text))) (fails text n p .comes-to)
 
-pub before : T (was "1e-0032769" 4 0 && was "1s 1e99999s" 3 0 && was "1s 1e-x" 21 6 && was "1s 1e9 x" 6 7)
-unfolding computing space conjunction settings settings-A row-of table-A unspoken card-A same-length same-answer fails was position-before answered-before total-before fold-position folded out-of-range
-before = tt
+pub was-before : T (was "1e-0032769" 4 0 && was "1s 1e99999s" 3 0 && was "1s 1e-x" 21 6 && was "1s 1e9 x" 6 7)
+unfolding computing space conjunction settings settings-A row-of table-A unspoken card-A same-length same-answer fails was position-before before answered-by total-by fold-position folded out-of-range
+was-before = tt

@@ -6,13 +6,11 @@ use mathlib.Core.List.{List}
 use Prim.Native.Nat.{ℕ, suc, _+_, _≤_, _<_}
 use lib.Dec.{eqb}
 use lib.Seq.{slice}
-use Rattle.rules.specs.declared.Settings.{Settings}
-use Rattle.rules.specs.declared.Refusal.the-variants.{Nothing, NoNumber}
-use Rattle.rules.specs.Common.{if_then_else_, ends, sees, run}
-use Rattle.rules.specs.NumbersHandedBack.{Outcome, got, refused, _>>=_}
-use Rattle.rules.specs.SettingsAndUnitTable.{DIGIT, SIGN, POINT, is}
-use Rattle.rules.specs.ReadingOnePart.{same-letter, sign-step, number-step, exponent-limit}
+use Rattle.rules.specs.Common.{if_then_else_, sees, run}
+use Rattle.rules.specs.SettingsAndUnitTable.{DIGIT, SIGN, is, Card}
+use Rattle.rules.specs.ReadingOnePart.{same-letter, exponent-limit}
 use Rattle.rules.specs.Evaluation.{spelled}
+use Rattle.handed_back.specs.TheStepsOfAPart.{Comes, exponent}
 
 -- ---- an exponent
 
@@ -38,23 +36,11 @@ pub record Passed (text : List ℕ) (e place : ℕ) : Type 0 where
 
 -- ---- the exponent of a part
 
--- where step 4 looks for an `e`: behind the sign and the number of the part that begins at the place; infinity and a spoken number have none
-unfoldable pub after-number : Settings → List ℕ → ℕ → Outcome ℕ
-after-number s text place =
-    if ends text place
-    then refused (Nothing place)
-    else
-    (sign-step s text place
-    >>= λ signed.
-    if sees (λ b. is DIGIT b || is POINT b) text (signed .next)
-    then (number-step s text (signed .next) >>= λ number. got (number .next))
-    else refused (NoNumber (signed .next)))
-
--- the part that begins at a place has an exponent, below zero or not, which passes the range at `place`
-pub record WrongDigit (s : Settings) (text : List ℕ) (from : ℕ) (negative : Bool) (place : ℕ) : Type 0 where
+-- the part that begins at a place has an exponent, below zero or not, which passes the range at `place`; infinity and a spoken number have none
+pub record WrongDigit (card : Card) (text : List ℕ) (from : ℕ) (negative : Bool) (place : ℕ) : Type 0 where
   pub e : ℕ
-  pub step-four : after-number s text from ≡ got e
-  pub exponents-on : s .exponents ≡ true
+  pub comes : Comes card text from exponent e
+  pub exponents-on : card .settings .exponents ≡ true
   pub sign : minus-behind text e ≡ negative
   pub passed : Passed text e place
 

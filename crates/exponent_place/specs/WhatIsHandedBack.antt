@@ -26,7 +26,7 @@ no-check false = refl
 module _ (card : Card) (text : List ℕ) (negative : Bool) (q : ℕ) where
   -- the wrong digit of the part that begins at a place
   abbrev pub Wrong : ℕ → Type 0
-  Wrong from = WrongDigit (card .settings) text from negative q
+  Wrong from = WrongDigit card text from negative q
 
   pub part-answer-exactly : (place : ℕ) → (part-answer card text place ≡ refused-at (number-of negative) q) ↔ InPart card text place (Wrong place)
   part-answer-exactly place = handed.part-exactly card text (number-of negative) q (no-check negative) place (part-exactly card text place negative q)

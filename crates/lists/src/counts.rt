@@ -42,13 +42,11 @@ pub fn count(what: usize, counts: &mut [u64; COUNTS]) {
 
 // One answer more of a number, and one difference more unless all agrees. A number that no list has is a difference, and nothing else.
 pub fn count_answer(number: u8, agrees: bool, counts: &mut [u64; COUNTS]) {
-    let number = number as usize;
-    if number < NUMBERS {
-        count(number, counts);
-        if !agrees {
-            count(DIFFERENCE, counts);
-        }
-    } else {
+    let listed = (number as usize) < NUMBERS;
+    if listed {
+        count(number as usize, counts);
+    }
+    if !(listed & agrees) {
         count(DIFFERENCE, counts);
     }
 }

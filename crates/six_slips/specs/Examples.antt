@@ -9,9 +9,11 @@ use Rattle.rules.specs.Computing.{computing}
 use Rattle.rules.specs.CardAAndItsReadings.{space, conjunction, settings, settings-A, row-of, table-A, unspoken, card-A, same-length, same-answer, Case, reads, plus, fails}
 use Rattle.rules.specs.TheLinesOwnUnitNames.{on-a-line, five}
 use Rattle.rules.specs.SixSlipsUnderOneNumber.{switched}
-use Rattle.six_slips.specs.TheAnswerBefore.{number-before, answered-before, total-before, slip, fold-number, folded}
-use Rattle.six_slips.specs.TheStepsOfAPart.{begins, to-number, to-infinity, to-numeral, to-exponent, to-gap, to-unit, behind-inf}
-use Rattle.six_slips.specs.TheSixSlips.{digit-wanted, TextEnds, behind-sign, in-exponent, after-sign, before-ago, behind-numeral, of-connection, DelimitersEnd, ConjunctionSlip, conjunction-ends, conjunction-goes-on, FractionSlip, fractions-off, bare-point, ExponentSlip, exponents-off, no-digit, InfinitySlip, wrong-letter, ends-within, word-goes-on}
+use Rattle.six_slips.specs.TheAnswerBefore.{number-before, before, slip, fold-number, folded}
+use Rattle.exponent_place.specs.TheWrongDigit.{first-digit}
+use Rattle.handed_back.specs.ByAnotherTable.{answered-by, total-by}
+use Rattle.handed_back.specs.TheStepsOfAPart.{begins, to-number, to-infinity, to-numeral, to-exponent, to-gap, to-unit, behind-inf}
+use Rattle.six_slips.specs.TheSixSlips.{TextEnds, behind-sign, in-exponent, after-sign, before-ago, behind-numeral, of-connection, DelimitersEnd, ConjunctionSlip, conjunction-ends, conjunction-goes-on, FractionSlip, fractions-off, bare-point, ExponentSlip, exponents-off, no-digit, InfinitySlip, wrong-letter, ends-within, word-goes-on}
 
 -- ---- 17: `+` at 1, `1e` at 2
 
@@ -20,7 +22,7 @@ unfolding computing space conjunction settings settings-A row-of table-A unspoke
 a-sign-alone = behind-sign (begins refl) refl refl
 
 pub an-e-at-the-end : TextEnds card-A (ascii "1e") 0 2
-unfolding computing space conjunction settings settings-A row-of table-A unspoken card-A digit-wanted
+unfolding computing space conjunction settings settings-A row-of table-A unspoken card-A first-digit
 an-e-at-the-end = in-exponent (to-exponent (to-number (begins refl) refl refl) refl) refl refl refl
 
 -- ---- 18: `+ ` at 1 with the switch after a sign; `1s ` at 2, before an `ago`; `inf ` at 3; `five ` at 4
@@ -80,7 +82,7 @@ no-fractions = fractions-off (to-number (begins refl) refl refl) refl refl
 -- ---- 21: `1e-x` at 3; `1e5` at 1 while exponents are off
 
 pub no-digit-there : ExponentSlip card-A (ascii "1e-x") 0 3
-unfolding computing space conjunction settings settings-A row-of table-A unspoken card-A digit-wanted
+unfolding computing space conjunction settings settings-A row-of table-A unspoken card-A first-digit
 no-digit-there = no-digit (to-exponent (to-number (begins refl) refl refl) refl) refl refl refl
 
 pub no-exponents : ExponentSlip (switched true false false) (ascii "1e5") 0 1
@@ -108,9 +110,9 @@ more-letters = word-goes-on (to-infinity (begins refl) refl refl refl) refl refl
 -- a text under card A had this number, and folded it has it still
 unfoldable pub was : Case → Bool
 was c =
-    same-answer (total-before card-A (ascii (c .typed))) (c .comes-to) && same-answer (folded (total-answer card-A (ascii (c .typed)))) (c .comes-to)
+    same-answer (total-by before card-A (ascii (c .typed))) (c .comes-to) && same-answer (folded (total-answer card-A (ascii (c .typed)))) (c .comes-to)
 
-pub before :
+pub was-before :
     T
     (all was
     (fails "+" 2 1
@@ -125,5 +127,5 @@ pub before :
     ∷ fails "1 and 2" 6 2
     ∷ reads "1s and 2ms" (plus 1 2000000)
     ∷ []))
-unfolding computing space conjunction settings settings-A row-of table-A unspoken card-A same-length same-answer reads plus fails was number-before answered-before total-before slip fold-number folded
-before = tt
+unfolding computing space conjunction settings settings-A row-of table-A unspoken card-A same-length same-answer reads plus fails was number-before before answered-by total-by slip fold-number folded
+was-before = tt

@@ -12,11 +12,13 @@ use Rattle.rules.specs.declared.Length.{Length}
 use Rattle.rules.specs.declared.Refusal.{Refusal}
 use Rattle.rules.specs.declared.Refusal.the-variants.{Nothing, SignEnds, DelimiterEnds, FractionOff, FractionEmpty, ExponentOff, ExponentByte, ExponentEnds, ExponentAbove, ExponentBelow, InfinityByte, InfinityEnds, InfinityGoesOn, ConjunctionEnds, ConjunctionGoesOn, NegativeForbidden, NoNumber, NoUnit, OutOfRange, Delimiters, Conjunctions, DefaultKind, TableSize, BadRow, LineSize, BadLineRow, NumeralsSize, BadNumeral, TextTooLong, NoRoom, Beyond, Malformed, NotIso, YearOrMonth, TooLarge}
 use Rattle.rules.specs.Common.{if_then_else_, between}
-use Rattle.rules.specs.ThePartOfTheCrateWeTake.{zero-length}
 use Rattle.rules.specs.NumbersHandedBack.{Outcome, got, refused, number, position, done, refusal, answered}
 use Rattle.rules.specs.SettingsAndUnitTable.{Card}
 use Rattle.rules.specs.WriterAndShiftTotal.{writing}
 use Rattle.rules.specs.WhatEveryEntryOwes.{read-part, part-answer, read-total, total-answer, write-answer, add-total, shift-answer}
+use Rattle.handed_back.specs.RefusedWith.{refused-at}
+use Rattle.handed_back.specs.ByAnotherTable as by-table
+use Rattle.handed_back.specs.ByAnotherTable.{Table, answered-by, part-by, total-by, write-by, shift-by, Folds, part-folded, total-folded, write-folded, shift-folded}
 use Rattle.iso.specs.IsoTimings.{read-iso, iso-answer, writing-iso, iso-write-answer}
 
 -- ---- as it was
@@ -59,27 +61,15 @@ number-before (NotIso p) = 12
 number-before (YearOrMonth p) = 13
 number-before TooLarge = 14
 
-unfoldable pub answered-before : {A : Type 0} → (A → Answer) → Outcome A → Answer
-answered-before show (got a) = show a
-answered-before show (refused cause) = record { number = number-before cause; position = position cause; length = zero-length }
-
-unfoldable pub part-before : Card → List ℕ → ℕ → Answer
-part-before card text place = answered-before (λ r. done (r .next) (r .length)) (read-part card text place)
-
-unfoldable pub total-before : Card → List ℕ → Answer
-total-before card text = answered-before (done (length text)) (read-total card text)
-
-unfoldable pub write-before : Length → List ℕ → ℕ → Answer
-write-before l buffer place = answered-before (λ r. done (r .next) (r .length)) (writing l buffer place)
-
-unfoldable pub shift-before : Length → Card → List ℕ → Answer
-shift-before so-far card text = answered-before (done (length text)) (add-total so-far card text)
+-- the positions were as they are
+unfoldable pub before : Table
+before = record { number = number-before; position = position }
 
 unfoldable pub iso-before : List ℕ → Answer
-iso-before text = answered-before (done (length text)) (read-iso text)
+iso-before text = answered-by before (done (length text)) (read-iso text)
 
 unfoldable pub iso-write-before : Length → List ℕ → ℕ → Answer
-iso-write-before l buffer place = answered-before (λ r. done (r .next) (r .length)) (writing-iso l buffer place)
+iso-write-before l buffer place = answered-by before (λ r. done (r .next) (r .length)) (writing-iso l buffer place)
 
 -- ---- folded back: 17 to 22 are 2 again, and nothing else is touched
 
@@ -131,44 +121,50 @@ number-folded (NotIso p) = (refl, refl)
 number-folded (YearOrMonth p) = (refl, refl)
 number-folded TooLarge = (refl, refl)
 
+-- of every refusal, and of nothing else
+folds : Folds before folded
+unfolding before folded fold-number slip between refusal if_then_else_
+folds = record {
+  refusals = λ cause. ap (λ n. refused-at n (position cause)) (number-folded cause .0);
+  others = λ a read. rw read refl;
+}
+
 -- an answer folded is the one before, and its own number is not 2
-pub record AsBefore (now before : Answer) : Type 0 where
-  pub folds : folded now ≡ before
+pub record AsBefore (now old : Answer) : Type 0 where
+  pub folds-back : folded now ≡ old
   pub never-two : now .number ≢ 2
 
 -- whatever is handed back
-pub as-before : {A : Type 0} (show : A → Answer) (m : Outcome A) → ((a : A) → (show a) .number ≡ 0) → AsBefore (answered show m) (answered-before show m)
-unfolding folded fold-number slip between answered answered-before refusal if_then_else_
-as-before show (got a) read = record { folds = rw (read a) refl; never-two = λ e. false≢true (ap (λ n. eqb n 2) (sym (read a) ∙ e)) }
-as-before show (refused cause) read =
-    let (same, other) = number-folded cause in
-    record {
-      folds = ap (λ n. record { number = n; position = position cause; length = zero-length }) same;
-      never-two = λ e. false≢true (sym other ∙ ap (λ n. eqb n 2) e);
-    }
+never : {A : Type 0} (show : A → Answer) (m : Outcome A) → ((a : A) → (show a) .number ≡ 0) → (answered show m) .number ≢ 2
+unfolding answered refusal
+never show (got a) read e = false≢true (ap (λ n. eqb n 2) (sym (read a) ∙ e))
+never show (refused cause) read e = false≢true (sym (number-folded cause .1) ∙ ap (λ n. eqb n 2) e)
 
 -- ---- the entries
 
-pub part-as-before : (card : Card) (text : List ℕ) (place : ℕ) → AsBefore (part-answer card text place) (part-before card text place)
-unfolding part-answer part-before done
-part-as-before card text place = as-before _ (read-part card text place) (λ r. refl)
+pub part-as-before : (card : Card) (text : List ℕ) (place : ℕ) → AsBefore (part-answer card text place) (part-by before card text place)
+unfolding part-answer done
+part-as-before card text place = record { folds-back = part-folded before folded folds card text place; never-two = never _ (read-part card text place) (λ r. refl) }
 
-pub total-as-before : (card : Card) (text : List ℕ) → AsBefore (total-answer card text) (total-before card text)
-unfolding total-answer total-before done
-total-as-before card text = as-before _ (read-total card text) (λ l. refl)
+pub total-as-before : (card : Card) (text : List ℕ) → AsBefore (total-answer card text) (total-by before card text)
+unfolding total-answer done
+total-as-before card text = record { folds-back = total-folded before folded folds card text; never-two = never _ (read-total card text) (λ l. refl) }
 
-pub write-as-before : (l : Length) (buffer : List ℕ) (place : ℕ) → AsBefore (write-answer l buffer place) (write-before l buffer place)
-unfolding write-answer write-before done
-write-as-before l buffer place = as-before _ (writing l buffer place) (λ r. refl)
+pub write-as-before : (l : Length) (buffer : List ℕ) (place : ℕ) → AsBefore (write-answer l buffer place) (write-by before l buffer place)
+unfolding write-answer done
+write-as-before l buffer place = record { folds-back = write-folded before folded folds l buffer place; never-two = never _ (writing l buffer place) (λ r. refl) }
 
-pub shift-as-before : (so-far : Length) (card : Card) (text : List ℕ) → AsBefore (shift-answer so-far card text) (shift-before so-far card text)
-unfolding shift-answer shift-before done
-shift-as-before so-far card text = as-before _ (add-total so-far card text) (λ l. refl)
+pub shift-as-before : (so-far : Length) (card : Card) (text : List ℕ) → AsBefore (shift-answer so-far card text) (shift-by before so-far card text)
+unfolding shift-answer done
+shift-as-before so-far card text = record { folds-back = shift-folded before folded folds so-far card text; never-two = never _ (add-total so-far card text) (λ l. refl) }
 
 pub iso-as-before : (text : List ℕ) → AsBefore (iso-answer text) (iso-before text)
 unfolding iso-answer iso-before done
-iso-as-before text = as-before _ (read-iso text) (λ l. refl)
+iso-as-before text = record { folds-back = by-table.folded before folded folds _ (read-iso text) (λ l. refl); never-two = never _ (read-iso text) (λ l. refl) }
 
 pub iso-write-as-before : (l : Length) (buffer : List ℕ) (place : ℕ) → AsBefore (iso-write-answer l buffer place) (iso-write-before l buffer place)
 unfolding iso-write-answer iso-write-before done
-iso-write-as-before l buffer place = as-before _ (writing-iso l buffer place) (λ r. refl)
+iso-write-as-before l buffer place = record {
+  folds-back = by-table.folded before folded folds _ (writing-iso l buffer place) (λ r. refl);
+  never-two = never _ (writing-iso l buffer place) (λ r. refl);
+}

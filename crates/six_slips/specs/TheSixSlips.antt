@@ -10,15 +10,12 @@ use lib.Seq.{slice}
 use Rattle.rules.specs.declared.ByteSet.{ByteSet}
 use Rattle.rules.specs.declared.Found.the-variants.{Row}
 use Rattle.rules.specs.declared.Settings.{Settings}
-use Rattle.rules.specs.Common.{if_then_else_, ascii, ends, sees, run}
+use Rattle.rules.specs.Common.{ascii, ends, sees, run}
 use Rattle.rules.specs.NumbersHandedBack.{got}
 use Rattle.rules.specs.SettingsAndUnitTable.{DIGIT, SIGN, POINT, is, is-next-duration, holds, conjunctions-of, Card, lookup}
 use Rattle.rules.specs.ReadingOnePart.{same-letter, says, delimiters, in-stretch, find-unit, conjunction-size, closes-infinity, numeral-end}
-use Rattle.six_slips.specs.TheStepsOfAPart.{Step, Comes, sign, number, exponent, before-unit, unit, infinity, numeral, spoken-unit, connection}
-
--- where an exponent wants a digit: behind its sign, if there is one, else behind its `e`
-unfoldable pub digit-wanted : List ℕ → ℕ → ℕ
-digit-wanted text e = if sees (is SIGN) text (e + 1) then e + 2 else e + 1
+use Rattle.exponent_place.specs.TheWrongDigit.{first-digit}
+use Rattle.handed_back.specs.TheStepsOfAPart.{Step, Comes, sign, number, exponent, before-unit, unit, infinity, numeral, spoken-unit, connection}
 
 -- delimiters of the set stand at the place, and their run ends the text
 pub record LastRun (text : List ℕ) (set : ByteSet) (q : ℕ) : Type 0 where
@@ -45,7 +42,7 @@ module _ (card : Card) (text : List ℕ) (from : ℕ) where
 
   pub data TextEnds : ℕ → Type 0 where
     behind-sign : {p : ℕ} → At sign p → sees (is SIGN) text p ≡ true → ends text (p + 1) ≡ true → TextEnds (p + 1)
-    in-exponent : {e : ℕ} → At exponent e → sees (same-letter 101) text e ≡ true → s .exponents ≡ true → ends text (digit-wanted text e) ≡ true → TextEnds (digit-wanted text e)
+    in-exponent : {e : ℕ} → At exponent e → sees (same-letter 101) text e ≡ true → s .exponents ≡ true → ends text (first-digit text e) ≡ true → TextEnds (first-digit text e)
 
   -- ---- a conjunction, which 19 names and behind which 18 may follow
 
@@ -87,11 +84,11 @@ module _ (card : Card) (text : List ℕ) (from : ℕ) where
     fractions-off : {p : ℕ} → At number p → sees (is POINT) text (run (is DIGIT) text p) ≡ true → s .fractions ≡ false → FractionSlip (run (is DIGIT) text p)
     bare-point : {p : ℕ} → At number p → sees (is DIGIT) text p ≡ false → sees (is POINT) text p ≡ true → sees (is DIGIT) text (p + 1) ≡ false → FractionSlip p
 
-  -- ---- 21: exponents are off, or where an exponent wants a digit stands another byte
+  -- ---- 21: exponents are off, or where an exponent wants its first digit stands another byte
 
   pub data ExponentSlip : ℕ → Type 0 where
     exponents-off : {e : ℕ} → At exponent e → sees (same-letter 101) text e ≡ true → s .exponents ≡ false → ExponentSlip e
-    no-digit : {e : ℕ} → At exponent e → sees (same-letter 101) text e ≡ true → s .exponents ≡ true → sees (λ b. not (is DIGIT b)) text (digit-wanted text e) ≡ true → ExponentSlip (digit-wanted text e)
+    no-digit : {e : ℕ} → At exponent e → sees (same-letter 101) text e ≡ true → s .exponents ≡ true → sees (λ b. not (is DIGIT b)) text (first-digit text e) ≡ true → ExponentSlip (first-digit text e)
 
   -- ---- 22: behind `inf`, which neither an end nor a connection follows: a wrong letter, an end within `inity`, or what follows the word is
   -- neither end nor connection

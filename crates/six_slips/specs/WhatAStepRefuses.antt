@@ -1,11 +1,10 @@
 -- Whatever the reading of a part is refused with, by one of the six numbers it names what stands there: step by step. Assumes nothing.
 use mathlib.Core.Path.{_≡_, refl, sym, ap, _∙_}
-use mathlib.Core.Bool.{Bool, true, false, not, _||_}
+use mathlib.Core.Bool.{Bool, true, false, not, false≢true}
 use mathlib.Core.List.{List, [], _∷_}
 use Prim.Native.Nat.{ℕ, _+_}
 use native.Mathlib.Omega.{arith}
-use borrow.Author.Tests.{eqb-false, le-leb, not-true, not-false}
-use lib.Dec.{eqb}
+use borrow.Author.Tests.{eqb-false, ne-eqb, le-leb, not-true, not-false}
 use lib.ListN.{length, drop, length-drop}
 use lib.Seq.{slice}
 use Rattle.rules.specs.declared.ByteSet.{ByteSet}
@@ -13,22 +12,25 @@ use Rattle.rules.specs.declared.Found.{Found}
 use Rattle.rules.specs.declared.Found.the-variants.{Row, Nowhere}
 use Rattle.rules.specs.declared.Multiplier.{Multiplier}
 use Rattle.rules.specs.declared.Refusal.{Refusal}
-use Rattle.rules.specs.declared.Refusal.the-variants.{Nothing, SignEnds, DelimiterEnds, FractionOff, FractionEmpty, ExponentOff, ExponentByte, ExponentEnds, InfinityGoesOn, ConjunctionEnds, ConjunctionGoesOn}
+use Rattle.rules.specs.declared.Refusal.the-variants.{SignEnds, DelimiterEnds, FractionOff, FractionEmpty, ExponentOff, ExponentByte, ExponentEnds, InfinityGoesOn, ConjunctionEnds, ConjunctionGoesOn}
 use Rattle.rules.specs.declared.Settings.{Settings}
-use Rattle.rules.specs.Common.{ascii, all, ends, sees, starts, run}
+use Rattle.rules.specs.Common.{ascii, between, all, ends, sees, run}
 use Rattle.rules.specs.NumbersHandedBack as numbers
 use Rattle.rules.specs.NumbersHandedBack.{Outcome, refused, position}
 use Rattle.rules.specs.SettingsAndUnitTable.{DIGIT, POINT, is, is-next-duration, holds, conjunctions-of, Card, lookup}
-use Rattle.rules.specs.ReadingOnePart.{says, delimiters, gap, sign-step, fraction-step, number-step, exponent-number, exponent-step, ago-step, find-unit, unit-found, unit-step, conjunction-size, after-conjunction, conjunction-step, closes-infinity, letters-step, infinity-closed, infinity-step, numeral-end, numeral-found, numeral-step, spoken-unit-found, spoken-unit-step, infinite-part, finite-part, spoken-part, unsigned-part, part}
+use Rattle.rules.specs.ReadingOnePart.{says, delimiters, gap, sign-step, fraction-step, number-step, exponent-number, exponent-step, ago-step, find-unit, unit-found, unit-step, conjunction-size, after-conjunction, conjunction-step, closes-infinity, letters-step, infinity-closed, infinity-step, numeral-end, numeral-found, numeral-step, spoken-unit-found, spoken-unit-step, part}
 use Rattle.rules.specs.ReadingOnePart as reader
 use Rattle.rules.specs.Evaluation.{evaluated, part-reading}
 use Rattle.rules.specs.Laws.Choices.{and-left, and-right, or-neither}
 use Rattle.rules.specs.Laws.Outcomes.{all-of, Refused, not-refused, refused-by, refused-map, refused-if, refused-bind}
-use Rattle.rules.specs.Laws.Refusals.{among, By, by-passing, digits-by, evaluated-by, allowed-by}
+use Rattle.rules.specs.Laws.Refusals.{By, by-passing, digits-by, evaluated-by, allowed-by}
 use Rattle.rules.specs.Laws.Texts.{not-ends-lt, sees-here, sees-or, sees-shift, run-stop}
-use Rattle.six_slips.specs.TheLettersOfAWord.{letters-got, Breaks, another-byte, no-byte, Broken, letters-broken}
-use Rattle.six_slips.specs.TheStepsOfAPart.{Step, Comes, sign, number, exponent, before-unit, unit, infinity, numeral, spoken-unit, connection, begins, to-number, to-infinity, to-numeral, to-exponent, to-gap, to-unit, to-spoken-unit, behind-unit, behind-spoken-unit, behind-inf, behind-infinity}
-use Rattle.six_slips.specs.TheSixSlips.{digit-wanted, behind-sign, in-exponent, Conjoins, Takes, after-sign, between-number-and-unit, before-ago, before-spoken-ago, behind-numeral, of-connection, behind-conjunction, conjunction-ends, conjunction-goes-on, FractionSlip, fractions-off, bare-point, exponents-off, no-digit, RightLetters, wrong-letter, ends-within, word-goes-on, by-test, where-it-is, Says}
+use Rattle.exponent_place.specs.TheWrongDigit.{first-digit}
+use Rattle.handed_back.specs.AStepRefuses.{part-told}
+use Rattle.handed_back.specs.TheLettersOfAWord.{letters-got, Breaks, another-byte, no-byte, Broken, letters-broken}
+use Rattle.six_slips.specs.TheAnswerBefore.{slip}
+use Rattle.handed_back.specs.TheStepsOfAPart.{Step, does, Comes, sign, number, exponent, before-unit, unit, infinity, numeral, spoken-unit, connection, behind-inf, behind-infinity}
+use Rattle.six_slips.specs.TheSixSlips.{behind-sign, in-exponent, Conjoins, Takes, after-sign, between-number-and-unit, before-ago, before-spoken-ago, behind-numeral, of-connection, behind-conjunction, conjunction-ends, conjunction-goes-on, FractionSlip, fractions-off, bare-point, exponents-off, no-digit, RightLetters, wrong-letter, ends-within, word-goes-on, by-test, where-it-is, Says}
 
 -- ---- a byte that stands there and passes no test
 
@@ -48,20 +50,18 @@ module _ (card : Card) (text : List ℕ) (from : ℕ) where
   abbrev pub Told : Refusal → Type 0
   Told cause = Says card text from (numbers.number cause) (position cause)
 
-  abbrev six : List ℕ
-  six = 17 ∷ 18 ∷ 19 ∷ 20 ∷ 21 ∷ 22 ∷ []
-
   -- of a number that is none of the six nothing has to be shown
-  not-it : (n m : ℕ) (A : Type 0) {B : Type 0} (others : Bool) → (others ≡ false → B) → (eqb n m || others) ≡ false → where-it-is n m A B
+  not-it : (n m : ℕ) (X : Type 0) {Y : Type 0} → slip n ≡ false → slip m ≡ true → Y → where-it-is n m X Y
   unfolding where-it-is by-test
-  not-it n m A others b none = let (other, rest) = or-neither (eqb n m) others none in rw other (b rest)
+  not-it n m X none it y = rw (ne-eqb n m (λ e. false≢true (sym none ∙ ap slip e ∙ it))) y
 
-  says-nothing : (n q : ℕ) → among six n ≡ false → Says card text from n q
-  unfolding among Says
+  says-nothing : (n q : ℕ) → slip n ≡ false → Says card text from n q
+  unfolding Says slip between
   says-nothing n q none =
-      not-it n 17 _ _ (not-it n 18 _ _ (not-it n 19 _ _ (not-it n 20 _ _ (not-it n 21 _ _ (not-it n 22 _ _ (λ _. tt)))))) none
+      not-it n 17 _ none refl
+      (not-it n 18 _ none refl (not-it n 19 _ none refl (not-it n 20 _ none refl (not-it n 21 _ none refl (not-it n 22 _ none refl tt)))))
 
-  other-numbers : {A : Type 0} {m : Outcome A} {listed : List ℕ} → By listed m → all (λ n. not (among six n)) listed ≡ true → Refused Told m
+  other-numbers : {A : Type 0} {m : Outcome A} {listed : List ℕ} → By listed m → all (λ n. not (slip n)) listed ≡ true → Refused Told m
   other-numbers by right = refused-map (by-passing _ right by) (λ cause e. says-nothing _ _ (not-true _ e))
 
   by : {A : Type 0} (cause : Refusal) → Told cause → Refused {A = A} Told (refused cause)
@@ -102,7 +102,7 @@ module _ (card : Card) (text : List ℕ) (from : ℕ) where
           rw here (bare-point c before (rw here at stands) (rw here at after))
 
   exponent-told : {p : ℕ} → At exponent p → Refused Told (exponent-step s text p)
-  unfolding exponent-step exponent-number digit-wanted Says where-it-is by-test numbers.number position among all
+  unfolding exponent-step exponent-number first-digit Says where-it-is by-test numbers.number position slip between all
   exponent-told {p} c =
       refused-if (λ _. not-refused)
       (λ letter.
@@ -110,8 +110,8 @@ module _ (card : Card) (text : List ℕ) (from : ℕ) where
       (λ on.
       refused-if (λ _. other-numbers (digits-by s text _ _ _ _) refl)
       (λ none.
-      refused-if (λ end. by (ExponentEnds (digit-wanted text p)) (in-exponent c (not-false _ letter) (not-false _ on) end))
-      (λ more. by (ExponentByte (digit-wanted text p)) (no-digit c (not-false _ letter) (not-false _ on) (other-byte _ text (digit-wanted text p) more none))))))
+      refused-if (λ end. by (ExponentEnds (first-digit text p)) (in-exponent c (not-false _ letter) (not-false _ on) end))
+      (λ more. by (ExponentByte (first-digit text p)) (no-digit c (not-false _ letter) (not-false _ on) (other-byte _ text (first-digit text p) more none))))))
 
   ago-told : (m : Multiplier) {q : ℕ} → (s .ago ≡ true → Takes card text from (s .inner) q) → Refused Told (ago-step s text m q)
   unfolding ago-step
@@ -205,47 +205,22 @@ module _ (card : Card) (text : List ℕ) (from : ℕ) where
 
   -- ---- the part
 
-  finite-told : (negative : Bool) {p : ℕ} → At number p → Refused Told (finite-part card text negative p)
-  unfolding finite-part
-  finite-told negative {p} c =
-      refused-bind (number-step s text p) (number-told c)
-      (λ found read.
-      let c : At exponent (found .next) = to-exponent c read in
-      refused-bind (exponent-step s text (found .next)) (exponent-told c)
-      (λ scaled read.
-      let c : At before-unit (scaled .next) = to-gap c read in
-      refused-bind (gap (s .«before_unit») s text (scaled .next)) (gap-told (s .«before_unit») (scaled .next) (between-number-and-unit c))
-      (λ name read.
-      let c : At unit name = to-unit c read in
-      refused-bind (unit-step card text name) (unit-told c)
-      (λ found read. refused-bind (reader.connection s text (found .next)) (connection-told (behind-unit c read)) (λ next _. not-refused)))))
-
-  spoken-told : (negative : Bool) {p : ℕ} → At numeral p → Refused Told (spoken-part card text negative p)
-  unfolding spoken-part
-  spoken-told negative {p} c =
-      refused-bind (numeral-step card text p) (numeral-told c)
-      (λ found read.
-      let c : At spoken-unit (found .next) = to-spoken-unit c read in
-      refused-bind (spoken-unit-step card text (found .next)) (spoken-unit-told c)
-      (λ found read. refused-bind (reader.connection s text (found .next)) (connection-told (behind-spoken-unit c read)) (λ next _. not-refused)))
-
-  part-told : Refused Told (part card text from)
-  unfolding part unsigned-part infinite-part Says where-it-is by-test numbers.number position
-  part-told =
-      refused-if (λ _. by (Nothing from) tt)
-      (λ on.
-      refused-bind (sign-step s text from) (sign-told (begins on))
-      (λ signed read.
-      refused-if (λ starts. finite-told (signed .negative) (to-number (begins on) read starts))
-      (λ none.
-      refused-if (λ inf. refused-bind (infinity-step s text (signed .next)) (infinity-told (to-infinity (begins on) read none inf)) (λ next _. not-refused))
-      (λ no-inf. spoken-told (signed .negative) (to-numeral (begins on) read none no-inf)))))
+  step-told : (step : Step) (p : ℕ) → At step p → Refused Told (does card text step p)
+  step-told sign p c = sign-told c
+  step-told number p c = number-told c
+  step-told exponent p c = exponent-told c
+  step-told before-unit p c = gap-told (s .«before_unit») p (between-number-and-unit c)
+  step-told unit p c = unit-told c
+  step-told infinity p c = infinity-told c
+  step-told numeral p c = numeral-told c
+  step-told spoken-unit p c = spoken-unit-told c
+  step-told connection p c = connection-told c
 
   -- what is evaluated, and a negative that is forbidden, has other numbers
   pub reading-told : Refused Told (part-reading card text from)
-  unfolding part-reading among all
+  unfolding part-reading slip between all Says where-it-is by-test numbers.number position
   reading-told =
-      refused-bind (part card text from) part-told
+      refused-bind (part card text from) (part-told card text from step-told tt)
       (λ p _.
       refused-bind (evaluated text (p .repr)) (other-numbers (evaluated-by text (p .repr)) refl)
       (λ l _. other-numbers (allowed-by s from (p .next) l) refl))

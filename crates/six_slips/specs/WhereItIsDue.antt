@@ -9,30 +9,26 @@ use borrow.Author.Tests.{lt-leb, ne-eqb, not-true}
 use lib.ListN.{length, drop, length-drop}
 use Rattle.rules.specs.declared.ByteSet.{ByteSet}
 use Rattle.rules.specs.declared.Multiplier.{Multiplier}
-use Rattle.rules.specs.declared.Number.{Number}
-use Rattle.rules.specs.declared.Numeral.{Numeral}
-use Rattle.rules.specs.declared.Part.{Part}
 use Rattle.rules.specs.declared.Refusal.{Refusal}
 use Rattle.rules.specs.declared.Refusal.the-variants.{SignEnds, DelimiterEnds, FractionOff, FractionEmpty, ExponentOff, ExponentByte, ExponentEnds, InfinityByte, InfinityEnds, InfinityGoesOn, ConjunctionEnds, ConjunctionGoesOn}
-use Rattle.rules.specs.declared.Scaled.{Scaled}
 use Rattle.rules.specs.declared.Settings.{Settings}
-use Rattle.rules.specs.declared.Signed.{Signed}
-use Rattle.rules.specs.declared.SpokenUnit.{SpokenUnit}
 use Rattle.rules.specs.declared.Unit as declared-unit
-use Rattle.rules.specs.Common.{if_then_else_, ascii, ends, sees, starts, run}
+use Rattle.rules.specs.Common.{if_then_else_, ascii, ends, sees, run}
 use Rattle.rules.specs.NumbersHandedBack as numbers
-use Rattle.rules.specs.NumbersHandedBack.{Outcome, got, refused, _>>=_, position}
+use Rattle.rules.specs.NumbersHandedBack.{refused, position}
 use Rattle.rules.specs.SettingsAndUnitTable.{DIGIT, POINT, is, is-next-duration, holds, Card}
-use Rattle.rules.specs.ReadingOnePart.{says, delimiters, gap, sign-step, fraction-step, number-step, exponent-number, exponent-step, ago-step, unit-found, unit-step, after-conjunction, conjunction-step, closes-infinity, letters-step, infinity-closed, infinity-step, numeral-found, numeral-step, spoken-unit-found, spoken-unit-step, finite, spoken, infinite, infinite-part, finite-part, spoken-part, unsigned-part, part}
+use Rattle.rules.specs.ReadingOnePart.{says, delimiters, gap, sign-step, fraction-step, number-step, exponent-number, exponent-step, ago-step, unit-found, unit-step, after-conjunction, conjunction-step, letters-step, infinity-closed, infinity-step, numeral-found, numeral-step, spoken-unit-found, spoken-unit-step}
 use Rattle.rules.specs.ReadingOnePart as reader
 use Rattle.rules.specs.Evaluation.{part-reading}
 use Rattle.rules.specs.Laws.Choices.{and-both, or-neither, if-then, if-else}
 use Rattle.rules.specs.Laws.Outcomes.{bind-got, bind-refused}
 use Rattle.rules.specs.Laws.Texts.{ends-le, sees-in, sees-end, sees-here, sees-or, sees-shift, run-stop}
+use Rattle.exponent_place.specs.TheWrongDigit.{first-digit}
 use Rattle.handed_back.specs.RefusedWith.{RefusedWith}
-use Rattle.six_slips.specs.TheLettersOfAWord.{letters-all, letters-wrong, letters-short}
-use Rattle.six_slips.specs.TheStepsOfAPart.{Step, Comes, sign, number, exponent, before-unit, unit, infinity, numeral, spoken-unit, connection, begins, to-number, to-infinity, to-numeral, to-exponent, to-gap, to-unit, to-spoken-unit, behind-unit, behind-spoken-unit, behind-inf, behind-infinity}
-use Rattle.six_slips.specs.TheSixSlips.{digit-wanted, LastRun, TextEnds, behind-sign, in-exponent, Conjoins, Takes, after-sign, between-number-and-unit, before-ago, before-spoken-ago, behind-numeral, of-connection, behind-conjunction, DelimitersEnd, ConjunctionSlip, conjunction-ends, conjunction-goes-on, FractionSlip, fractions-off, bare-point, ExponentSlip, exponents-off, no-digit, RightLetters, InfinitySlip, wrong-letter, ends-within, word-goes-on}
+use Rattle.handed_back.specs.AStepRefuses.{due}
+use Rattle.handed_back.specs.TheLettersOfAWord.{letters-all, letters-wrong, letters-short}
+use Rattle.handed_back.specs.TheStepsOfAPart.{Step, Comes, number, connection}
+use Rattle.six_slips.specs.TheSixSlips.{LastRun, TextEnds, behind-sign, in-exponent, Conjoins, Takes, after-sign, between-number-and-unit, before-ago, before-spoken-ago, behind-numeral, of-connection, behind-conjunction, DelimitersEnd, ConjunctionSlip, conjunction-ends, conjunction-goes-on, FractionSlip, fractions-off, bare-point, ExponentSlip, exponents-off, no-digit, RightLetters, InfinitySlip, wrong-letter, ends-within, word-goes-on}
 
 module _ (card : Card) (text : List ℕ) (from : ℕ) where
   abbrev s : Settings
@@ -41,122 +37,16 @@ module _ (card : Card) (text : List ℕ) (from : ℕ) where
   abbrev At : Step → ℕ → Type 0
   At = Comes card text from
 
-  -- ---- infinity as far as its connection
-
-  short-word : (i : ℕ) → closes-infinity s text (i + 3) ≡ true → infinity-step s text i ≡ reader.connection s text (i + 3)
-  unfolding infinity-step
-  short-word i closes = if-then _ _ closes
-
-  long-word : (i : ℕ) → closes-infinity s text (i + 3) ≡ false → says (ascii "inity") text (i + 3) ≡ true → closes-infinity s text (i + 3 + 5) ≡ true → infinity-step s text i ≡ reader.connection s text (i + 3 + 5)
-  unfolding infinity-step infinity-closed says ascii
-  long-word i more said closes =
-      if-else _ _ more ∙ bind-got _ (letters-all i (ascii "inity") (drop (i + 3) text) (i + 3) said) ∙ if-then _ _ closes
-
-  -- ---- what is left of the part at each step, whatever is made of what the steps find
-
-  abbrev connected : (ℕ → Part) → ℕ → Outcome Part
-  connected make p = reader.connection s text p >>= λ next. got (make next)
-
-  abbrev from-unit : (declared-unit.Unit → ℕ → Part) → ℕ → Outcome Part
-  from-unit make p = unit-step card text p >>= λ found. connected (make found) (found .next)
-
-  abbrev from-gap : (declared-unit.Unit → ℕ → Part) → ℕ → Outcome Part
-  from-gap make p = gap (s .«before_unit») s text p >>= λ name. from-unit make name
-
-  abbrev from-exponent : (Scaled → declared-unit.Unit → ℕ → Part) → ℕ → Outcome Part
-  from-exponent make p = exponent-step s text p >>= λ found. from-gap (make found) (found .next)
-
-  abbrev from-spoken-unit : (SpokenUnit → ℕ → Part) → ℕ → Outcome Part
-  from-spoken-unit make p = spoken-unit-step card text p >>= λ found. connected (make found) (found .next)
-
-  abbrev Is : Outcome Part → Type 0
-  Is m = part card text from ≡ m
-
-  Left : Step → ℕ → Type 0
-  Left sign p = Is (sign-step s text p >>= λ signed. unsigned-part card text (signed .negative) (signed .next))
-  Left number p = (negative : Bool) × Is (finite-part card text negative p)
-  Left exponent p = (make : Scaled → declared-unit.Unit → ℕ → Part) × Is (from-exponent make p)
-  Left before-unit p = (make : declared-unit.Unit → ℕ → Part) × Is (from-gap make p)
-  Left unit p = (make : declared-unit.Unit → ℕ → Part) × Is (from-unit make p)
-  Left infinity p = (negative : Bool) × Is (infinite-part s text negative p)
-  Left numeral p = (negative : Bool) × Is (spoken-part card text negative p)
-  Left spoken-unit p = (make : SpokenUnit → ℕ → Part) × Is (from-spoken-unit make p)
-  Left connection p = (make : ℕ → Part) × Is (connected make p)
-
-  left : {step : Step} {p : ℕ} → At step p → Left step p
-  unfolding Left part unsigned-part finite-part infinite-part spoken-part
-  left (begins on) = if-else _ _ on
-  left (to-number {signed = signed} c read starts) = (signed .negative, left c ∙ bind-got _ read ∙ if-then _ _ starts)
-  left (to-infinity {signed = signed} c read none inf) = (signed .negative, left c ∙ bind-got _ read ∙ if-else _ _ none ∙ if-then _ _ inf)
-  left (to-numeral {signed = signed} c read none no-inf) = (signed .negative, left c ∙ bind-got _ read ∙ if-else _ _ none ∙ if-else _ _ no-inf)
-  left (to-exponent {found = found} c read) = let (negative, e) = left c in ((λ scaled unit next. finite negative found scaled unit next), e ∙ bind-got _ read)
-  left (to-gap {found = found} c read) = let (make, e) = left c in (make found, e ∙ bind-got _ read)
-  left (to-unit c read) = let (make, e) = left c in (make, e ∙ bind-got _ read)
-  left (to-spoken-unit {found = found} c read) = let (negative, e) = left c in ((λ unit next. spoken negative found unit next), e ∙ bind-got _ read)
-  left (behind-unit {found = found} c read) = let (make, e) = left c in (make found, e ∙ bind-got _ read)
-  left (behind-spoken-unit {found = found} c read) = let (make, e) = left c in (make found, e ∙ bind-got _ read)
-  left (behind-inf {i = i} c closes) =
-      let (negative, e) = left c in
-      ((λ next. infinite s negative i next), e ∙ ap (λ m. m >>= λ next. got (infinite s negative i next)) (short-word i closes))
-  left (behind-infinity {i = i} c more said closes) =
-      let (negative, e) = left c in
-      ((λ next. infinite s negative i next), e ∙ ap (λ m. m >>= λ next. got (infinite s negative i next)) (long-word i more said closes))
-
-  -- ---- so what a step refuses, the part is refused with
-
   abbrev Due : ℕ → ℕ → Type 0
   Due = RefusedWith (part-reading card text from)
 
   abbrev Refuses : Refusal → Type 0
   Refuses cause = part-reading card text from ≡ refused cause
 
-  read : {cause : Refusal} → part card text from ≡ refused cause → Refuses cause
-  unfolding part-reading
-  read e = bind-refused _ e
-
-  -- what a step finds
-  abbrev Found : Step → Type 0
-  Found sign = Signed
-  Found number = Number
-  Found exponent = Scaled
-  Found before-unit = ℕ
-  Found unit = declared-unit.Unit
-  Found infinity = ℕ
-  Found numeral = Numeral
-  Found spoken-unit = SpokenUnit
-  Found connection = ℕ
-
-  abbrev does : (step : Step) → ℕ → Outcome (Found step)
-  does sign p = sign-step s text p
-  does number p = number-step s text p
-  does exponent p = exponent-step s text p
-  does before-unit p = gap (s .«before_unit») s text p
-  does unit p = unit-step card text p
-  does infinity p = infinity-step s text p
-  does numeral p = numeral-step card text p
-  does spoken-unit p = spoken-unit-step card text p
-  does connection p = reader.connection s text p
-
-  -- the part is the step, and then what is made of what it finds
-  begun : (step : Step) {p : ℕ} → At step p → (next : Found step → Outcome Part) × Is (does step p >>= next)
-  unfolding Left finite-part infinite-part spoken-part
-  begun sign c = (_, left c)
-  begun number c = (_, left c .1)
-  begun exponent c = (_, left c .1)
-  begun before-unit c = (_, left c .1)
-  begun unit c = (_, left c .1)
-  begun infinity c = (_, left c .1)
-  begun numeral c = (_, left c .1)
-  begun spoken-unit c = (_, left c .1)
-  begun connection c = (_, left c .1)
-
-  due : {step : Step} {p : ℕ} {cause : Refusal} → At step p → does step p ≡ refused cause → Refuses cause
-  due {step} c e = read (begun step c .1 ∙ bind-refused _ e)
-
   conjunction-due : {word size : ℕ} {cause : Refusal} → Conjoins card text from word size → after-conjunction s text word (word + size) ≡ refused cause → Refuses cause
   unfolding reader.connection conjunction-step
   conjunction-due {word} {size} c e =
-      due (c .comes)
+      due card text from (c .comes)
       (if-else _ _ (ap not (c .stand))
       ∙ bind-got _ (c .behind)
       ∙ ap (conjunction-step s text word) (c .found)
@@ -169,14 +59,14 @@ module _ (card : Card) (text : List ℕ) (from : ℕ) where
   -- ---- 17
 
   pub text-ends : {q : ℕ} → TextEnds card text from q → Due 17 q
-  unfolding sign-step exponent-step exponent-number digit-wanted numbers.number position
-  text-ends (behind-sign {p = p} c stands end) = given (SignEnds (p + 1)) refl refl (due c (if-else _ _ (ap not stands) ∙ if-then _ _ end))
+  unfolding sign-step exponent-step exponent-number first-digit numbers.number position
+  text-ends (behind-sign {p = p} c stands end) = given (SignEnds (p + 1)) refl refl (due card text from c (if-else _ _ (ap not stands) ∙ if-then _ _ end))
   text-ends (in-exponent {e = e} c letter on end) =
-      given (ExponentEnds (digit-wanted text e)) refl refl
-      (due c
+      given (ExponentEnds (first-digit text e)) refl refl
+      (due card text from c
       (if-else _ _ (ap not letter)
       ∙ if-else _ _ (ap not on)
-      ∙ if-else _ _ (sees-end (is DIGIT) text (digit-wanted text e) (ends-le text (digit-wanted text e) end))
+      ∙ if-else _ _ (sees-end (is DIGIT) text (first-digit text e) (ends-le text (first-digit text e) end))
       ∙ if-then _ _ end))
 
   -- ---- 18
@@ -198,13 +88,13 @@ module _ (card : Card) (text : List ℕ) (from : ℕ) where
   taken-ends : {set : ByteSet} {q : ℕ} → Takes card text from set q → LastRun text set q → Refuses (DelimiterEnds q)
   unfolding sign-step gap unit-step unit-found spoken-unit-step spoken-unit-found numeral-step numeral-found reader.connection after-conjunction
   taken-ends (after-sign c stands on) last =
-      due c (if-else _ _ (ap not stands) ∙ if-else _ _ (goes-on last) ∙ bind-refused _ (if-then _ _ on ∙ run-ends-text last))
-  taken-ends (between-number-and-unit c on) last = due c (if-then _ _ on ∙ run-ends-text last)
-  taken-ends (before-ago {p = p} c found on) last = due c (ap (unit-found s text p) found ∙ ago-ends _ on last)
-  taken-ends (before-spoken-ago {p = p} c found on) last = due c (ap (spoken-unit-found s text p) found ∙ bind-refused _ (ago-ends _ on last))
+      due card text from c (if-else _ _ (ap not stands) ∙ if-else _ _ (goes-on last) ∙ bind-refused _ (if-then _ _ on ∙ run-ends-text last))
+  taken-ends (between-number-and-unit c on) last = due card text from c (if-then _ _ on ∙ run-ends-text last)
+  taken-ends (before-ago {p = p} c found on) last = due card text from c (ap (unit-found s text p) found ∙ ago-ends _ on last)
+  taken-ends (before-spoken-ago {p = p} c found on) last = due card text from c (ap (spoken-unit-found s text p) found ∙ bind-refused _ (ago-ends _ on last))
   taken-ends (behind-numeral {p = p} c found) last =
-      due c (ap (numeral-found card text p) found ∙ if-then _ _ (last .stand) ∙ bind-refused _ (run-ends-text last))
-  taken-ends (of-connection c) last = due c (if-else _ _ (ap not (last .stand)) ∙ bind-refused _ (run-ends-text last))
+      due card text from c (ap (numeral-found card text p) found ∙ if-then _ _ (last .stand) ∙ bind-refused _ (run-ends-text last))
+  taken-ends (of-connection c) last = due card text from c (if-else _ _ (ap not (last .stand)) ∙ bind-refused _ (run-ends-text last))
   taken-ends (behind-conjunction c) last = conjunction-due c (if-else _ _ (goes-on last) ∙ if-then _ _ (last .stand) ∙ run-ends-text last)
 
   pub delimiters-end : {q : ℕ} → DelimitersEnd card text from q → Due 18 q
@@ -235,7 +125,7 @@ module _ (card : Card) (text : List ℕ) (from : ℕ) where
   pub fraction-slip : {q : ℕ} → FractionSlip card text from q → Due 20 q
   unfolding number-step fraction-step numbers.number position
   fraction-slip (fractions-off {p = p} c point off) =
-      given (FractionOff (run (is DIGIT) text p)) refl refl (due c (if-else _ _ (ap not point) ∙ if-then _ _ (ap not off)))
+      given (FractionOff (run (is DIGIT) text p)) refl refl (due card text from c (if-else _ _ (ap not point) ∙ if-then _ _ (ap not off)))
   fraction-slip (bare-point {p = p} c none point after) = go (s .fractions) refl
     where
       here : run (is DIGIT) text p ≡ p
@@ -249,18 +139,18 @@ module _ (card : Card) (text : List ℕ) (from : ℕ) where
 
       go : (on : Bool) → s .fractions ≡ on → Due 20 p
       go true on =
-          given (FractionEmpty (run (is DIGIT) text p)) refl here (due c (if-else _ _ stands ∙ if-else _ _ (ap not on) ∙ if-then _ _ neither))
-      go false off = given (FractionOff (run (is DIGIT) text p)) refl here (due c (if-else _ _ stands ∙ if-then _ _ (ap not off)))
+          given (FractionEmpty (run (is DIGIT) text p)) refl here (due card text from c (if-else _ _ stands ∙ if-else _ _ (ap not on) ∙ if-then _ _ neither))
+      go false off = given (FractionOff (run (is DIGIT) text p)) refl here (due card text from c (if-else _ _ stands ∙ if-then _ _ (ap not off)))
 
   -- ---- 21
 
   pub exponent-slip : {q : ℕ} → ExponentSlip card text from q → Due 21 q
-  unfolding exponent-step exponent-number digit-wanted numbers.number position
-  exponent-slip (exponents-off {e = e} c letter off) = given (ExponentOff e) refl refl (due c (if-else _ _ (ap not letter) ∙ if-then _ _ (ap not off)))
+  unfolding exponent-step exponent-number first-digit numbers.number position
+  exponent-slip (exponents-off {e = e} c letter off) = given (ExponentOff e) refl refl (due card text from c (if-else _ _ (ap not letter) ∙ if-then _ _ (ap not off)))
   exponent-slip (no-digit {e = e} c letter on other) =
-      let (more, none) = other-byte (is DIGIT) (digit-wanted text e) other in
-      given (ExponentByte (digit-wanted text e)) refl refl
-      (due c (if-else _ _ (ap not letter) ∙ if-else _ _ (ap not on) ∙ if-else _ _ none ∙ if-else _ _ more))
+      let (more, none) = other-byte (is DIGIT) (first-digit text e) other in
+      given (ExponentByte (first-digit text e)) refl refl
+      (due card text from c (if-else _ _ (ap not letter) ∙ if-else _ _ (ap not on) ∙ if-else _ _ none ∙ if-else _ _ more))
 
   -- ---- 22
 
@@ -269,7 +159,7 @@ module _ (card : Card) (text : List ℕ) (from : ℕ) where
     within : {cause : Refusal} → letters-step i (right ++ w ∷ rest) (drop (i + 3) text) (i + 3) ≡ refused cause → Refuses cause
     unfolding infinity-step
     within e =
-        due (h .comes)
+        due card text from (h .comes)
         (if-else _ _ (h .more) ∙ bind-refused _ (ap (λ word. letters-step i word (drop (i + 3) text) (i + 3)) (h .word) ∙ e))
 
   pub infinity-slip : {q : ℕ} → InfinitySlip card text from q → Due 22 q
@@ -282,4 +172,4 @@ module _ (card : Card) (text : List ℕ) (from : ℕ) where
       (within h (letters-short i w rest right (drop (i + 3) text) (i + 3) (h .stand) (omega (arith, length-drop (i + 3) text, ends-le text (i + 3 + length right) end))))
   infinity-slip (word-goes-on {i = i} c more said on) =
       given (InfinityGoesOn (i + 3 + 5)) refl refl
-      (due c (if-else _ _ more ∙ bind-got _ (letters-all i (ascii "inity") (drop (i + 3) text) (i + 3) said) ∙ if-else _ _ on))
+      (due card text from c (if-else _ _ more ∙ bind-got _ (letters-all i (ascii "inity") (drop (i + 3) text) (i + 3) said) ∙ if-else _ _ on))

@@ -15,13 +15,15 @@ use Rattle.rules.specs.declared.Refusal.{Refusal}
 use Rattle.rules.specs.declared.Refusal.the-variants.{NoUnit}
 use Rattle.rules.specs.declared.Signed.{Signed}
 use Rattle.rules.specs.Common.{if_then_else_, ascii, all, ends, sees, run}
-use Rattle.rules.specs.NumbersHandedBack.{Outcome, got, refused, _>>=_, number, position}
+use Rattle.rules.specs.NumbersHandedBack as numbers
+use Rattle.rules.specs.NumbersHandedBack.{Outcome, got, refused, _>>=_, position}
 use Rattle.rules.specs.SettingsAndUnitTable.{DIGIT, POINT, is, holds, Card, lookup, row, row-multiplier}
-use Rattle.rules.specs.ReadingOnePart.{says, delimiters, sign-step, ago-step, find-unit, numeral-end, numeral-found, numeral-step, spoken-unit-found, spoken-unit-step, connection, spoken-part, unsigned-part, part}
+use Rattle.rules.specs.ReadingOnePart.{says, delimiters, sign-step, ago-step, find-unit, numeral-end, numeral-found, numeral-step, spoken-unit-found, spoken-unit-step, part}
 use Rattle.rules.specs.Evaluation.{evaluated, part-reading}
-use Rattle.rules.specs.Laws.Choices.{if-else}
-use Rattle.rules.specs.Laws.Outcomes.{All, all-got, all-refused, all-of, all-if, all-bind, bind-got, bind-refused, Refused, not-refused, refused-by, the-cause, refused-map, refused-if, refused-bind}
-use Rattle.rules.specs.Laws.Refusals.{among, By, by-passing, by-one, sign-by, ago-by, connection-by, numeral-by, infinite-by, finite-by, evaluated-by, allowed-by}
+use Rattle.rules.specs.Laws.Outcomes.{All, all-got, all-refused, all-of, all-if, all-bind, Refused, not-refused, refused-by, the-cause, refused-map, refused-bind}
+use Rattle.rules.specs.Laws.Refusals.{among, By, by-passing, by-one, sign-by, number-by, exponent-by, gap-by, unit-by, infinity-by, ago-by, connection-by, numeral-by, evaluated-by, allowed-by}
+use Rattle.handed_back.specs.TheStepsOfAPart.{Step, does, Comes, sign, number, exponent, before-unit, unit, infinity, numeral, spoken-unit, connection, begins, to-numeral, to-spoken-unit}
+use Rattle.handed_back.specs.AStepRefuses.{part-told, due}
 
 -- ---- a numeral without a unit
 
@@ -83,7 +85,7 @@ module _ (card : Card) (text : List ℕ) where
   module _ (place : ℕ) where
     -- why the part is refused: by another number than a spoken one alone has, or by 15
     pub data Why : Refusal → Type 0 where
-      otherwise : {cause : Refusal} → among (15 ∷ 16 ∷ []) (number cause) ≡ false → Why cause
+      otherwise : {cause : Refusal} → among (15 ∷ 16 ∷ []) (numbers.number cause) ≡ false → Why cause
       no-unit : {q : ℕ} → NoUnitAt card text place q → Why (NoUnit q)
 
     others : {A : Type 0} {m : Outcome A} {numbers : List ℕ} → By numbers m → all (λ n. not (among (15 ∷ 16 ∷ []) n)) numbers ≡ true → Refused Why m
@@ -97,36 +99,38 @@ module _ (card : Card) (text : List ℕ) where
         go [] missing = refused-by (no-unit (missing refl))
         go (size ∷ r) missing = refused-bind (ago-step (card .settings) text _ _) (others (ago-by (card .settings) text _ _) refl) (λ unit _. not-refused)
 
-    pub part-why : Refused Why (part card text place)
-    unfolding part unsigned-part spoken-part number among all
-    part-why =
-        refused-if (λ _. refused-by (otherwise refl))
-        (λ not-at-end.
-        refused-bind (sign-step (card .settings) text place) (others (sign-by (card .settings) text place) refl)
-        (λ signed sign.
-        refused-if (λ _. others (finite-by card text (signed .negative) (signed .next)) refl)
-        (λ no-number.
-        refused-if (λ _. others (infinite-by card text (signed .negative) (signed .next)) refl)
-        (λ no-infinity.
-        refused-bind (numeral-step card text (signed .next)) (others (numeral-by card text (signed .next)) refl)
-        (λ numeral read.
+    -- a step to which the reading comes with the unit of a numeral has come there by the numeral
+    no-unit-at : {q : ℕ} → Comes card text place spoken-unit q → find-unit card text q ≡ [] → NoUnitAt card text place q
+    no-unit-at (to-spoken-unit {found = found} (to-numeral {signed = signed} (begins not-at-end) signed-got no-number no-infinity) read) none =
         let (i, _, numeral-at) = all-of (numeral-got (signed .next)) read in
-        refused-bind (spoken-unit-step card text (numeral .next))
-        (unit-why (numeral .next)
-        (λ none.
         record {
           signed = signed;
-          asked = record { not-at-end = not-at-end; sign = sign; no-number = no-number; no-infinity = no-infinity };
+          asked = record { not-at-end = not-at-end; sign = signed-got; no-number = no-number; no-infinity = no-infinity };
           i = i;
           numeral = numeral-at;
           no-unit = none;
-        }))
-        (λ unit _. refused-bind (connection (card .settings) text (unit .next)) (others (connection-by (card .settings) text (unit .next)) refl) (λ next _. not-refused)))))))
+        }
+
+    step-why : (step : Step) (p : ℕ) → Comes card text place step p → Refused Why (does card text step p)
+    unfolding among all
+    step-why spoken-unit p c = unit-why p (no-unit-at c)
+    step-why sign p c = others (sign-by (card .settings) text p) refl
+    step-why number p c = others (number-by (card .settings) text p) refl
+    step-why exponent p c = others (exponent-by (card .settings) text p) refl
+    step-why before-unit p c = others (gap-by (card .settings) text (card .settings .«before_unit») p) refl
+    step-why unit p c = others (unit-by card text p) refl
+    step-why infinity p c = others (infinity-by (card .settings) text p) refl
+    step-why numeral p c = others (numeral-by card text p) refl
+    step-why connection p c = others (connection-by (card .settings) text p) refl
+
+    pub part-why : Refused Why (part card text place)
+    unfolding numbers.number among
+    part-why = part-told card text place step-why (otherwise refl)
 
     -- ---- refused by 15
 
     -- no other step refuses by it
-    pub reading-told : Refused (λ cause. number cause ≡ 15 → (q : ℕ) × (cause ≡ NoUnit q) × NoUnitAt card text place q) (part-reading card text place)
+    pub reading-told : Refused (λ cause. numbers.number cause ≡ 15 → (q : ℕ) × (cause ≡ NoUnit q) × NoUnitAt card text place q) (part-reading card text place)
     unfolding part-reading among
     reading-told =
         refused-bind (part card text place) (refused-map part-why told)
@@ -134,24 +138,19 @@ module _ (card : Card) (text : List ℕ) where
         refused-bind (evaluated text (p .repr)) (refused-map (by-one (evaluated-by text (p .repr))) (λ cause e is. absurd (omega arith)))
         (λ l _. refused-map (by-one (allowed-by (card .settings) place (p .next) l)) (λ cause e is. absurd (omega arith))))
       where
-        told : (cause : Refusal) → Why cause → number cause ≡ 15 → (q : ℕ) × (cause ≡ NoUnit q) × NoUnitAt card text place q
+        told : (cause : Refusal) → Why cause → numbers.number cause ≡ 15 → (q : ℕ) × (cause ≡ NoUnit q) × NoUnitAt card text place q
         told cause (otherwise h) is = absurd (false≢true (sym h ∙ ap (among (15 ∷ 16 ∷ [])) is))
         told cause (no-unit {q = q} missing) is = (q, refl, missing)
 
     -- and the steps do where it is due
     reading-refuses : (q : ℕ) → NoUnitAt card text place q → part-reading card text place ≡ refused (NoUnit q)
-    unfolding part-reading part unsigned-part spoken-part
     reading-refuses q h =
-        bind-refused _
-        (if-else _ _ (h .asked .not-at-end)
-        ∙ bind-got _ (h .asked .sign)
-        ∙ if-else _ _ (h .asked .no-number)
-        ∙ if-else _ _ (h .asked .no-infinity)
-        ∙ bind-got _ (numeral-gets (h .signed .next) (h .i) q (h .numeral))
-        ∙ bind-refused _ (unit-refuses q (h .no-unit)))
+        due card text place
+        (to-spoken-unit (to-numeral (begins (h .asked .not-at-end)) (h .asked .sign) (h .asked .no-number) (h .asked .no-infinity)) (numeral-gets (h .signed .next) (h .i) q (h .numeral)))
+        (unit-refuses q (h .no-unit))
 
     pub no-unit-exactly : (q : ℕ) → (part-reading card text place ≡ refused (NoUnit q)) ↔ NoUnitAt card text place q
-    unfolding number position
+    unfolding numbers.number position
     no-unit-exactly q = (there, reading-refuses q)
       where
         there : part-reading card text place ≡ refused (NoUnit q) → NoUnitAt card text place q

@@ -20,7 +20,7 @@ use Rattle.rules.specs.declared.Settings.{Settings}
 use Rattle.rules.specs.Common.{if_then_else_, ascii, all}
 use Rattle.rules.specs.NumbersHandedBack.{Outcome, _>>_, number, unless}
 use Rattle.rules.specs.SettingsAndUnitTable.{row, lookup, Card, settings-check, rows-check, units-check, table-check, line-check, numerals-check, card-check}
-use Rattle.rules.specs.ReadingOnePart.{delimiters, gap, sign-step, fraction-step, number-step, exponent-passed, exponent-digits, exponent-number, exponent-step, ago-step, find-unit, unit-found, unit-step, numeral-end, numeral-found, numeral-step, spoken-unit-found, spoken-unit-step, after-conjunction, conjunction-step, connection, letters-step, infinity-closed, infinity-step, infinite-part, finite-part}
+use Rattle.rules.specs.ReadingOnePart.{delimiters, gap, sign-step, fraction-step, number-step, exponent-passed, exponent-digits, exponent-number, exponent-step, ago-step, find-unit, unit-found, unit-step, numeral-end, numeral-found, numeral-step, spoken-unit-found, spoken-unit-step, after-conjunction, conjunction-step, connection, letters-step, infinity-closed, infinity-step}
 use Rattle.rules.specs.Evaluation.{multiplied, spoken-multiplier, evaluate-spoken, evaluated, allowed}
 use Rattle.rules.specs.Laws.Choices.{all-first, all-others}
 use Rattle.rules.specs.Laws.Outcomes.{Refused, not-refused, refused-by, refused-map, refused-if, refused-bind, refused-then, refused-unless}
@@ -167,24 +167,6 @@ module _ (card : Card) (text : List ℕ) where
       go : (r : List ℕ) → By (15 ∷ 18 ∷ []) (spoken-unit-found (card .settings) text place r)
       go [] = refused-by (one-of refl)
       go (size ∷ r) = refused-bind (ago-step (card .settings) text _ _) (by-more _ refl (ago-by (card .settings) text _ _)) (λ unit _. not-refused)
-
-  -- ---- a part that is typed
-
-  pub infinite-by : (negative : Bool) (place : ℕ) → By (18 ∷ 19 ∷ 22 ∷ []) (infinite-part (card .settings) text negative place)
-  unfolding infinite-part
-  infinite-by negative place = refused-bind (infinity-step (card .settings) text place) (infinity-by (card .settings) text place) (λ next _. not-refused)
-
-  pub finite-by : (negative : Bool) (place : ℕ) → By (3 ∷ 4 ∷ 17 ∷ 18 ∷ 19 ∷ 20 ∷ 21 ∷ []) (finite-part card text negative place)
-  unfolding finite-part among all
-  finite-by negative place =
-      refused-bind (number-step (card .settings) text place) (by-more _ refl (number-by (card .settings) text place))
-      (λ number _.
-      refused-bind (exponent-step (card .settings) text (number .next)) (by-more _ refl (exponent-by (card .settings) text (number .next)))
-      (λ scaled _.
-      refused-bind (gap (card .settings .«before_unit») (card .settings) text (scaled .next)) (by-more _ refl (gap-by (card .settings) text (card .settings .«before_unit») (scaled .next)))
-      (λ name _.
-      refused-bind (unit-step card text name) (by-more _ refl (unit-by name))
-      (λ unit _. refused-bind (connection (card .settings) text (unit .next)) (by-more _ refl (connection-by (card .settings) text (unit .next))) (λ next _. not-refused)))))
 
 -- ---- what is evaluated
 

@@ -1,16 +1,14 @@
--- What is said of 3 and 4 alone; and no step but 4 refuses by them. Assumes nothing.
-use mathlib.Core.Path.{_≡_, refl, sym, _∙_}
-use mathlib.Core.Bool.{Bool, true, false, not, false≢true}
+-- What is said of 3 and 4 alone: of other numbers nothing has to be shown. Assumes nothing.
+use mathlib.Core.Path.{_≡_, sym, _∙_}
+use mathlib.Core.Bool.{true, false, not, false≢true}
 use mathlib.Core.List.{List}
 use Prim.Native.Nat.{ℕ}
 use borrow.Author.Tests.{not-true}
 use Rattle.rules.specs.declared.Refusal.{Refusal}
 use Rattle.rules.specs.Common.{all}
 use Rattle.rules.specs.NumbersHandedBack.{Outcome, refused, number}
-use Rattle.rules.specs.SettingsAndUnitTable.{Card}
-use Rattle.rules.specs.ReadingOnePart.{numeral-step, spoken-unit-step, connection, spoken-part}
-use Rattle.rules.specs.Laws.Outcomes.{Refused, not-refused, refused-by, refused-map, refused-bind}
-use Rattle.rules.specs.Laws.Refusals.{By, by-passing, numeral-by, spoken-unit-by, connection-by}
+use Rattle.rules.specs.Laws.Outcomes.{Refused, refused-by, refused-map}
+use Rattle.rules.specs.Laws.Refusals.{By, by-passing}
 use Rattle.exponent_place.specs.TheWrongDigit.{out-of-range}
 
 -- X holds of what is refused by 3 or 4
@@ -27,12 +25,3 @@ module _ {A : Type 0} {X : Refusal → Type 0} where
 
   pub by-other : (cause : Refusal) → out-of-range (number cause) ≡ false → Refused {A = A} (IfOutOfRange X) (refused cause)
   by-other cause right = no-other (refused-by right)
-
--- a spoken number has no exponent
-pub spoken-other : {X : Refusal → Type 0} (card : Card) (text : List ℕ) (negative : Bool) (place : ℕ) → Refused (IfOutOfRange X) (spoken-part card text negative place)
-unfolding spoken-part out-of-range all
-spoken-other card text negative place =
-    refused-bind (numeral-step card text place) (other-numbers (numeral-by card text place) refl)
-    (λ numeral _.
-    refused-bind (spoken-unit-step card text (numeral .next)) (other-numbers (spoken-unit-by card text (numeral .next)) refl)
-    (λ unit _. refused-bind (connection (card .settings) text (unit .next)) (other-numbers (connection-by (card .settings) text (unit .next)) refl) (λ next _. not-refused)))

@@ -1,4 +1,5 @@
--- To which places the reading of a part comes with each of its steps, one line for each way from one step to the next. Assumes nothing.
+-- The steps of a part: what each does at a place, and to which places the reading comes with it, one line for each way from one step to the
+-- next. Assumes nothing.
 use mathlib.Core.Path.{_≡_}
 use mathlib.Core.Bool.{true, false, _&&_, _||_}
 use mathlib.Core.List.{List}
@@ -11,9 +12,10 @@ use Rattle.rules.specs.declared.Unit as declared-unit
 use Rattle.rules.specs.declared.Numeral.{Numeral}
 use Rattle.rules.specs.declared.SpokenUnit.{SpokenUnit}
 use Rattle.rules.specs.Common.{ascii, ends, sees}
-use Rattle.rules.specs.NumbersHandedBack.{got}
+use Rattle.rules.specs.NumbersHandedBack.{Outcome, got}
 use Rattle.rules.specs.SettingsAndUnitTable.{DIGIT, POINT, is, Card}
-use Rattle.rules.specs.ReadingOnePart.{says, gap, sign-step, number-step, exponent-step, unit-step, closes-infinity, numeral-step, spoken-unit-step}
+use Rattle.rules.specs.ReadingOnePart.{says, gap, sign-step, number-step, exponent-step, unit-step, closes-infinity, infinity-step, numeral-step, spoken-unit-step}
+use Rattle.rules.specs.ReadingOnePart as reader
 
 -- document 01's steps, infinity and a spoken number among them
 pub data Step : Type 0 where
@@ -26,6 +28,29 @@ pub data Step : Type 0 where
   numeral : Step
   spoken-unit : Step
   connection : Step
+
+-- what a step finds
+abbrev pub Found : Step → Type 0
+Found sign = Signed
+Found number = Number
+Found exponent = Scaled
+Found before-unit = ℕ
+Found unit = declared-unit.Unit
+Found infinity = ℕ
+Found numeral = Numeral
+Found spoken-unit = SpokenUnit
+Found connection = ℕ
+
+abbrev pub does : Card → List ℕ → (step : Step) → ℕ → Outcome (Found step)
+does card text sign p = sign-step (card .settings) text p
+does card text number p = number-step (card .settings) text p
+does card text exponent p = exponent-step (card .settings) text p
+does card text before-unit p = gap (card .settings .«before_unit») (card .settings) text p
+does card text unit p = unit-step card text p
+does card text infinity p = infinity-step (card .settings) text p
+does card text numeral p = numeral-step card text p
+does card text spoken-unit p = spoken-unit-step card text p
+does card text connection p = reader.connection (card .settings) text p
 
 module _ (card : Card) (text : List ℕ) (from : ℕ) where
   abbrev s : Settings
