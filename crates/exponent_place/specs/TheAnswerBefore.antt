@@ -10,7 +10,7 @@ use lib.ListN.{length}
 use Rattle.rules.specs.declared.Answer.{Answer}
 use Rattle.rules.specs.declared.Length.{Length}
 use Rattle.rules.specs.declared.Refusal.{Refusal}
-use Rattle.rules.specs.declared.Refusal.the-variants.{Nothing, SignEnds, DelimiterEnds, FractionOff, FractionEmpty, ExponentOff, ExponentByte, ExponentEnds, ExponentAbove, ExponentBelow, InfinityByte, InfinityEnds, InfinityGoesOn, ConjunctionEnds, ConjunctionGoesOn, NegativeForbidden, NoNumber, NoUnit, OutOfRange, Delimiters, Conjunctions, DefaultKind, TableSize, BadRow, LineSize, BadLineRow, NumeralsSize, BadNumeral, TextTooLong, NoRoom, Beyond, Malformed, NotIso, YearOrMonth, TooLarge}
+use Rattle.rules.specs.declared.Refusal.the-variants.{Nothing, SignEnds, DelimiterEnds, FractionOff, FractionEmpty, ExponentOff, ExponentByte, ExponentEnds, ExponentAbove, ExponentBelow, InfinityByte, InfinityEnds, InfinityGoesOn, ConjunctionEnds, ConjunctionGoesOn, NegativeForbidden, NoNumber, NoUnit, OutOfRange, Delimiters, Conjunctions, DefaultKind, TableSize, BadRow, LineSize, BadLineRow, NumeralsSize, BadNumeral, WrongIndex, WrongLineIndex, TextTooLong, NoRoom, Beyond, Malformed, NotIso, YearOrMonth, TooLarge}
 use Rattle.rules.specs.Common.{if_then_else_, ascii}
 use Rattle.rules.specs.ThePartOfTheCrateWeTake.{longest-text}
 use Rattle.rules.specs.NumbersHandedBack.{number, position, refusal}
@@ -55,6 +55,8 @@ position-before LineSize = 128 + 64
 position-before (BadLineRow i) = 128 + i
 position-before NumeralsSize = 100
 position-before (BadNumeral i) = 68 + i
+position-before (WrongIndex k) = k
+position-before (WrongLineIndex k) = 128 + k
 position-before TextTooLong = longest-text
 position-before (NoRoom p) = p
 position-before (Beyond p) = p
@@ -105,6 +107,8 @@ position-folded LineSize = refl
 position-folded (BadLineRow i) = refl
 position-folded NumeralsSize = refl
 position-folded (BadNumeral i) = refl
+position-folded (WrongIndex k) = refl
+position-folded (WrongLineIndex k) = refl
 position-folded TextTooLong = refl
 position-folded (NoRoom p) = refl
 position-folded (Beyond p) = refl

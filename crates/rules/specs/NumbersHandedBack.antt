@@ -4,7 +4,7 @@ use Prim.Native.Nat.{ℕ, _+_}
 use Rattle.rules.specs.declared.Length.{Length}
 use Rattle.rules.specs.declared.Answer.{Answer}
 use Rattle.rules.specs.declared.Refusal.{Refusal}
-use Rattle.rules.specs.declared.Refusal.the-variants.{Nothing, SignEnds, DelimiterEnds, FractionOff, FractionEmpty, ExponentOff, ExponentByte, ExponentEnds, ExponentAbove, ExponentBelow, InfinityByte, InfinityEnds, InfinityGoesOn, ConjunctionEnds, ConjunctionGoesOn, NegativeForbidden, NoNumber, NoUnit, OutOfRange, Delimiters, Conjunctions, DefaultKind, TableSize, BadRow, LineSize, BadLineRow, NumeralsSize, BadNumeral, TextTooLong, NoRoom, Beyond, Malformed, NotIso, YearOrMonth, TooLarge}
+use Rattle.rules.specs.declared.Refusal.the-variants.{Nothing, SignEnds, DelimiterEnds, FractionOff, FractionEmpty, ExponentOff, ExponentByte, ExponentEnds, ExponentAbove, ExponentBelow, InfinityByte, InfinityEnds, InfinityGoesOn, ConjunctionEnds, ConjunctionGoesOn, NegativeForbidden, NoNumber, NoUnit, OutOfRange, Delimiters, Conjunctions, DefaultKind, TableSize, BadRow, LineSize, BadLineRow, NumeralsSize, BadNumeral, WrongIndex, WrongLineIndex, TextTooLong, NoRoom, Beyond, Malformed, NotIso, YearOrMonth, TooLarge}
 use Rattle.rules.specs.ThePartOfTheCrateWeTake.{longest-text, zero-length}
 
 -- what a step, a check or an entry comes to: something, or a refusal
@@ -56,6 +56,8 @@ number LineSize = 7
 number (BadLineRow i) = 7
 number NumeralsSize = 7
 number (BadNumeral i) = 7
+number (WrongIndex k) = 23
+number (WrongLineIndex k) = 23
 number TextTooLong = 8
 number (NoRoom p) = 9
 number (Beyond p) = 10
@@ -93,6 +95,8 @@ position LineSize = 128 + 64
 position (BadLineRow i) = 128 + i
 position NumeralsSize = 100
 position (BadNumeral i) = 68 + i
+position (WrongIndex k) = k
+position (WrongLineIndex k) = 128 + k
 position TextTooLong = longest-text
 position (NoRoom p) = p
 position (Beyond p) = p

@@ -206,6 +206,9 @@ pub enum Refusal {
     BadLineRow(u8),
     NumeralsSize,
     BadNumeral(u8),
+    // an index beside a table, the hall's and the line's: its first entry that is not the true order's, or the number of rows, if it has another length
+    WrongIndex(u8),
+    WrongLineIndex(u8),
     // the text is longer than a text may be
     TextTooLong,
     // the buffer has no room for the length at this place

@@ -10,7 +10,7 @@ use lib.ListN.{length}
 use Rattle.rules.specs.declared.Answer.{Answer}
 use Rattle.rules.specs.declared.Length.{Length}
 use Rattle.rules.specs.declared.Refusal.{Refusal}
-use Rattle.rules.specs.declared.Refusal.the-variants.{Nothing, SignEnds, DelimiterEnds, FractionOff, FractionEmpty, ExponentOff, ExponentByte, ExponentEnds, ExponentAbove, ExponentBelow, InfinityByte, InfinityEnds, InfinityGoesOn, ConjunctionEnds, ConjunctionGoesOn, NegativeForbidden, NoNumber, NoUnit, OutOfRange, Delimiters, Conjunctions, DefaultKind, TableSize, BadRow, LineSize, BadLineRow, NumeralsSize, BadNumeral, TextTooLong, NoRoom, Beyond, Malformed, NotIso, YearOrMonth, TooLarge}
+use Rattle.rules.specs.declared.Refusal.the-variants.{Nothing, SignEnds, DelimiterEnds, FractionOff, FractionEmpty, ExponentOff, ExponentByte, ExponentEnds, ExponentAbove, ExponentBelow, InfinityByte, InfinityEnds, InfinityGoesOn, ConjunctionEnds, ConjunctionGoesOn, NegativeForbidden, NoNumber, NoUnit, OutOfRange, Delimiters, Conjunctions, DefaultKind, TableSize, BadRow, LineSize, BadLineRow, NumeralsSize, BadNumeral, WrongIndex, WrongLineIndex, TextTooLong, NoRoom, Beyond, Malformed, NotIso, YearOrMonth, TooLarge}
 use Rattle.rules.specs.Common.{if_then_else_, between}
 use Rattle.rules.specs.NumbersHandedBack.{Outcome, got, refused, number, position, done, refusal, answered}
 use Rattle.rules.specs.SettingsAndUnitTable.{Card}
@@ -53,6 +53,8 @@ number-before LineSize = 7
 number-before (BadLineRow i) = 7
 number-before NumeralsSize = 7
 number-before (BadNumeral i) = 7
+number-before (WrongIndex k) = 23
+number-before (WrongLineIndex k) = 23
 number-before TextTooLong = 8
 number-before (NoRoom p) = 9
 number-before (Beyond p) = 10
@@ -113,6 +115,8 @@ number-folded LineSize = (refl, refl)
 number-folded (BadLineRow i) = (refl, refl)
 number-folded NumeralsSize = (refl, refl)
 number-folded (BadNumeral i) = (refl, refl)
+number-folded (WrongIndex k) = (refl, refl)
+number-folded (WrongLineIndex k) = (refl, refl)
 number-folded TextTooLong = (refl, refl)
 number-folded (NoRoom p) = (refl, refl)
 number-folded (Beyond p) = (refl, refl)

@@ -8,7 +8,7 @@ use lib.ListN.{length}
 use Rattle.rules.specs.declared.Length.{Length}
 use Rattle.rules.specs.declared.Answer.{Answer}
 use Rattle.rules.specs.declared.Refusal.{Refusal}
-use Rattle.rules.specs.declared.Refusal.the-variants.{Nothing, SignEnds, DelimiterEnds, FractionOff, FractionEmpty, ExponentOff, ExponentByte, ExponentEnds, ExponentAbove, ExponentBelow, InfinityByte, InfinityEnds, InfinityGoesOn, ConjunctionEnds, ConjunctionGoesOn, NegativeForbidden, NoNumber, NoUnit, OutOfRange, Delimiters, Conjunctions, DefaultKind, TableSize, BadRow, LineSize, BadLineRow, NumeralsSize, BadNumeral, TextTooLong, NoRoom, Beyond, Malformed, NotIso, YearOrMonth, TooLarge}
+use Rattle.rules.specs.declared.Refusal.the-variants.{Nothing, SignEnds, DelimiterEnds, FractionOff, FractionEmpty, ExponentOff, ExponentByte, ExponentEnds, ExponentAbove, ExponentBelow, InfinityByte, InfinityEnds, InfinityGoesOn, ConjunctionEnds, ConjunctionGoesOn, NegativeForbidden, NoNumber, NoUnit, OutOfRange, Delimiters, Conjunctions, DefaultKind, TableSize, BadRow, LineSize, BadLineRow, NumeralsSize, BadNumeral, WrongIndex, WrongLineIndex, TextTooLong, NoRoom, Beyond, Malformed, NotIso, YearOrMonth, TooLarge}
 use Rattle.rules.specs.ThePartOfTheCrateWeTake.{zero-length}
 use Rattle.rules.specs.NumbersHandedBack.{Outcome, got, refused, number, done, refusal, answered}
 use Rattle.rules.specs.SettingsAndUnitTable.{Card}
@@ -46,6 +46,8 @@ refusal-number LineSize e = omega arith
 refusal-number (BadLineRow i) e = omega arith
 refusal-number NumeralsSize e = omega arith
 refusal-number (BadNumeral i) e = omega arith
+refusal-number (WrongIndex k) e = omega arith
+refusal-number (WrongLineIndex k) e = omega arith
 refusal-number TextTooLong e = omega arith
 refusal-number (NoRoom p) e = omega arith
 refusal-number (Beyond p) e = omega arith
