@@ -33,7 +33,7 @@ unfolding if_then_else_
 chosen bad true more e = (refl, e)
 chosen bad false more e = absurd (not-got bad e)
 
-rows-good : (test : ℕ → Bool) (bad : ℕ → Refusal) (n i k : ℕ) → rows-check test bad i n ≡ got tt → k < n → test (i + k) ≡ true
+pub rows-good : (test : ℕ → Bool) (bad : ℕ → Refusal) (n i k : ℕ) → rows-check test bad i n ≡ got tt → k < n → test (i + k) ≡ true
 unfolding rows-check
 rows-good test bad zero i k e below = absurd (omega arith)
 rows-good test bad (suc n) i zero e below = rw add-zero (chosen (bad i) (test i) (rows-check test bad (suc i) n) e .0)
@@ -41,7 +41,7 @@ rows-good test bad (suc n) i (suc k) e below =
     rw (add-suc i k, ← (suc-add i k))
     (rows-good test bad n (suc i) k (chosen (bad i) (test i) (rows-check test bad (suc i) n) e .1) (le-of-suc-le-suc below))
 
-rows-all : (test : ℕ → Bool) (bad : ℕ → Refusal) (n i : ℕ) → ((k : ℕ) → k < n → test (i + k) ≡ true) → rows-check test bad i n ≡ got tt
+pub rows-all : (test : ℕ → Bool) (bad : ℕ → Refusal) (n i : ℕ) → ((k : ℕ) → k < n → test (i + k) ≡ true) → rows-check test bad i n ≡ got tt
 unfolding rows-check if_then_else_
 rows-all test bad zero i each = refl
 rows-all test bad (suc n) i each =
@@ -57,7 +57,7 @@ pub record UnitsGood (s : Settings) (table : List ℕ) : Type 0 where
   pub each : (i : ℕ) → i < rows table → row-accepted s table i ≡ true
 
 module _ (size : Refusal) (bad : ℕ → Refusal) (s : Settings) (table : List ℕ) where
-  units-good : units-check size bad s table ≡ got tt → UnitsGood s table
+  pub units-good : units-check size bad s table ≡ got tt → UnitsGood s table
   unfolding units-check whole-rows
   units-good good =
       let sized = passed size _ _ good .0 in
