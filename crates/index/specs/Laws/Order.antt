@@ -72,7 +72,7 @@ compared (a ∷ more) (b ∷ bs) =
     behind e (comes-after h) = comes-after (before-further b a bs more (sym e) h)
 
 -- what the order says
-module _ {a b : List ℕ} where
+module _ (a b : List ℕ) where
   pub says-before : order a b ≡ Before → before a b ≡ true
   says-before o = go (rw o at (compared a b))
     where

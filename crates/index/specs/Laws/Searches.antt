@@ -186,9 +186,9 @@ module _ (table index wanted : List ℕ) where
         let some : low < high = ltb-true low high e in
         let at : ℕ = middle low high in
         by-either (λ (s : Searched). Probed low high (s .found)) (order wanted (entry-name table index at))
-        (λ o. first-half low high at most (omega arith) (says-before o) (probed n low at (omega arith) (omega arith)))
-        (λ o. found (omega (arith, long, rising .within at (omega (arith, long)))) (sym (says-same o)))
-        (λ o. second-half low high at most (omega arith) (says-after o) (probed n (suc at) high (omega arith) (omega arith))))
+        (λ o. first-half low high at most (omega arith) (says-before _ _ o) (probed n low at (omega arith) (omega arith)))
+        (λ o. found (omega (arith, long, rising .within at (omega (arith, long)))) (sym (says-same _ _ o)))
+        (λ o. second-half low high at most (omega arith) (says-after _ _ o) (probed n (suc at) high (omega arith) (omega arith))))
         (λ e. nowhere (λ k from to is. omega (arith, ltb-false low high e)))
 
   pub index-search-finds : Right table index → index-search table index wanted .found ≡ lookup table wanted
