@@ -22,7 +22,7 @@ pub fn done(position: usize, length: Length) -> Answer
     }
 }
 
-// The position of a bad row of the line's table is its row and this.
+// The position of a bad row of the line's table is its row and this, and that of a wrong entry of its index is its entry and this.
 const FIRST_LINE_ROW: usize = 128;
 
 // The position of a bad numeral is its row and this, behind those of the hall's table and of the settings.
@@ -64,6 +64,8 @@ fn number_and_position(cause: Refusal) -> Numbered
         Refusal::BadLineRow(row) => Numbered(7, FIRST_LINE_ROW + row as usize),
         Refusal::NumeralsSize => Numbered(7, 100),
         Refusal::BadNumeral(row) => Numbered(7, FIRST_NUMERAL + row as usize),
+        Refusal::WrongIndex(entry) => Numbered(23, entry as usize),
+        Refusal::WrongLineIndex(entry) => Numbered(23, FIRST_LINE_ROW + entry as usize),
         Refusal::TextTooLong => Numbered(8, 4_096),
         Refusal::NoRoom(place) => Numbered(9, place),
         Refusal::Beyond(place) => Numbered(10, place),

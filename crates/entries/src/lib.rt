@@ -28,7 +28,7 @@ pub fn read_part<'a>(
 {
     match card_check(settings, hall, line, numerals) {
         Checked::Refused(cause) => refusal(cause),
-        Checked::Accepted => read_part_checked(settings, hall, line, numerals, text, place),
+        Checked::Accepted => read_part_checked(settings, hall, &hall[..0], line, &line[..0], numerals, text, place),
     }
 }
 
@@ -44,7 +44,7 @@ pub fn read_total<'a>(
 {
     match card_check(settings, hall, line, numerals) {
         Checked::Refused(cause) => refusal(cause),
-        Checked::Accepted => read_total_checked(settings, hall, line, numerals, text),
+        Checked::Accepted => read_total_checked(settings, hall, &hall[..0], line, &line[..0], numerals, text),
     }
 }
 
@@ -69,7 +69,7 @@ pub fn shifted_total<'a>(
 {
     match card_check(settings, hall, line, numerals) {
         Checked::Refused(cause) => kept(total, cause),
-        Checked::Accepted => shifted_total_checked(total, settings, hall, line, numerals, text),
+        Checked::Accepted => shifted_total_checked(total, settings, hall, &hall[..0], line, &line[..0], numerals, text),
     }
 }
 

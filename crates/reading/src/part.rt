@@ -31,12 +31,14 @@ fn typed_part<'a>(
     settings: &[u64; 25],
     stops: AsciiSet,
     hall: &'a [u8],
+    hall_index: &[u8],
     line: &'a [u8],
+    line_index: &[u8],
     numerals: &[u8],
     text: &[u8],
     place: usize,
 ) -> PartRead
-    requires { ⌜ CardReady (card-of (now settings) (now hall) (now line) (now numerals)) stops ⌝ }
+    requires { ⌜ CardReady (card-of (now settings) (now hall) (now line) (now numerals)) (now «hall_index») (now «line_index») stops ⌝ }
     ensures { λ r. ⌜ outcomes.part r ≡ codes (now (text .entry)) (typed-part (card-of (now (settings .entry)) (now (hall .entry)) (now (line .entry)) (now (numerals .entry))) (now (text .entry)) place) ⌝ }
 {
     match part_start(settings, text, place) {
@@ -45,7 +47,9 @@ fn typed_part<'a>(
             settings,
             stops,
             hall,
+            hall_index,
             line,
+            line_index,
             numerals,
             text,
             start.negative,
@@ -59,15 +63,17 @@ fn connected_part<'a>(
     settings: &[u64; 25],
     stops: AsciiSet,
     hall: &'a [u8],
+    hall_index: &[u8],
     line: &'a [u8],
+    line_index: &[u8],
     numerals: &[u8],
     text: &[u8],
     place: usize,
 ) -> PartRead
-    requires { ⌜ CardReady (card-of (now settings) (now hall) (now line) (now numerals)) stops ⌝ }
+    requires { ⌜ CardReady (card-of (now settings) (now hall) (now line) (now numerals)) (now «hall_index») (now «line_index») stops ⌝ }
     ensures { λ r. ⌜ outcomes.part r ≡ codes (now (text .entry)) (part (card-of (now (settings .entry)) (now (hall .entry)) (now (line .entry)) (now (numerals .entry))) (now (text .entry)) place) ⌝ }
 {
-    match typed_part(settings, stops, hall, line, numerals, text, place) {
+    match typed_part(settings, stops, hall, hall_index, line, line_index, numerals, text, place) {
         PartRead::Refused(cause) => PartRead::Refused(cause),
         PartRead::Got(typed) => match try_consume_connection(settings, text, typed.next) {
             Next::Refused(cause) => PartRead::Refused(cause),
@@ -100,15 +106,17 @@ pub fn parse_part<'a>(
     settings: &[u64; 25],
     stops: AsciiSet,
     hall: &'a [u8],
+    hall_index: &[u8],
     line: &'a [u8],
+    line_index: &[u8],
     numerals: &[u8],
     text: &[u8],
     place: usize,
 ) -> ReadingRead
-    requires { ⌜ CardReady (card-of (now settings) (now hall) (now line) (now numerals)) stops ⌝ }
+    requires { ⌜ CardReady (card-of (now settings) (now hall) (now line) (now numerals)) (now «hall_index») (now «line_index») stops ⌝ }
     ensures { λ r. ⌜ outcomes.reading r ≡ part-reading (card-of (now (settings .entry)) (now (hall .entry)) (now (line .entry)) (now (numerals .entry))) (now (text .entry)) place ⌝ }
 {
-    match connected_part(settings, stops, hall, line, numerals, text, place) {
+    match connected_part(settings, stops, hall, hall_index, line, line_index, numerals, text, place) {
         PartRead::Refused(cause) => ReadingRead::Refused(cause),
         PartRead::Got(summed) => {
             if summed.out_of_range {

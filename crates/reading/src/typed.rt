@@ -254,18 +254,28 @@ fn unit_part<'a>(
     settings: &[u64; 25],
     stops: AsciiSet,
     hall: &'a [u8],
+    hall_index: &[u8],
     line: &'a [u8],
+    line_index: &[u8],
     numerals: &[u8],
     text: &[u8],
     negative: bool,
     counted: Counted,
 ) -> PartRead
-    requires { ⌜ CardReady (card-of (now settings) (now hall) (now line) (now numerals)) stops ⌝ }
+    requires { ⌜ CardReady (card-of (now settings) (now hall) (now line) (now numerals)) (now «hall_index») (now «line_index») stops ⌝ }
     requires { ⌜ Numbered (now numerals) (counted .numeral) ⌝ }
     ensures { λ r. ⌜ part r ≡ coded-part (card-of (now (settings .entry)) (now (hall .entry)) (now (line .entry)) (now (numerals .entry))) (now (text .entry)) negative counted ⌝ }
 {
     let end = unit_end(stops, text, counted.next);
-    let UnitRead::Found(unit) = parse_time_unit(hall, line, text, counted.next, end) else {
+    let UnitRead::Found(unit) = parse_time_unit(
+        hall,
+        hall_index,
+        line,
+        line_index,
+        text,
+        counted.next,
+        end,
+    ) else {
         return unitless_part(settings, negative, counted);
     };
     match parse_ago(settings, text, end) {
@@ -279,14 +289,16 @@ pub fn unsigned_part<'a>(
     settings: &[u64; 25],
     stops: AsciiSet,
     hall: &'a [u8],
+    hall_index: &[u8],
     line: &'a [u8],
+    line_index: &[u8],
     numerals: &[u8],
     text: &[u8],
     negative: bool,
     class: u8,
     place: usize,
 ) -> PartRead
-    requires { ⌜ CardReady (card-of (now settings) (now hall) (now line) (now numerals)) stops ⌝ }
+    requires { ⌜ CardReady (card-of (now settings) (now hall) (now line) (now numerals)) (now «hall_index») (now «line_index») stops ⌝ }
     requires { ⌜ class ≡ class-at (now text) place ⌝ }
     ensures { λ r. ⌜ part r ≡ codes (now (text .entry)) (typed-unsigned (card-of (now (settings .entry)) (now (hall .entry)) (now (line .entry)) (now (numerals .entry))) (now (text .entry)) negative place) ⌝ }
 {
@@ -312,7 +324,9 @@ pub fn unsigned_part<'a>(
         settings,
         stops,
         hall,
+        hall_index,
         line,
+        line_index,
         numerals,
         text,
         negative,

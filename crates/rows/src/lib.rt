@@ -1,3 +1,2 @@
-// Rows of the unit table: their fields, and lookup by name.
+// Rows of the unit table and their fields; in specs/ what lookup by name finds.
 pub mod fields;
-pub mod lookup;

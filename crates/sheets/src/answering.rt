@@ -40,7 +40,7 @@ pub fn answer_lines<'a>(
         if sheet.len() <= end {
             return Progress { read, printed };
         }
-        let answer = read_total_checked(settings, hall, line, numerals, &sheet[read..end]);
+        let answer = read_total_checked(settings, hall, &hall[..0], line, &line[..0], numerals, &sheet[read..end]);
         let next = put_answer(answer, out, printed);
         if next == printed {
             return Progress { read, printed };

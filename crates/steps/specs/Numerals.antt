@@ -32,8 +32,8 @@ pub record Sayable (numerals : List ℕ) : Type 0 where
   pub lettered : (wanted : List ℕ) → starts (is LETTER) wanted ≡ false → lookup numerals wanted ≡ Nowhere
 
 -- what a part is read under: what its unit is, and numerals
-pub record CardReady (card : Card) (stops : AsciiSet) : Type 0 where
-  pub ready : Ready (card .settings) stops (card .hall) (card .line)
+pub record CardReady (card : Card) (hall-index line-index : List ℕ) (stops : AsciiSet) : Type 0 where
+  pub ready : Ready (card .settings) stops (card .hall) hall-index (card .line) line-index
   pub sayable : Sayable (card .numerals)
 
 -- ---- the step, with the row in place of what it multiplies by

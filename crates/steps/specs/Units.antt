@@ -29,6 +29,7 @@ use Rattle.rows.specs.Named.{Sized}
 use Rattle.rows.specs.Powers.{Fitting}
 use Rattle.rows.specs.Laws.Rows.{row-fitting}
 use Rattle.rows.specs.Laws.Lookup.{found-holds}
+use Rattle.lookup.specs.Searching.{Beside}
 use Rattle.settings.specs.declared.sets.AsciiSet.{AsciiSet}
 use Rattle.settings.specs.Sets.{bytes-of, either, passes}
 use Rattle.settings.specs.Laws.Sets.{runs, either-holds, first-word}
@@ -110,11 +111,12 @@ outside true false e = refl
 outside false true e = refl
 outside false false e = absurd (false≢true e)
 
--- what a part's unit is read under: accepted settings, their stop set, and tables that can be read
-pub record Ready (s : Settings) (stops : AsciiSet) (hall line : List ℕ) : Type 0 where
+-- what a part's unit is read under: accepted settings, their stop set, tables that can be read, and the indexes beside them
+pub record Ready (s : Settings) (stops : AsciiSet) (hall hall-index line line-index : List ℕ) : Type 0 where
   pub accepted : settings-check s ≡ got tt
   pub stopped : bytes-of stops ≡ stops-of s
   pub units : Readable hall × Readable line
+  pub indexes : Beside hall hall-index × Beside line line-index
 
 -- the bytes that do not stop a name are those of the stretch
 pub stretch-ends : (s : Settings) (text : List ℕ) (place : ℕ) → Bytes text → run (passes (stops-of s) false) text place ≡ run (in-stretch s) text place

@@ -8,7 +8,7 @@ ghost use Rattle.steps.specs.Outcomes.{numeral};
 use crate::Next;
 use crate::delimiters::past;
 use crate::delimiters::try_consume_delimiter;
-use rows::lookup::find;
+use lookup::rows_in_order::find;
 use rules::Found;
 use rules::Refusal;
 use settings::sets::inner_delimiters;
@@ -43,7 +43,9 @@ pub fn parse_numeral(
     if text.len() <= end {
         return NumeralRead::Refused(Refusal::NoNumber(place));
     }
-    let Found::Row(row) = find(numerals, &text[place..end]) else {
+    let searched = find(numerals, &text[place..end]);
+    let found = searched.found;
+    let Found::Row(row) = found else {
         return NumeralRead::Refused(Refusal::NoNumber(place));
     };
     match try_consume_delimiter(inner, text, end) {

@@ -10,6 +10,7 @@ ghost use Rattle.rules.specs.SettingsAsWords.{settings-of};
 ghost use Rattle.rules.specs.SettingsAndUnitTable.{settings-check, find-row};
 ghost use Rattle.rules.specs.ReadingOnePart.{in-stretch, closes-unit};
 ghost use Rattle.settings.specs.Sets.{bytes-of};
+ghost use Rattle.lookup.specs.Searching.{Beside};
 ghost use Rattle.steps.specs.Units.{Readable, stops-of, ago-read, unit-read};
 use crate::Next;
 use crate::bytes::is_next_duration;
@@ -17,9 +18,9 @@ use crate::delimiters::is_delimiter;
 use crate::delimiters::past;
 use crate::delimiters::try_consume_delimiter;
 use crate::letters::next_is_ignore_ascii_case;
+use lookup::both_tables::find_row;
 use rows::fields::KIND_AT;
 use rows::fields::row_multiplier;
-use rows::lookup::find_row;
 use rules::Multiplier;
 use rules::Refusal;
 use settings::fields::ago;
@@ -129,30 +130,50 @@ pub fn unit_end(stops: AsciiSet, text: &[u8], place: usize) -> usize
 }
 
 // The row that has the stretch as its name. A number often has no unit, and then no row is asked.
-fn find_unit<'a>(hall: &'a [u8], line: &'a [u8], text: &[u8], place: usize, end: usize) -> &'a [u8]
+fn find_unit<'a>(
+    hall: &'a [u8],
+    hall_index: &[u8],
+    line: &'a [u8],
+    line_index: &[u8],
+    text: &[u8],
+    place: usize,
+    end: usize,
+) -> &'a [u8]
     requires { ⌜ Readable (now hall) × Readable (now line) ⌝ }
+    requires { ⌜ Beside (now hall) (now «hall_index») × Beside (now line) (now «line_index») ⌝ }
     requires { ⌜ (place < end → end ≤ length (now text)) ⌝ }
     ensures { λ r. ⌜ now r ≡ find-row (now (hall .entry)) (now (line .entry)) (slice place end (now (text .entry))) ⌝ }
 {
     if end <= place {
         return &hall[..0];
     }
-    find_row(hall, line, &text[place..end])
+    let mut compared = 0;
+    find_row(
+        hall,
+        hall_index,
+        line,
+        line_index,
+        &text[place..end],
+        &mut compared,
+    )
 }
 
 // The stretch looked up. For a typed number and for a spoken one, so that what is read of most parts is one piece of code.
 pub fn parse_time_unit<'a>(
     hall: &'a [u8],
+    hall_index: &[u8],
     line: &'a [u8],
+    line_index: &[u8],
     text: &[u8],
     place: usize,
     end: usize,
 ) -> UnitRead
     requires { ⌜ Readable (now hall) × Readable (now line) ⌝ }
+    requires { ⌜ Beside (now hall) (now «hall_index») × Beside (now line) (now «line_index») ⌝ }
     requires { ⌜ (place < end → end ≤ length (now text)) ⌝ }
     ensures { λ r. ⌜ r ≡ unit-read (find-row (now (hall .entry)) (now (line .entry)) (slice place end (now (text .entry)))) ⌝ }
 {
-    let row = find_unit(hall, line, text, place, end);
+    let row = find_unit(hall, hall_index, line, line_index, text, place, end);
     if row.len() == 0 {
         return UnitRead::Nowhere;
     }

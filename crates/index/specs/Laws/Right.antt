@@ -86,7 +86,7 @@ module _ (table : List ℕ) where
     -- ---- from right to rising
 
     module _ (right : Right table index) where
-      right-within : (k : ℕ) → k < rows table → entry index k < rows table
+      pub right-within : (k : ℕ) → k < rows table → entry index k < rows table
       unfolding entry-right
       right-within k below = ltb-true _ _ (and-left (ltb (entry index k) (rows table)) _ (right .each k below))
 

@@ -65,10 +65,10 @@ pub connected-part-spec : {M : Type 1} → statement M
 connected-part-spec =
     tie.close
     (tie.spec
-    (λ c κs. c .before .before .before .before .pre)
+    (λ c κs. c .before .before .before .before .before .before .pre)
     (λ c. search needs)
     (λ c. search needs)
-    (λ c κs. c .before .before .before .before .before .before .before .before .pre .ready .accepted)
+    (λ c κs. c .before .before .before .before .before .before .before .before .before .before .pre .ready .accepted)
     (λ c. search needs)
     (λ c. search needs)
     returns

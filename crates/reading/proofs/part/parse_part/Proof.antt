@@ -57,7 +57,7 @@ pub parse-part-spec : {M : Type 1} → statement M
 parse-part-spec =
     tie.close
     (tie.spec
-    (λ c κs. c .before .before .before .before .pre)
+    (λ c κs. c .before .before .before .before .before .before .pre)
     (λ c. search needs)
     (λ c. search needs)
     returns

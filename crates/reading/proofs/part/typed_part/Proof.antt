@@ -13,7 +13,7 @@ use Rattle.reading.proofs.part.typed_part.Tie as tie
 -- the start, as its definition has it
 got-start :
     (c : tie.After-start)
-    → let args = c .before .before .before .before .before .before .before .args in
+    → let args = c .before .before .before .before .before .before .before .before .before .args in
     part-start (settings-of (args .settings .now)) (args .text .now) (args .place) ≡ got (c .start .given .0 .0)
 got-start c = sym (c .before .before .part-start .ensures) ∙ ap started (c .start .given .1)
 
@@ -30,14 +30,14 @@ returns c =
 returns-2 : tie.Need-returns-2
 unfolding typed-part
 returns-2 c =
-    let start = c .before .before .before .before .before .before .before .before .before in
+    let start = c .before .before .before .before .before .before .before .before .before .before .before in
     c .unsigned-part .ensures ∙ ap (codes (start .args .text .now)) (sym (bind-got _ (got-start (c .before .before))))
 
 pub typed-part-spec : {M : Type 1} → statement M
 typed-part-spec =
     tie.close
     (tie.spec
-    (λ c κs. c .before .before .before .before .pre .ready .accepted)
+    (λ c κs. c .before .before .before .before .before .before .pre .ready .accepted)
     (λ c. search needs)
     (λ c. search needs)
     unsigned-part-requires

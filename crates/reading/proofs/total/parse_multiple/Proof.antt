@@ -41,7 +41,7 @@ loop-holds c = (rw (c .zero .ensures) (sym (total-is (card (c .before .before .b
 
 parse-part-requires : tie.Need-parse-part-requires Inv-loop μ-loop
 parse-part-requires c κs =
-    let start = c .before .before .before .before .before .before .before in
+    let start = c .before .before .before .before .before .before .before .before .before in
     record { ready = record { accepted = start .pre .0; stopped = c .before .before .stops .ensures; units = (start .pre .1 .0, start .pre .1 .1) }; sayable = start .pre .1 .2 }
 
 returns : tie.Need-returns Inv-loop μ-loop
@@ -75,7 +75,7 @@ parse-multiple-spec =
     (tie.spec
     Inv-loop
     μ-loop
-    (λ c κs. c .before .before .before .before .pre .0)
+    (λ c κs. c .before .before .before .before .before .before .pre .0)
     (λ c κs. tt)
     loop-holds
     parse-part-requires

@@ -21,35 +21,35 @@ card c = card-of (c .args .settings .now) (c .args .hall .now) (c .args .line .n
 -- the place found is where the stretch ends
 stretch :
     (c : tie.After-unit-end)
-    → let start = c .before .before .before .before .before in
+    → let start = c .before .before .before .before .before .before .before in
     c .unit-end .result ≡ run (in-stretch (settings start)) (start .args .text .now) (start .args .counted .next)
-stretch c = c .unit-end .ensures _ (c .before .before .before .before .before .pre .0 .ready .stopped)
+stretch c = c .unit-end .ensures _ (c .before .before .before .before .before .before .before .pre .0 .ready .stopped)
 
 parse-time-unit-requires : tie.Need-parse-time-unit-requires
-parse-time-unit-requires c κs = (c .before .before .before .before .before .pre .0 .ready .units, stretch-within _ _ _ (stretch c))
+parse-time-unit-requires c κs = (c .before .before .before .before .before .before .before .pre .0 .ready .units, stretch-within _ _ _ (stretch c))
 
 -- what is read of the row that the stretch finds
 found :
     (c : tie.After-parse-time-unit)
-    → let start = c .before .before .before .before .before .before in
+    → let start = c .before .before .before .before .before .before .before .before in
     c .parse-time-unit .result ≡ unit-read (find-unit (card start) (start .args .text .now) (start .args .counted .next))
 unfolding find-unit
 found c =
-    let args = c .before .before .before .before .before .before .args in
+    let args = c .before .before .before .before .before .before .before .before .args in
     c .parse-time-unit .ensures
     ∙ ap (λ end. unit-read (find-row (args .hall .now) (args .line .now) (slice (args .counted .next) end (args .text .now)))) (stretch (c .before))
 
 -- and what follows its name
 followed :
     (c : tie.After-parse-ago)
-    → let start = c .before .before .before .before .before .before .before .before .before .before in
+    → let start = c .before .before .before .before .before .before .before .before .before .before .before .before in
     c .parse-ago .result ≡ ago-read (settings start) (start .args .text .now) (run (in-stretch (settings start)) (start .args .text .now) (start .args .counted .next))
 followed c = c .parse-ago .ensures ∙ ap (ago-read _ _) (stretch (c .before .before .before .before .before))
 
 returns : tie.Need-returns
 unfolding coded-part
 returns c =
-    let start = c .before .before .before .before .before .before .before .before .before in
+    let start = c .before .before .before .before .before .before .before .before .before .before .before in
     c .unitless-part .ensures
     ∙ ap (unit-coded (card start) (start .args .text .now) (start .args .negative) (start .args .counted))
     (sym (c .before .enum-told .given .1) ∙ found (c .before .before .before))
@@ -57,7 +57,7 @@ returns c =
 with-unit-requires : tie.Need-with-unit-requires
 with-unit-requires c κs =
     let asked = c .before .before .before .before .before .before .before in
-    let start = asked .before .before .before .before .before .before in
+    let start = asked .before .before .before .before .before .before .before .before in
     let fits : Fits (asked .parse-time-unit .result) = rw (asked .parse-time-unit .ensures) (found-fits _ _ _ (start .pre .0 .ready .units)) in
     (start .pre .1, rw (c .before .before .before .before .before .unit .given .1) at fits)
 
@@ -66,7 +66,7 @@ unfolding coded-part
 returns-2 c =
     let ago = c .before .before .before in
     let unit = ago .before .before in
-    let start = unit .before .before .before .before .before .before .before .before in
+    let start = unit .before .before .before .before .before .before .before .before .before .before in
     ap (agoed (start .args .numerals .now) (start .args .negative) (start .args .counted) _) (sym (c .before .cause .given .1) ∙ followed ago)
     ∙ ap (unit-coded (card start) (start .args .text .now) (start .args .negative) (start .args .counted)) (sym (unit .unit .given .1) ∙ found (unit .before .before))
 
@@ -75,7 +75,7 @@ unfolding coded-part
 returns-3 c =
     let ago = c .before .before .before .before in
     let unit = ago .before .before in
-    let start = unit .before .before .before .before .before .before .before .before in
+    let start = unit .before .before .before .before .before .before .before .before .before .before in
     c .with-unit .ensures
     ∙ ap (agoed (start .args .numerals .now) (start .args .negative) (start .args .counted) _) (sym (c .before .before .ago .given .1) ∙ followed ago)
     ∙ ap (unit-coded (card start) (start .args .text .now) (start .args .negative) (start .args .counted)) (sym (unit .unit .given .1) ∙ found (unit .before .before))

@@ -126,7 +126,7 @@ pub unsigned-part-spec : {M : Type 1} → statement M
 unsigned-part-spec =
     tie.close
     (tie.spec
-    (λ c κs. c .before .before .before .before .before .pre .0 .ready .accepted)
+    (λ c κs. c .before .before .before .before .before .before .before .pre .0 .ready .accepted)
     (λ c. search needs)
     (λ c. search needs)
     returns
@@ -135,10 +135,10 @@ unsigned-part-spec =
     next-is-ignore-ascii-case-requires
     infinite-part-requires
     returns-2
-    (λ c κs. let pre = c .before .before .before .before .before .before .before .pre in (pre .0 .ready .accepted, pre .0 .sayable))
+    (λ c κs. let pre = c .before .before .before .before .before .before .before .before .before .pre in (pre .0 .ready .accepted, pre .0 .sayable))
     (λ c. search needs)
     (λ c. search needs)
     returns-3
     returns-4
-    (λ c κs. (c .before .before .before .before .before .pre .0, counted c .1))
+    (λ c κs. (c .before .before .before .before .before .before .before .pre .0, counted c .1))
     returns-5)

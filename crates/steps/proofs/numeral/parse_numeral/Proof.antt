@@ -7,6 +7,8 @@ use borrow.Author.Needs.{needs}
 use lib.Seq.{slice}
 use Rattle.rules.specs.SettingsAsWords.{settings-of}
 use Rattle.rules.specs.SettingsAndUnitTable.{lookup}
+use Rattle.index.specs.declared.Searched.{Searched}
+use Rattle.index.specs.Laws.Searches.{row-search-finds}
 use Rattle.steps.specs.Outcomes.{next}
 use Rattle.steps.specs.Units.{stretch-part}
 use Rattle.steps.specs.Numerals.{numerals-none, numeral-from, numeral-ends, numeral-nowhere, delimiter-behind, numeral-refused, numeral-got}
@@ -24,9 +26,10 @@ from c = numeral-from (settings-of (start c .args .settings .now)) (start c .arg
 looked-up :
     (c : tie.After-find)
     → let args = start (c .before .before .before) .args in
-    c .find .result ≡ lookup (args .numerals .now) (slice (args .place) (c .before .before .before .past .result) (args .text .now))
+    c .find .result .found ≡ lookup (args .numerals .now) (slice (args .place) (c .before .before .before .past .result) (args .text .now))
 unfolding start
-looked-up c = c .find .ensures ∙ ap (lookup _) (stretch-part _ _ _ (from (c .before .before .before)))
+looked-up c =
+    ap (λ (s : Searched). s .found) (c .find .ensures) ∙ row-search-finds _ _ ∙ ap (lookup _) (stretch-part _ _ _ (from (c .before .before .before)))
 
 returns : tie.Need-returns
 returns c = numerals-none (settings-of (c .before .before .before .args .settings .now)) _ _ _ (c .if1 .taken)
@@ -75,7 +78,7 @@ returns-4 c =
     let found = row .before .before in
     let ended = found .before .before .before in
     numeral-refused (settings-of (start ended .args .settings .now)) _ _ _ (ended .before .inner-delimiters .ensures) (ended .past .ensures)
-    (looked-up found) (found .before .before .if2 .left) (row .row .given .1)
+    (looked-up found) (found .before .before .if2 .left) (row .found .given .1)
     (sym (asked .try-consume-delimiter .ensures) ∙ ap next (c .before .cause .given .1))
 
 returns-5 : tie.Need-returns-5
@@ -86,7 +89,7 @@ returns-5 c =
     let found = row .before .before in
     let ended = found .before .before .before in
     numeral-got (settings-of (start ended .args .settings .now)) _ _ _ (ended .before .inner-delimiters .ensures) (ended .past .ensures)
-    (looked-up found) (found .before .before .if2 .left) (row .row .given .1)
+    (looked-up found) (found .before .before .if2 .left) (row .found .given .1)
     (sym (asked .try-consume-delimiter .ensures) ∙ ap next (c .before .next .given .1))
 
 pub parse-numeral-spec : {M : Type 1} → statement M

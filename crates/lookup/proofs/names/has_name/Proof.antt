@@ -1,13 +1,13 @@
--- `rows::lookup::has_name` meets its contract: another size, or the bytes decide. Assumes nothing.
+-- `lookup::names::has_name` meets its contract: another size, or the bytes decide. Assumes nothing.
 use mathlib.Core.Path.{_≡_, sym, _∙_}
 use Prim.Native.Nat.{_+_, _-_, _≤_}
 use native.Mathlib.Omega.{arith}
 use lib.ListN.{getD}
 use Rattle.rules.specs.SettingsAndUnitTable.{name-room, name-size, name}
 use Rattle.rows.specs.Laws.Lookup.{other-size}
 use Rattle.rows.specs.Laws.Rows.{name-length}
-use Rattle.rows.proofs.lookup.has_name.Statement.{statement}
-use Rattle.rows.proofs.lookup.has_name.Tie as tie
+use Rattle.lookup.proofs.names.has_name.Statement.{statement}
+use Rattle.lookup.proofs.names.has_name.Tie as tie
 
 cast-size : tie.Need-cast-size
 cast-size c = omega (arith, c .shared-slice-known3 .given 0)

@@ -1,4 +1,4 @@
--- `rows::lookup::same` meets its contract: the bytes from `i` on decide what all of them do. The measure is how many are left.
+-- `lookup::names::same` meets its contract: the bytes from `i` on decide what all of them do. The measure is how many are left.
 -- Assumes nothing.
 use mathlib.Core.Path.{_≡_, refl, ap}
 use Prim.Native.Nat.{_≤_, _-_}
@@ -6,9 +6,9 @@ use native.Mathlib.Omega.{arith}
 use lib.ListN.{length, drop}
 use borrow.Author.Tests.{eq-eqb, ne-eqb}
 use Rattle.rules.specs.Common.{same}
 use Rattle.rows.specs.Laws.Lookup.{not-same, same-from, same-done}
-use Rattle.rows.proofs.lookup.same.Statement.{statement}
-use Rattle.rows.proofs.lookup.same.Tie as tie
+use Rattle.lookup.proofs.names.same.Statement.{statement}
+use Rattle.lookup.proofs.names.same.Tie as tie
 
 abbrev Inv-loop : tie.InvT-loop
 Inv-loop a b i₀ i = (length a ≡ length b) × (i ≤ length a) × (same (drop i a) (drop i b) ≡ same a b)

@@ -1,0 +1,104 @@
+// Lookup over both unit tables: the line's rows win.
+ghost use mathlib.Core.Path.{_≡_};
+ghost use Rattle.rules.specs.SettingsAndUnitTable.{find-row};
+ghost use Rattle.rows.specs.Named.{Sized};
+ghost use Rattle.index.specs.TheSortedIndex.{row-search, compared-in-both};
+ghost use Rattle.lookup.specs.Searching.{Searchable, searched};
+use crate::rows_in_order::find;
+use crate::rows_in_order::row_named;
+use crate::through_index::probe;
+use index::Searched;
+use rows::fields::row_at;
+use rules::Found;
+
+// One table searched through the index beside it, or row by row where that is empty.
+pub fn search(table: &[u8], index: &[u8], wanted: &[u8]) -> Searched
+    requires { ⌜ Searchable (now table) (now index) ⌝ }
+    ensures { λ r. ⌜ r ≡ searched (now (table .entry)) (now (index .entry)) (now (wanted .entry)) ⌝ }
+{
+    if index.len() == 0 {
+        return find(table, wanted);
+    }
+    probe(table, index, wanted)
+}
+
+// Both tables row by row. The line's is searched for a number and the hall's for a row: with one way for both the compiler is left with fewer
+// registers for the rest of a part.
+fn find_in_order<'a>(
+    hall: &'a [u8],
+    line: &'a [u8],
+    name: &[u8],
+    compared: &mut usize,
+) -> &'a [u8]
+    requires { ⌜ Sized (now hall) × Sized (now line) ⌝ }
+    ensures { λ r. ⌜ now r ≡ find-row (now (hall .entry)) (now (line .entry)) (now (name .entry)) ⌝ }
+    ensures { λ r. ⌜ now (compared .exit) ≡ compared-in-both (row-search (now (line .entry)) (now (name .entry))) (row-search (now (hall .entry)) (now (name .entry))) ⌝ }
+{
+    let in_line = find(line, name);
+    let found = in_line.found;
+    match found {
+        Found::Row(i) => {
+            *compared = in_line.compared;
+            row_at(line, i)
+        }
+        Found::Nowhere => {
+            let row = row_named(hall, name, compared);
+            *compared = in_line.compared + *compared;
+            row
+        }
+    }
+}
+
+// Each table by its index, if it has one.
+fn find_by_indexes<'a>(
+    hall: &'a [u8],
+    hall_index: &[u8],
+    line: &'a [u8],
+    line_index: &[u8],
+    name: &[u8],
+    compared: &mut usize,
+) -> &'a [u8]
+    requires { ⌜ Searchable (now hall) (now «hall_index») × Searchable (now line) (now «line_index») ⌝ }
+    ensures { λ r. ⌜ now r ≡ find-row (now (hall .entry)) (now (line .entry)) (now (name .entry)) ⌝ }
+    ensures { λ r. ⌜ now (compared .exit) ≡ compared-in-both (searched (now (line .entry)) (now («line_index» .entry)) (now (name .entry))) (searched (now (hall .entry)) (now («hall_index» .entry)) (now (name .entry))) ⌝ }
+{
+    let in_line = search(line, line_index, name);
+    let at = in_line.found;
+    match at {
+        Found::Row(i) => {
+            *compared = in_line.compared;
+            row_at(line, i)
+        }
+        Found::Nowhere => {
+            let in_hall = search(hall, hall_index, name);
+            *compared = in_line.compared + in_hall.compared;
+            let behind = in_hall.found;
+            match behind {
+                Found::Row(i) => row_at(hall, i),
+                Found::Nowhere => &hall[..0],
+            }
+        }
+    }
+}
+
+// The row of a unit, from whichever table holds it: the line's rows win. An empty part of the hall's, if none does. How many names were compared is
+// left in the lent number. Most cards have no index, and one test tells so of both.
+pub fn find_row<'a>(
+    hall: &'a [u8],
+    hall_index: &[u8],
+    line: &'a [u8],
+    line_index: &[u8],
+    name: &[u8],
+    compared: &mut usize,
+) -> &'a [u8]
+    requires { ⌜ Searchable (now hall) (now «hall_index») × Searchable (now line) (now «line_index») ⌝ }
+    ensures { λ r. ⌜ now r ≡ find-row (now (hall .entry)) (now (line .entry)) (now (name .entry)) ⌝ }
+    ensures { λ r. ⌜ now (compared .exit) ≡ compared-in-both (searched (now (line .entry)) (now («line_index» .entry)) (now (name .entry))) (searched (now (hall .entry)) (now («hall_index» .entry)) (now (name .entry))) ⌝ }
+{
+    if hall_index.len() == 0 {
+        if line_index.len() == 0 {
+            return find_in_order(hall, line, name, compared);
+        }
+    }
+    find_by_indexes(hall, hall_index, line, line_index, name, compared)
+}
