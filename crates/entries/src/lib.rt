@@ -28,7 +28,10 @@ pub fn read_part<'a>(
 {
     match card_check(settings, hall, line, numerals) {
         Checked::Refused(cause) => refusal(cause),
-        Checked::Accepted => read_part_checked(settings, hall, &hall[..0], line, &line[..0], numerals, text, place),
+        Checked::Accepted => {
+            let none = &hall[..0];
+            read_part_checked(settings, hall, none, line, none, numerals, text, place)
+        }
     }
 }
 
@@ -44,7 +47,10 @@ pub fn read_total<'a>(
 {
     match card_check(settings, hall, line, numerals) {
         Checked::Refused(cause) => refusal(cause),
-        Checked::Accepted => read_total_checked(settings, hall, &hall[..0], line, &line[..0], numerals, text),
+        Checked::Accepted => {
+            let none = &hall[..0];
+            read_total_checked(settings, hall, none, line, none, numerals, text)
+        }
     }
 }
 
@@ -69,7 +75,10 @@ pub fn shifted_total<'a>(
 {
     match card_check(settings, hall, line, numerals) {
         Checked::Refused(cause) => kept(total, cause),
-        Checked::Accepted => shifted_total_checked(total, settings, hall, &hall[..0], line, &line[..0], numerals, text),
+        Checked::Accepted => {
+            let none = &hall[..0];
+            shifted_total_checked(total, settings, hall, none, line, none, numerals, text)
+        }
     }
 }
 

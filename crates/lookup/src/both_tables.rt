@@ -24,12 +24,7 @@ pub fn search(table: &[u8], index: &[u8], wanted: &[u8]) -> Searched
 
 // Both tables row by row. The line's is searched for a number and the hall's for a row: with one way for both the compiler is left with fewer
 // registers for the rest of a part.
-fn find_in_order<'a>(
-    hall: &'a [u8],
-    line: &'a [u8],
-    name: &[u8],
-    compared: &mut usize,
-) -> &'a [u8]
+fn find_in_order<'a>(hall: &'a [u8], line: &'a [u8], name: &[u8], compared: &mut usize) -> &'a [u8]
     requires { ⌜ Sized (now hall) × Sized (now line) ⌝ }
     ensures { λ r. ⌜ now r ≡ find-row (now (hall .entry)) (now (line .entry)) (now (name .entry)) ⌝ }
     ensures { λ r. ⌜ now (compared .exit) ≡ compared-in-both (row-search (now (line .entry)) (now (name .entry))) (row-search (now (hall .entry)) (now (name .entry))) ⌝ }

@@ -36,7 +36,17 @@ pub fn read_part_checked<'a>(
     if place > text.len() {
         return refusal(Refusal::Beyond(place));
     }
-    match parse_part(settings, stops(settings), hall, hall_index, line, line_index, numerals, text, place) {
+    match parse_part(
+        settings,
+        stops(settings),
+        hall,
+        hall_index,
+        line,
+        line_index,
+        numerals,
+        text,
+        place,
+    ) {
         ReadingRead::Refused(cause) => refusal(cause),
         ReadingRead::Got(reading) => done(reading.next, reading.length),
     }

@@ -73,7 +73,17 @@ fn connected_part<'a>(
     requires { ⌜ CardReady (card-of (now settings) (now hall) (now line) (now numerals)) (now «hall_index») (now «line_index») stops ⌝ }
     ensures { λ r. ⌜ outcomes.part r ≡ codes (now (text .entry)) (part (card-of (now (settings .entry)) (now (hall .entry)) (now (line .entry)) (now (numerals .entry))) (now (text .entry)) place) ⌝ }
 {
-    match typed_part(settings, stops, hall, hall_index, line, line_index, numerals, text, place) {
+    match typed_part(
+        settings,
+        stops,
+        hall,
+        hall_index,
+        line,
+        line_index,
+        numerals,
+        text,
+        place,
+    ) {
         PartRead::Refused(cause) => PartRead::Refused(cause),
         PartRead::Got(typed) => match try_consume_connection(settings, text, typed.next) {
             Next::Refused(cause) => PartRead::Refused(cause),
@@ -116,7 +126,17 @@ pub fn parse_part<'a>(
     requires { ⌜ CardReady (card-of (now settings) (now hall) (now line) (now numerals)) (now «hall_index») (now «line_index») stops ⌝ }
     ensures { λ r. ⌜ outcomes.reading r ≡ part-reading (card-of (now (settings .entry)) (now (hall .entry)) (now (line .entry)) (now (numerals .entry))) (now (text .entry)) place ⌝ }
 {
-    match connected_part(settings, stops, hall, hall_index, line, line_index, numerals, text, place) {
+    match connected_part(
+        settings,
+        stops,
+        hall,
+        hall_index,
+        line,
+        line_index,
+        numerals,
+        text,
+        place,
+    ) {
         PartRead::Refused(cause) => ReadingRead::Refused(cause),
         PartRead::Got(summed) => {
             if summed.out_of_range {

@@ -33,7 +33,17 @@ pub fn parse_multiple<'a>(
     let mut sum = zero();
     let mut place = 0;
     loop {
-        match parse_part(settings, stops, hall, hall_index, line, line_index, numerals, text, place) {
+        match parse_part(
+            settings,
+            stops,
+            hall,
+            hall_index,
+            line,
+            line_index,
+            numerals,
+            text,
+            place,
+        ) {
             ReadingRead::Refused(cause) => return TotalRead::Refused(cause),
             ReadingRead::Got(reading) => {
                 sum = saturating_add(sum, reading.length);

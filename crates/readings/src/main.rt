@@ -55,16 +55,25 @@ fn read_often<'a>(
 ) -> Answer
     requires { ⌜ card-check (card-of (now settings) (now hall) (now line) (now numerals)) ≡ got tt ⌝ }
 {
-    let mut answer = read_total_checked(settings, hall, &hall[..0], line, &line[..0], numerals, first_bytes(buffer, size));
+    let none = &hall[..0];
+    let mut answer = read_total_checked(
+        settings,
+        hall,
+        none,
+        line,
+        none,
+        numerals,
+        first_bytes(buffer, size),
+    );
     let mut left = rounds;
     while left > 1 {
         let more = (answer.number / 200) as usize;
         answer = read_total_checked(
             settings,
             hall,
-            &hall[..0],
+            none,
             line,
-            &line[..0],
+            none,
             numerals,
             first_bytes(buffer, further(size, more)),
         );

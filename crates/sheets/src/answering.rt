@@ -33,6 +33,7 @@ pub fn answer_lines<'a>(
     ensures { λ r. ⌜ now (out .exit) ≡ laid (now (out .entry)) 0 (sheet-printed (card-of (now (settings .entry)) (now (hall .entry)) (now (line .entry)) (now (numerals .entry))) (take (r .read) (now (sheet .entry)))) ⌝ }
     ensures { λ r. ⌜ (r .read ≤ length (now (sheet .entry))) × (r .printed ≤ length (now (out .exit))) ⌝ }
 {
+    let none = &hall[..0];
     let mut read = 0;
     let mut printed = 0;
     loop {
@@ -40,7 +41,15 @@ pub fn answer_lines<'a>(
         if sheet.len() <= end {
             return Progress { read, printed };
         }
-        let answer = read_total_checked(settings, hall, &hall[..0], line, &line[..0], numerals, &sheet[read..end]);
+        let answer = read_total_checked(
+            settings,
+            hall,
+            none,
+            line,
+            none,
+            numerals,
+            &sheet[read..end],
+        );
         let next = put_answer(answer, out, printed);
         if next == printed {
             return Progress { read, printed };

@@ -1,5 +1,6 @@
 -- `entries::read_part` meets its contract: 7, and then what a checked card gives. Assumes nothing.
-use mathlib.Core.Path.{sym, ap, _∙_}
+use mathlib.Core.Path.{refl, sym, ap, _∙_}
+use mathlib.Core.Logic.{inl}
 use borrow.Author.Needs.{needs}
 use Rattle.settings.specs.Outcomes.{outcome}
 use Rattle.reading.specs.Entries.{part-card}
@@ -20,7 +21,7 @@ enum-told c = search needs
 
 read-part-checked-requires : tie.Need-read-part-checked-requires
 unfolding outcome
-read-part-checked-requires c κs = sym (c .before .before .card-check .ensures) ∙ ap outcome (c .enum-told .given .1)
+read-part-checked-requires c κs = (sym (c .before .before .before .card-check .ensures) ∙ ap outcome (c .before .enum-told .given .1), (inl refl, inl refl))
 
 returns : tie.Need-returns
 unfolding outcome
@@ -39,6 +40,7 @@ read-part-spec =
     enum-known-cause
     refusal-requires
     enum-told
+    (λ c. refl)
     read-part-checked-requires
     returns
     returns-2)

@@ -1,5 +1,6 @@
 -- `entries::read_total` meets its contract: 7, and then what a checked card gives. Assumes nothing.
-use mathlib.Core.Path.{sym, ap, _∙_}
+use mathlib.Core.Path.{refl, sym, ap, _∙_}
+use mathlib.Core.Logic.{inl}
 use borrow.Author.Needs.{needs}
 use Rattle.settings.specs.Outcomes.{outcome}
 use Rattle.reading.specs.Entries.{total-card}
@@ -20,7 +21,7 @@ enum-told c = search needs
 
 read-total-checked-requires : tie.Need-read-total-checked-requires
 unfolding outcome
-read-total-checked-requires c κs = sym (c .before .before .card-check .ensures) ∙ ap outcome (c .enum-told .given .1)
+read-total-checked-requires c κs = (sym (c .before .before .before .card-check .ensures) ∙ ap outcome (c .before .enum-told .given .1), (inl refl, inl refl))
 
 returns : tie.Need-returns
 unfolding outcome
@@ -39,6 +40,7 @@ read-total-spec =
     enum-known-cause
     refusal-requires
     enum-told
+    (λ c. refl)
     read-total-checked-requires
     returns
     returns-2)

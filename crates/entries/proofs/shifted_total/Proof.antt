@@ -1,5 +1,6 @@
 -- `entries::shifted_total` meets its contract: 7, and then what a checked card gives. Assumes nothing.
-use mathlib.Core.Path.{sym, ap, _∙_}
+use mathlib.Core.Path.{refl, sym, ap, _∙_}
+use mathlib.Core.Logic.{inl}
 use borrow.Author.Needs.{needs}
 use Rattle.settings.specs.Outcomes.{outcome}
 use Rattle.reading.specs.Shifts.{card-refuses, kept}
@@ -20,7 +21,7 @@ enum-told c = search needs
 
 shifted-total-checked-requires : tie.Need-shifted-total-checked-requires
 unfolding outcome
-shifted-total-checked-requires c κs = sym (c .before .before .card-check .ensures) ∙ ap outcome (c .enum-told .given .1)
+shifted-total-checked-requires c κs = (sym (c .before .before .before .card-check .ensures) ∙ ap outcome (c .before .enum-told .given .1), (inl refl, inl refl))
 
 returns : tie.Need-returns
 unfolding outcome
@@ -39,6 +40,7 @@ shifted-total-spec =
     enum-known-cause
     kept-requires
     enum-told
+    (λ c. refl)
     shifted-total-checked-requires
     returns
     returns-2)

@@ -149,12 +149,12 @@ at-least test (suc n) (suc m) f places passes = go (at-least test n) (whether f 
         omega (arith, count-grows test n)
     go fewer (stands at h last) =
         let most : m ≤ count test n =
-            fewer m (λ k. f (skip at k))
-            (record {
-              below = λ k less. smaller k less;
-              apart = λ j k less few. places .apart (skip at j) (skip at k) (skip-rises at j k less) (omega (arith, skip-most at k));
-            })
-            (λ k less. passes (skip at k) (omega (arith, skip-most at k)))
+        fewer m (λ k. f (skip at k))
+        (record {
+          below = λ k less. smaller k less;
+          apart = λ j k less few. places .apart (skip at j) (skip at k) (skip-rises at j k less) (omega (arith, skip-most at k));
+        })
+        (λ k less. passes (skip at k) (omega (arith, skip-most at k)))
         in
         omega (arith, count-passed test n (rw (← last) (passes at h)))
       where
@@ -176,7 +176,8 @@ onto f n places v below = go (whether f v n)
     go (stands k h e) = (k, h, e)
     go (missing none) =
         absurd
-        (omega
-        (arith,
-        at-least but n n f places (λ k h. ap not (ne-eqb (f k) v (none k h))),
-        count-misses but n v below (ap not (eq-eqb v v refl))))
+        (omega (
+          arith,
+          at-least but n n f places (λ k h. ap not (ne-eqb (f k) v (none k h))),
+          count-misses but n v below (ap not (eq-eqb v v refl)),
+        ))

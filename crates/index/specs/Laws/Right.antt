@@ -152,14 +152,14 @@ module _ (table : List ℕ) where
           let wanted : List ℕ = entry-name table index k in
           let test : ℕ → Bool = λ i. before (name (row table i)) wanted in
           let some : k ≤ count test (rows table) =
-              at-least test (rows table) k (entry index)
-              (record { below = λ j less. rising-places .below j (omega arith); apart = λ i j less within. rising-places .apart i j less (omega arith) })
-              (λ j less. rising .rises j k less (omega (arith, long)))
+          at-least test (rows table) k (entry index)
+          (record { below = λ j less. rising-places .below j (omega arith); apart = λ i j less within. rising-places .apart i j less (omega arith) })
+          (λ j less. rising .rises j k less (omega (arith, long)))
           in
           let others : rows table - k ≤ count (λ i. not (test i)) (rows table) =
-              at-least (λ i. not (test i)) (rows table) (rows table - k) (λ j. entry index (k + j))
-              (record { below = λ j less. rising-places .below (k + j) (omega arith); apart = λ i j less within. rising-places .apart (k + i) (k + j) (omega arith) (omega arith) })
-              (λ j less. ap not (behind j (omega arith)))
+          at-least (λ i. not (test i)) (rows table) (rows table - k) (λ j. entry index (k + j))
+          (record { below = λ j less. rising-places .below (k + j) (omega arith); apart = λ i j less within. rising-places .apart (k + i) (k + j) (omega arith) (omega arith) })
+          (λ j less. ap not (behind j (omega arith)))
           in
           omega (arith, count-both test (rows table))
         where

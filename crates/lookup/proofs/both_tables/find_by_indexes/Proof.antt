@@ -54,14 +54,15 @@ add-compared c =
     let at-hall = c .before .before in
     let start = at-hall .before .before .before .before .before .before .before .before .before in
     let args = start .args in
-    omega
-    (arith,
-    start .good .0,
-    start .good .1 .1 .0,
-    ap (λ (s : Searched). s .compared) (at-hall .before .before .before .search .ensures),
-    ap (λ (s : Searched). s .compared) (at-hall .search2 .ensures),
-    rows-few _ (searched-most (args .line .now) (args .line-index .now) (args .name .now)),
-    rows-few _ (searched-most (args .hall .now) (args .hall-index .now) (args .name .now)))
+    omega (
+      arith,
+      start .good .0,
+      start .good .1 .1 .0,
+      ap (λ (s : Searched). s .compared) (at-hall .before .before .before .search .ensures),
+      ap (λ (s : Searched). s .compared) (at-hall .search2 .ensures),
+      rows-few _ (searched-most (args .line .now) (args .line-index .now) (args .name .now)),
+      rows-few _ (searched-most (args .hall .now) (args .hall-index .now) (args .name .now)),
+    )
 
 row-at-requires-2 : tie.Need-row-at-requires-2
 row-at-requires-2 c κs = lookup-found _ _ _ (sym (in-hall (c .before .before .before .before .before)) ∙ c .before .behind .given .1) .0

@@ -26,12 +26,13 @@ add-compared : tie.Need-add-compared
 add-compared c =
     let at-find = c .before .before .before .before .before .before in
     let args = at-find .before .before .before .before .args in
-    omega
-    (arith,
-    in-line at-find .1,
-    c .before .before .row-named .ensures .1,
-    rows-few _ (row-search-most (args .line .now) (args .name .now)),
-    rows-few _ (row-search-most (args .hall .now) (args .name .now)))
+    omega (
+      arith,
+      in-line at-find .1,
+      c .before .before .row-named .ensures .1,
+      rows-few _ (row-search-most (args .line .now) (args .name .now)),
+      rows-few _ (row-search-most (args .hall .now) (args .name .now)),
+    )
 
 returns : tie.Need-returns
 returns c =
@@ -47,7 +48,7 @@ returns-2 c =
     let none = c .before .before .before .before .enum-told .given .1 in (
       c .before .before .row-named .ensures .0 ∙ hall-behind _ _ _ (sym (in-line at-find .0) ∙ none),
       ap₂ _+_ (in-line at-find .1) (c .before .before .row-named .ensures .1)
-      ∙ compared-both _ _ (sym (ap (λ (s : Searched). s .found) (at-find .find .ensures)) ∙ none),
+          ∙ compared-both _ _ (sym (ap (λ (s : Searched). s .found) (at-find .find .ensures)) ∙ none),
     )
 
 pub find-in-order-spec : {M : Type 1} → statement M

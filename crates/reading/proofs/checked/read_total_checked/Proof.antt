@@ -13,25 +13,25 @@ abbrev card : tie.Start → Card
 card c = card-of (c .args .settings .now) (c .args .hall .now) (c .args .line .now) (c .args .numerals .now)
 
 returns : tie.Need-returns
-returns c = c .refusal .ensures ∙ total-long (card (c .before .before .before .before .before .before)) _ (c .before .before .before .before .before .before .before .before .pre) (c .before .if1 .taken)
+returns c = c .refusal .ensures ∙ total-long (card (c .before .before .before .before .before .before .before .before)) _ (c .before .before .before .before .before .before .before .before .pre .0) (c .before .if1 .taken)
 
 parse-multiple-requires : tie.Need-parse-multiple-requires
 parse-multiple-requires c κs =
     let start = c .before .before .before .before .before .before .before in
-    (card-settings (card start) (start .pre), (card-readable (card start) (start .pre) .0, card-readable (card start) (start .pre) .1, card-sayable (card start) (start .pre)))
+    (card-settings (card start) (start .pre .0), ((card-readable (card start) (start .pre .0) .0, card-readable (card start) (start .pre .0) .1, card-sayable (card start) (start .pre .0)), start .pre .1))
 
 returns-2 : tie.Need-returns-2
 returns-2 c =
     let short = c .before .before .before .before .before in
     c .refusal2 .ensures
-    ∙ total-refused (card (short .before .before .before .before .before)) _ (short .before .before .before .before .before .before .before .pre) (short .if1 .left)
+    ∙ total-refused (card (short .before .before .before .before .before .before .before)) _ (short .before .before .before .before .before .before .before .pre .0) (short .if1 .left)
     (sym (c .before .before .before .before .parse-multiple .ensures) ∙ ap total (c .before .before .cause .given .1))
 
 returns-3 : tie.Need-returns-3
 returns-3 c =
     let short = c .before .before .before .before .before in
     c .done .ensures
-    ∙ total-got (card (short .before .before .before .before .before)) _ (short .before .before .before .before .before .before .before .pre) (short .if1 .left)
+    ∙ total-got (card (short .before .before .before .before .before .before .before)) _ (short .before .before .before .before .before .before .before .pre .0) (short .if1 .left)
     (sym (c .before .before .before .before .parse-multiple .ensures) ∙ ap total (c .before .before .length .given .1))
 
 pub read-total-checked-spec : {M : Type 1} → statement M

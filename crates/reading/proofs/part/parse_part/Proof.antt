@@ -15,7 +15,7 @@ use Rattle.reading.proofs.part.parse_part.Statement.{statement}
 use Rattle.reading.proofs.part.parse_part.Tie as tie
 
 abbrev start : tie.After-connected-part → tie.Start
-start c = c .before .before .before .before .before
+start c = c .before .before .before .before .before .before .before
 
 abbrev card : tie.Start → Card
 card c = card-of (c .args .settings .now) (c .args .hall .now) (c .args .line .now) (c .args .numerals .now)

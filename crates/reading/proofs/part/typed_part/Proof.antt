@@ -19,7 +19,7 @@ got-start c = sym (c .before .before .part-start .ensures) ∙ ap started (c .st
 
 unsigned-part-requires : tie.Need-unsigned-part-requires
 unsigned-part-requires c κs =
-    let entry = c .before .before .before .before .before .before .before .before in
+    let entry = c .before .before .before .before .before .before .before .before .before .before in
     (entry .pre, start-class (settings-of (entry .args .settings .now)) _ _ (got-start (c .before)))
 
 returns : tie.Need-returns

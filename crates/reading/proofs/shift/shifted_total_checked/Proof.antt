@@ -23,7 +23,7 @@ kept-requires c κs = search needs
 
 returns : tie.Need-returns
 returns c =
-    let laws = kept _ _ _ (malformed-refused _ _ _ (c .before .before .before .before .before .before .before .before .before .pre) (sym (c .before .before .well-formed .ensures) ∙ not-true _ (c .before .if1 .taken))) in
+    let laws = kept _ _ _ (malformed-refused _ _ _ (c .before .before .before .before .before .before .before .before .before .pre .0) (sym (c .before .before .well-formed .ensures) ∙ not-true _ (c .before .if1 .taken))) in
     (c .kept .ensures .0 ∙ laws .0, c .kept .ensures .1 ∙ laws .1)
 
 -- a total that is not refused is well formed
@@ -35,14 +35,14 @@ kept-requires-2 c κs = search needs
 
 returns-2 : tie.Need-returns-2
 returns-2 c =
-    let laws = kept _ _ _ (long-refused _ _ _ (c .before .before .before .before .before .before .before .before .before .before .pre) (proper (c .before .before)) (c .before .if2 .taken)) in
+    let laws = kept _ _ _ (long-refused _ _ _ (c .before .before .before .before .before .before .before .before .before .before .pre .0) (proper (c .before .before)) (c .before .if2 .taken)) in
     (c .kept2 .ensures .0 ∙ laws .0, c .kept2 .ensures .1 ∙ laws .1)
 
 parse-multiple-requires : tie.Need-parse-multiple-requires
 parse-multiple-requires c κs =
     let start = c .before .before .before .before .before .before .before .before .before in
     let card = card-of (start .args .settings .now) (start .args .hall .now) (start .args .line .now) (start .args .numerals .now) in
-    (card-settings card (start .pre), (card-readable card (start .pre) .0, card-readable card (start .pre) .1, card-sayable card (start .pre)))
+    (card-settings card (start .pre .0), ((card-readable card (start .pre .0) .0, card-readable card (start .pre .0) .1, card-sayable card (start .pre .0)), start .pre .1))
 
 enum-known-cause : tie.Need-enum-known-cause
 enum-known-cause c = search needs
@@ -61,12 +61,12 @@ done-requires c κs = search needs
 
 returns-3 : tie.Need-returns-3
 returns-3 c =
-    let laws = kept _ _ _ (total-refused _ _ _ (c .before .before .before .before .before .before .before .before .before .before .before .before .before .before .pre) (proper (c .before .before .before .before .before .before)) (c .before .before .before .before .before .if2 .left) (sym (c .before .before .before .before .parse-multiple .ensures) ∙ ap total (c .before .before .cause .given .1))) in
+    let laws = kept _ _ _ (total-refused _ _ _ (c .before .before .before .before .before .before .before .before .before .before .before .before .before .before .pre .0) (proper (c .before .before .before .before .before .before)) (c .before .before .before .before .before .if2 .left) (sym (c .before .before .before .before .parse-multiple .ensures) ∙ ap total (c .before .before .cause .given .1))) in
     (c .kept3 .ensures .0 ∙ laws .0, c .kept3 .ensures .1 ∙ laws .1)
 
 returns-4 : tie.Need-returns-4
 returns-4 c =
-    let laws = added _ _ _ (total-added _ _ _ (c .before .before .before .before .before .before .before .before .before .before .before .before .before .before .before .pre) (proper (c .before .before .before .before .before .before .before)) (c .before .before .before .before .before .before .if2 .left) (sym (c .before .before .before .before .before .parse-multiple .ensures) ∙ ap total (c .before .before .before .length .given .1))) in
+    let laws = added _ _ _ (total-added _ _ _ (c .before .before .before .before .before .before .before .before .before .before .before .before .before .before .before .pre .0) (proper (c .before .before .before .before .before .before .before)) (c .before .before .before .before .before .before .if2 .left) (sym (c .before .before .before .before .before .parse-multiple .ensures) ∙ ap total (c .before .before .before .length .given .1))) in
     (c .done .ensures ∙ ap (done _) (c .before .saturating-add .ensures) ∙ laws .0, c .before .saturating-add .ensures ∙ laws .1)
 
 pub shifted-total-checked-spec : {M : Type 1} → statement M

@@ -20,11 +20,11 @@ use Rattle.reading.proofs.total.parse_multiple.Statement.{statement}
 use Rattle.reading.proofs.total.parse_multiple.Tie as tie
 
 abbrev Inv-loop : tie.InvT-loop
-Inv-loop settings hall line numerals text stops sum₀ place₀ sum place =
+Inv-loop settings hall hall-index line line-index numerals text stops sum₀ place₀ sum place =
     (total-from (card-of settings hall line numerals) text sum place ≡ total (card-of settings hall line numerals) text) × (well-formed sum ≡ true)
 
 abbrev μ-loop : tie.MeasureT-loop
-μ-loop settings hall line numerals text stops sum₀ place₀ sum place = length text - place
+μ-loop settings hall hall-index line line-index numerals text stops sum₀ place₀ sum place = length text - place
 
 abbrev card : tie.Start Inv-loop μ-loop → Card
 card c = card-of (c .args .settings .now) (c .args .hall .now) (c .args .line .now) (c .args .numerals .now)
@@ -32,39 +32,39 @@ card c = card-of (c .args .settings .now) (c .args .hall .now) (c .args .line .n
 -- the part that was read, as its definition has it
 got-reading :
     (c : tie.After-reading Inv-loop μ-loop)
-    → let s = c .before .before .before .before .before .before .before .before .before .before in
+    → let s = c .before .before .before .before .before .before .before .before .before .before .before .before in
     part-reading (card s) (s .args .text .now) (c .before .before .before .loop .place) ≡ got (c .reading .given .0 .0)
 got-reading c = sym (c .before .before .parse-part .ensures) ∙ ap reading (c .reading .given .1)
 
 loop-holds : tie.Need-loop-holds Inv-loop μ-loop
-loop-holds c = (rw (c .zero .ensures) (sym (total-is (card (c .before .before .before .before .before .before)) _)), rw (c .zero .ensures) zero-well-formed)
+loop-holds c = (rw (c .zero .ensures) (sym (total-is (card (c .before .before .before .before .before .before .before .before)) _)), rw (c .zero .ensures) zero-well-formed)
 
 parse-part-requires : tie.Need-parse-part-requires Inv-loop μ-loop
 parse-part-requires c κs =
     let start = c .before .before .before .before .before .before .before .before .before in
-    record { ready = record { accepted = start .pre .0; stopped = c .before .before .stops .ensures; units = (start .pre .1 .0, start .pre .1 .1) }; sayable = start .pre .1 .2 }
+    record { ready = record { accepted = start .pre .0; stopped = c .before .before .stops .ensures; units = (start .pre .1 .0 .0, start .pre .1 .0 .1); indexes = start .pre .1 .1 }; sayable = start .pre .1 .0 .2 }
 
 returns : tie.Need-returns Inv-loop μ-loop
 returns c =
-    total-refuses (card (c .before .before .before .before .before .before .before .before .before .before .before)) _ _ _ (sym (c .before .before .before .parse-part .ensures) ∙ ap reading (c .before .cause .given .1))
+    total-refuses (card (c .before .before .before .before .before .before .before .before .before .before .before .before .before)) _ _ _ (sym (c .before .before .before .parse-part .ensures) ∙ ap reading (c .before .cause .given .1))
     ∙ c .before .before .before .before .loop .inv .0
 
 saturating-add-requires : tie.Need-saturating-add-requires Inv-loop μ-loop
 saturating-add-requires c κs =
-    (c .before .before .before .before .loop .inv .1, all-of (reading-well-formed (card (c .before .before .before .before .before .before .before .before .before .before .before)) _ _) (got-reading (c .before)))
+    (c .before .before .before .before .loop .inv .1, all-of (reading-well-formed (card (c .before .before .before .before .before .before .before .before .before .before .before .before .before)) _ _) (got-reading (c .before)))
 
 returns-2 : tie.Need-returns-2 Inv-loop μ-loop
 returns-2 c =
-    total-ends (card (c .before .before .before .before .before .before .before .before .before .before .before .before .before .before)) _ _ _ (got-reading (c .before .before .before .before)) (c .before .before .saturating-add .ensures) (c .if1 .taken)
+    total-ends (card (c .before .before .before .before .before .before .before .before .before .before .before .before .before .before .before .before)) _ _ _ (got-reading (c .before .before .before .before)) (c .before .before .saturating-add .ensures) (c .if1 .taken)
     ∙ c .before .before .before .before .before .before .before .loop .inv .0
 
 loop-less : tie.Need-loop-less Inv-loop μ-loop
 loop-less c =
-    omega (arith, c .if1 .left, all-of (reading-beyond (card (c .before .before .before .before .before .before .before .before .before .before .before .before .before .before)) _ _) (got-reading (c .before .before .before .before)) .past)
+    omega (arith, c .if1 .left, all-of (reading-beyond (card (c .before .before .before .before .before .before .before .before .before .before .before .before .before .before .before .before)) _ _) (got-reading (c .before .before .before .before)) .past)
 
 loop-again : tie.Need-loop-again Inv-loop μ-loop
 loop-again c = (
-  total-goes-on (card (c .before .before .before .before .before .before .before .before .before .before .before .before .before .before)) _ _ _ (got-reading (c .before .before .before .before)) (c .before .before .saturating-add .ensures) (c .if1 .left)
+  total-goes-on (card (c .before .before .before .before .before .before .before .before .before .before .before .before .before .before .before .before)) _ _ _ (got-reading (c .before .before .before .before)) (c .before .before .saturating-add .ensures) (c .if1 .left)
       ∙ c .before .before .before .before .before .before .before .loop .inv .0,
   rw (c .before .before .saturating-add .ensures) (sum-well-formed _ _),
 )

@@ -26,7 +26,7 @@ stretch :
 stretch c = c .unit-end .ensures _ (c .before .before .before .before .before .before .before .pre .0 .ready .stopped)
 
 parse-time-unit-requires : tie.Need-parse-time-unit-requires
-parse-time-unit-requires c κs = (c .before .before .before .before .before .before .before .pre .0 .ready .units, stretch-within _ _ _ (stretch c))
+parse-time-unit-requires c κs = (c .before .before .before .before .before .before .before .pre .0 .ready .units, (c .before .before .before .before .before .before .before .pre .0 .ready .indexes, stretch-within _ _ _ (stretch c)))
 
 -- what is read of the row that the stretch finds
 found :

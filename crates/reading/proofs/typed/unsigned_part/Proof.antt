@@ -18,8 +18,8 @@ use Rattle.reading.proofs.typed.unsigned_part.Tie as tie
 
 -- ---- what the class says
 
-abbrev start : tie.After-shared-slice-known4 → tie.Start
-start c = c .before .before .before .before
+abbrev start : tie.After-shared-slice-known6 → tie.Start
+start c = c .before .before .before .before .before .before
 
 abbrev card : tie.Start → Card
 card c = card-of (c .args .settings .now) (c .args .hall .now) (c .args .line .now) (c .args .numerals .now)

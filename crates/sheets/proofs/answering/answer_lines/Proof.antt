@@ -1,5 +1,6 @@
 -- `sheets::answering::answer_lines` meets its contract: at each turn the lines read so far have been answered. Assumes nothing.
-use mathlib.Core.Path.{_≡_, sym, ap, _∙_}
+use mathlib.Core.Path.{_≡_, refl, sym, ap, _∙_}
+use mathlib.Core.Logic.{inl}
 use Prim.Native.Nat.{_-_, _≤_}
 use native.Mathlib.Omega.{arith}
 use borrow.Author.Needs.{needs}
@@ -12,10 +13,10 @@ use Rattle.sheets.proofs.answering.answer_lines.Statement.{statement}
 use Rattle.sheets.proofs.answering.answer_lines.Tie as tie
 
 abbrev Inv-loop : tie.InvT-loop
-Inv-loop settings hall line numerals sheet out₀ read₀ printed₀ out read printed = Answered (card-of settings hall line numerals) sheet out₀ out read printed
+Inv-loop settings hall line numerals sheet out₀ none read₀ printed₀ out read printed = Answered (card-of settings hall line numerals) sheet out₀ out read printed
 
 abbrev μ-loop : tie.MeasureT-loop
-μ-loop settings hall line numerals sheet out₀ read₀ printed₀ out read printed = length sheet - read
+μ-loop settings hall line numerals sheet out₀ none read₀ printed₀ out read printed = length sheet - read
 
 -- ---- what is known on the way
 
@@ -26,7 +27,7 @@ before-end c = rw (c .line-end .ensures) (end-from _ (c .before .loop .read))
 line-answer :
     (c : tie.After-read-total-checked Inv-loop μ-loop)
     → let turn = c .before .before .before .before in
-    let args = turn .before .before .before .before .before .before .args in
+    let args = turn .before .before .before .before .before .before .before .args in
     c .read-total-checked .result ≡ total-answer (card-of (args .settings .now) (args .hall .now) (args .line .now) (args .numerals .now)) (line-at (args .sheet .now) (turn .loop .read))
 line-answer c = rw (c .before .before .before .line-end .ensures) at (c .read-total-checked .ensures)
 
@@ -34,7 +35,7 @@ line-answer c = rw (c .before .before .before .line-end .ensures) at (c .read-to
 no-more :
     (c : tie.Then2 Inv-loop μ-loop)
     → let turn = c .before .before .before .before .before .before .before .before .before in
-    let args = turn .before .before .before .before .before .before .args in
+    let args = turn .before .before .before .before .before .before .before .args in
     (record { read = turn .loop .read; printed = turn .loop .printed } ≡ answered-to (card-of (args .settings .now) (args .hall .now) (args .line .now) (args .numerals .now)) (args .sheet .now) (length (args .out .now)))
     × (turn .loop .out ≡ c .before .before .before .put-answer .last .1 .0)
 no-more c =
@@ -72,7 +73,7 @@ part-read-total-checked-end : tie.Need-part-read-total-checked-end Inv-loop μ-l
 part-read-total-checked-end c = search needs
 
 read-total-checked-requires : tie.Need-read-total-checked-requires Inv-loop μ-loop
-read-total-checked-requires c κs = search needs
+read-total-checked-requires c κs = (c .before .before .before .before .before .before .before .before .before .before .pre, (inl refl, inl refl))
 
 put-answer-requires : tie.Need-put-answer-requires Inv-loop μ-loop
 put-answer-requires c κs = search needs
@@ -109,6 +110,7 @@ answer-lines-spec =
     (tie.spec
     Inv-loop
     μ-loop
+    (λ c. refl)
     loop-holds
     line-end-requires
     same-length
