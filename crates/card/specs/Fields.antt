@@ -3,12 +3,13 @@ use mathlib.Core.Bool.{Bool, true, false, not, _&&_}
 use mathlib.Core.List.{List}
 use Prim.Native.Nat.{ℕ}
 use lib.Dec.{eqb}
+use lib.ListN.{drop}
 use Rattle.rules.specs.declared.ByteSet.{ByteSet}
 use Rattle.rules.specs.declared.Settings.{Settings}
 use Rattle.rules.specs.declared.Refusal.{Refusal}
 use Rattle.rules.specs.Common.{between, all}
 use Rattle.rules.specs.NumbersHandedBack.{Outcome, got, refused, _>>_, unless}
-use Rattle.rules.specs.SettingsAndUnitTable.{last-kind, second-kind, name-room, row, name-size, name, after-name, kind, led-by-e, row-formed, rows, whole-rows, rows-check}
+use Rattle.rules.specs.SettingsAndUnitTable.{last-kind, second-kind, name-room, zeros-at, row, name-size, name, after-name, kind, product, in-range, led-by-e, row-formed, rows, whole-rows, rows-check}
 use Rattle.settings.specs.Sets.{bytes-of, either, passes}
 use Rattle.card.specs.declared.table.Further.{Further}
 use Rattle.card.specs.declared.table.Further.the-variants.{Nothing, NotLedByE, AsciiSeconds}
@@ -42,6 +43,15 @@ asked-further Nothing r = true
 asked-further NotLedByE r = not (led-by-e (name r))
 asked-further AsciiSeconds r = eqb (kind r) second-kind && all (between 0 127) (name r)
 
+-- all of it that a row has by itself
+unfoldable pub alone : RowRule → List ℕ → Bool
+alone rule r =
+    padded r
+    && (between 0 last-kind (kind r)
+    && (all (eqb 0) (drop zeros-at r)
+    && (all (passes (bytes-of (rule .set)) false) (name r) && (in-range (product r) && asked-further (rule .further) r))))
+
+-- and no earlier row has its name
 unfoldable pub ruled : RowRule → List ℕ → ℕ → Bool
 ruled rule table i =
     row-formed (between 0 last-kind) (passes (bytes-of (rule .set)) false) table i && asked-further (rule .further) (row table i)

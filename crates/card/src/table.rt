@@ -13,7 +13,7 @@ ghost use Rattle.rules.specs.SettingsAndUnitTable.{last-kind, settings-check, r
 ghost use Rattle.settings.specs.Outcomes.{outcome};
 ghost use Rattle.rules.specs.Laws.Lists.{Bytes};
 ghost use Rattle.settings.specs.Sets.{bytes-of, passes};
-ghost use Rattle.card.specs.Fields.{padded, unnameable, asked-further, ruled, said, tabled};
+ghost use Rattle.card.specs.Fields.{padded, unnameable, asked-further, alone, ruled, said, tabled};
 ghost use Rattle.card.specs.Laws.Table.{first-bad};
 use rows::fields::KIND_AT;
 use rows::fields::NAME_AT;
@@ -129,7 +129,7 @@ fn name_accepted(set: AsciiSet, name: &[u8]) -> bool
 }
 
 // Whether two rows have one name. Both have zeros after it, so that the size and the name's whole room decide, a word at a time.
-fn same_name(row: &[u8], other: &[u8]) -> bool
+pub fn same_name(row: &[u8], other: &[u8]) -> bool
     requires { ⌜ (length (now row) ≡ row-size) × (padded (now row) ≡ true) ⌝ }
     requires { ⌜ (length (now other) ≡ row-size) × (padded (now other) ≡ true) ⌝ }
     ensures { λ r. ⌜ r ≡ same (name (now (row .entry))) (name (now (other .entry))) ⌝ }
@@ -158,31 +158,6 @@ fn named_before(table: &[u8], i: usize) -> bool
         earlier += 1;
     }
     false
-}
-
-// The form of a row: what both tables ask.
-fn row_formed(rule: RowRule, table: &[u8], i: usize) -> bool
-    requires { ⌜ i < rows (now table) ⌝ }
-    requires { ⌜ ((j : ℕ) → j < i → padded (row (now table) j) ≡ true) ⌝ }
-    ensures { λ r. ⌜ r ≡ row-formed (between 0 last-kind) (passes (bytes-of (rule .set)) false) (now (table .entry)) i ⌝ }
-{
-    let own = row_at(table, i);
-    if !padded(own) {
-        return false;
-    }
-    if own[KIND_AT] > LAST_KIND {
-        return false;
-    }
-    if !zeros(own) {
-        return false;
-    }
-    if !name_accepted(rule.set, name_of(own)) {
-        return false;
-    }
-    if named_before(table, i) {
-        return false;
-    }
-    product_in_range(own)
 }
 
 // Whether something can stand between a number and a name led by `e`, so that the `e` begins no exponent: an exponent, or a
@@ -233,20 +208,43 @@ fn ascii_seconds(row: &[u8]) -> bool
     ascii_name(name_of(row))
 }
 
-fn row_accepted(rule: RowRule, table: &[u8], i: usize) -> bool
-    requires { ⌜ i < rows (now table) ⌝ }
-    requires { ⌜ ((j : ℕ) → j < i → padded (row (now table) j) ≡ true) ⌝ }
-    ensures { λ r. ⌜ r ≡ ruled rule (now (table .entry)) i ⌝ }
+// All that is asked of a row by itself; what is left is that no earlier row has its name.
+pub fn row_alone(rule: RowRule, row: &[u8]) -> bool
+    requires { ⌜ length (now row) ≡ row-size ⌝ }
+    ensures { λ r. ⌜ r ≡ alone rule (now (row .entry)) ⌝ }
 {
-    if !row_formed(rule, table, i) {
+    if !padded(row) {
+        return false;
+    }
+    if row[KIND_AT] > LAST_KIND {
+        return false;
+    }
+    if !zeros(row) {
+        return false;
+    }
+    if !name_accepted(rule.set, name_of(row)) {
+        return false;
+    }
+    if !product_in_range(row) {
         return false;
     }
     let further = rule.further;
     match further {
         Further::Nothing => true,
-        Further::NotLedByE => !led_by_e(row_at(table, i)),
-        Further::AsciiSeconds => ascii_seconds(row_at(table, i)),
+        Further::NotLedByE => !led_by_e(row),
+        Further::AsciiSeconds => ascii_seconds(row),
     }
+}
+
+fn row_accepted(rule: RowRule, table: &[u8], i: usize) -> bool
+    requires { ⌜ i < rows (now table) ⌝ }
+    requires { ⌜ ((j : ℕ) → j < i → padded (row (now table) j) ≡ true) ⌝ }
+    ensures { λ r. ⌜ r ≡ ruled rule (now (table .entry)) i ⌝ }
+{
+    if !row_alone(rule, row_at(table, i)) {
+        return false;
+    }
+    !named_before(table, i)
 }
 
 // The first row that is not accepted, or how many rows there are.
@@ -291,7 +289,7 @@ fn rows_found(most: usize, rule: RowRule, table: &[u8]) -> RowsFound
 }
 
 // What is asked of a row of units.
-fn unit_rule(settings: &[u64; 25]) -> RowRule
+pub fn unit_rule(settings: &[u64; 25]) -> RowRule
     requires { ⌜ settings-check (settings-of (now settings)) ≡ got tt ⌝ }
     ensures { λ r. ⌜ ((table : List ℕ) → Bytes table → (i : ℕ) → ruled r table i ≡ row-accepted (settings-of (now (settings .entry))) table i) ⌝ }
 {
@@ -306,7 +304,7 @@ fn unit_rule(settings: &[u64; 25]) -> RowRule
 }
 
 // The hall's table, under accepted settings.
-fn table_check(settings: &[u64; 25], hall: &[u8]) -> Checked
+pub fn table_check(settings: &[u64; 25], hall: &[u8]) -> Checked
     requires { ⌜ settings-check (settings-of (now settings)) ≡ got tt ⌝ }
     ensures { λ r. ⌜ outcome r ≡ table-check (settings-of (now (settings .entry))) (now (hall .entry)) ⌝ }
 {
@@ -346,7 +344,7 @@ fn numeral_rule() -> RowRule
 }
 
 // The numeral table, which most cards are without too.
-fn numerals_check(numerals: &[u8]) -> Checked
+pub fn numerals_check(numerals: &[u8]) -> Checked
     ensures { λ r. ⌜ outcome r ≡ numerals-check (now (numerals .entry)) ⌝ }
 {
     if numerals.len() == 0 {

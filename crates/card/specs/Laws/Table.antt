@@ -17,12 +17,12 @@ use Rattle.rules.specs.NumbersHandedBack.{got, refused, _>>_, unless}
 use Rattle.rules.specs.SettingsAndUnitTable.{last-kind, second-kind, zeros-at, row-size, rows, row, name, kind, may-name, named, product, in-range, led-by-e, e-may-lead, can-be-typed, row-formed, row-right, row-accepted, numeral-accepted, whole-rows, rows-check}
 use Rattle.rules.specs.Laws.Choices.{and-left, and-right}
 use Rattle.rules.specs.Laws.Lists.{Bytes}
-use Rattle.rules.specs.Laws.Tests.{and-assoc, and-false, or-true, or-false, same-test, between-from, between-to, between-in}
+use Rattle.rules.specs.Laws.Tests.{and-assoc, and-true, and-false, or-true, or-false, same-test, between-from, between-to, between-in}
 use Rattle.words.specs.LowFirst.{bytes-part}
-use Rattle.settings.specs.Sets.{bytes-of}
+use Rattle.settings.specs.Sets.{bytes-of, passes}
 use Rattle.card.specs.declared.table.Further.the-variants.{Nothing, NotLedByE, AsciiSeconds}
 use Rattle.card.specs.declared.table.RowRule.{RowRule}
-use Rattle.card.specs.Fields.{padded, unnameable, no-letters, asked-further, ruled, tabled}
+use Rattle.card.specs.Fields.{padded, unnameable, no-letters, asked-further, alone, ruled, tabled}
 use Rattle.card.specs.Laws.Names.{names-alike}
 use Rattle.card.specs.Laws.Unnameable.{outside-names, outside-letters}
 
@@ -239,6 +239,26 @@ module _ (s : Settings) (table : List ℕ) (i : ℕ) (good : row-right s table i
   right-in-range = formed-in-range _ _ table i good
 
 -- ---- rules
+
+-- what a row has by itself, and that no earlier one has its name
+pub ruled-alone : (rule : RowRule) (table : List ℕ) (i : ℕ) → ruled rule table i ≡ (alone rule (row table i) && not (named table (name (row table i)) i))
+unfolding ruled alone
+ruled-alone rule table i =
+    let r : List ℕ = row table i in
+    rw (formed-parts (between 0 last-kind) (passes (bytes-of (rule .set)) false) table i)
+    (go (padded r) (between 0 last-kind (kind r)) (all (eqb 0) (drop zeros-at r)) (all (passes (bytes-of (rule .set)) false) (name r)) (not (named table (name r) i)) (in-range (product r)) (asked-further (rule .further) r))
+  where
+    go : (p k z n u m f : Bool) → ((p && (k && (z && (n && (u && m))))) && f) ≡ ((p && (k && (z && (n && (m && f))))) && u)
+    go false k z n u m f = refl
+    go true false z n u m f = refl
+    go true true false n u m f = refl
+    go true true true false u m f = refl
+    go true true true true false m f = sym (and-false (m && f))
+    go true true true true true m f = sym (and-true (m && f))
+
+pub alone-padded : (rule : RowRule) (r : List ℕ) → alone rule r ≡ true → padded r ≡ true
+unfolding alone
+alone-padded rule r good = and-left _ _ good
 
 pub ruled-padded : (rule : RowRule) (table : List ℕ) (i : ℕ) → ruled rule table i ≡ true → padded (row table i) ≡ true
 unfolding ruled

@@ -1,67 +1,46 @@
--- `card::table::row_accepted` meets its contract: the form of the row, and then what is asked further. Assumes nothing.
+-- `card::table::row_accepted` meets its contract: the row by itself, and then the names before it. Assumes nothing.
 use mathlib.Core.Path.{_≡_, sym, ap, _∙_}
-use mathlib.Core.Bool.{true, false}
+use mathlib.Core.Bool.{true}
+use native.Mathlib.Omega.{arith}
 use lib.ListN.{length}
+use borrow.Author.Count.{below-more}
 use borrow.Author.Tests.{not-true, not-false}
 use borrow.Author.Needs.{needs}
-use Rattle.rules.specs.Common.{between}
-use Rattle.rules.specs.SettingsAndUnitTable.{last-kind, row-formed}
-use Rattle.settings.specs.Sets.{bytes-of, passes}
+use Rattle.rules.specs.SettingsAndUnitTable.{row}
+use Rattle.rules.specs.Laws.Choices.{and-left}
 use Rattle.rows.specs.Laws.Rows.{length-row}
-use Rattle.card.specs.Fields.{asked-further, ruled}
-use Rattle.card.specs.Laws.Table.{formed-padded}
+use Rattle.card.specs.Fields.{padded, alone}
+use Rattle.card.specs.Laws.Table.{ruled-alone, alone-padded}
 use Rattle.card.proofs.table.row_accepted.Statement.{statement}
 use Rattle.card.proofs.table.row_accepted.Tie as tie
 
--- the row has its form
-formed :
-    (c : tie.Else1)
+-- what was asked of the row by itself
+asked :
+    (c : tie.After-row-alone)
     → let args = c .before .before .before .args in
-    row-formed (between 0 last-kind) (passes (bytes-of (args .rule .set)) false) (args .table .now) (args .i) ≡ true
-formed c = sym (c .before .row-formed .ensures) ∙ not-false (c .before .row-formed .result) (c .if1 .left)
+    c .row-alone .result ≡ alone (args .rule) (row (args .table .now) (args .i))
+asked c = c .row-alone .ensures ∙ ap (alone _) (c .before .row-at .ensures)
+
+good : (c : tie.Else1) → let args = c .before .before .before .before .args in alone (args .rule) (row (args .table .now) (args .i)) ≡ true
+good c = sym (asked (c .before)) ∙ not-false (c .before .row-alone .result) (c .if1 .left)
+
+row-alone-requires : tie.Need-row-alone-requires
+row-alone-requires c κs = ap length (c .row-at .ensures) ∙ length-row _ _ (c .before .before .pre .0)
 
 returns : tie.Need-returns
-unfolding ruled
-returns c = rw (← (c .before .row-formed .ensures), not-true (c .before .row-formed .result) (c .if1 .taken))
+returns c =
+    let args = c .before .before .before .before .args in
+    rw (ruled-alone (args .rule) (args .table .now) (args .i), ← (asked (c .before)), not-true (c .before .row-alone .result) (c .if1 .taken))
 
-led-by-e-requires : tie.Need-led-by-e-requires
-led-by-e-requires c κs =
-    let at-form = c .before .before .before in
-    let start = at-form .before .before .before in (
-      ap length (c .row-at .ensures) ∙ length-row (start .args .table .now) (start .args .i) (start .pre .0),
-      rw (c .row-at .ensures) (formed-padded _ _ (start .args .table .now) (start .args .i) (formed at-form)),
-    )
-
-ascii-seconds-requires : tie.Need-ascii-seconds-requires
-ascii-seconds-requires c κs =
-    let start = c .before .before .before .before .before .before in
-    ap length (c .row-at2 .ensures) ∙ length-row (start .args .table .now) (start .args .i) (start .pre .0)
+named-before-requires : tie.Need-named-before-requires
+named-before-requires c κs =
+    let start = c .before .before .before .before in
+    (start .pre .0, λ j h. below-more _ (start .args .i) (start .pre .1) (alone-padded _ _ (good c)) j (omega arith))
 
 returns-2 : tie.Need-returns-2
-unfolding ruled asked-further
-returns-2 c = rw (formed (c .before .before), c .enum-told .given .1)
-
-returns-3 : tie.Need-returns-3
-unfolding ruled asked-further
-returns-3 c = rw (formed (c .before .before .before .before), c .before .before .enum-told2 .given .1, c .led-by-e .ensures, c .before .row-at .ensures)
-
-returns-4 : tie.Need-returns-4
-unfolding ruled
-returns-4 c = rw (formed (c .before .before .before .before), c .before .before .enum-told3 .given .1, ← (c .before .row-at2 .ensures)) (c .ascii-seconds .ensures)
+returns-2 c =
+    let args = c .before .before .before .before .before .args in
+    rw (ruled-alone (args .rule) (args .table .now) (args .i), good (c .before), c .named-before .ensures)
 
 pub row-accepted-spec : {M : Type 1} → statement M
-row-accepted-spec =
-    tie.close
-    (tie.spec
-    (λ c κs. c .before .pre)
-    returns
-    (λ c. search needs)
-    (λ c. search needs)
-    (λ c κs. c .before .before .before .before .before .pre .0)
-    led-by-e-requires
-    (λ c. search needs)
-    (λ c κs. c .before .before .before .before .before .pre .0)
-    ascii-seconds-requires
-    returns-2
-    returns-3
-    returns-4)
+row-accepted-spec = tie.close (tie.spec (λ c κs. search needs) row-alone-requires returns named-before-requires returns-2)

@@ -1,0 +1,98 @@
+// A table and its index told right in one pass: each row by itself, then names that rise along the index. Names that rise are different, so no name
+// is held against all others. Where this says no, the whole check decides what is refused.
+ghost use mathlib.Core.Path.{_≡_};
+ghost use mathlib.Core.Bool.{true};
+ghost use lib.ListN.{length};
+ghost use Prim.Native.Nat.{ℕ, _<_};
+ghost use Rattle.rules.specs.NumbersHandedBack.{got};
+ghost use Rattle.rules.specs.SettingsAsWords.{settings-of};
+ghost use Rattle.rules.specs.SettingsAndUnitTable.{settings-check, rows, row};
+ghost use Rattle.card.specs.Fields.{alone};
+ghost use Rattle.card.specs.Laws.Accepted.{UnitsGood};
+ghost use Rattle.index.specs.Laws.Right.{Right, Rising};
+use card::table::RowRule;
+use card::table::row_alone;
+use card::table::unit_rule;
+use index::Order;
+use lookup::names::order;
+use rows::fields::ROW_SIZE;
+use rows::fields::name_of;
+use rows::fields::row_at;
+
+const MOST_ROWS: usize = 64;
+
+// Whether each row passes by itself.
+fn each_alone(rule: RowRule, table: &[u8]) -> bool
+    ensures { λ r. ⌜ (r ≡ true → (i : ℕ) → i < rows (now (table .entry)) → alone rule (row (now (table .entry)) i) ≡ true) ⌝ }
+{
+    let count = table.len() / ROW_SIZE;
+    let mut i = 0;
+    while i < count {
+        if !row_alone(rule, row_at(table, i)) {
+            return false;
+        }
+        i += 1;
+    }
+    true
+}
+
+// Whether one row's name comes before another's.
+fn comes_before(row: &[u8], other: &[u8]) -> bool {
+    match order(name_of(row), name_of(other)) {
+        Order::Before => true,
+        Order::Same => false,
+        Order::After => false,
+    }
+}
+
+// Whether the entries are numbers of rows, and each name comes after the one before it.
+fn names_rise(table: &[u8], index: &[u8]) -> bool
+    requires { ⌜ length (now index) ≡ rows (now table) ⌝ }
+    ensures { λ r. ⌜ (r ≡ true → Rising (now (table .entry)) (now (index .entry))) ⌝ }
+{
+    let count = index.len();
+    if count == 0 {
+        return true;
+    }
+    let mut before = index[0] as usize;
+    if before >= count {
+        return false;
+    }
+    let mut k = 1;
+    while k < count {
+        let entry = index[k] as usize;
+        if entry >= count {
+            return false;
+        }
+        if !comes_before(row_at(table, before), row_at(table, entry)) {
+            return false;
+        }
+        before = entry;
+        k += 1;
+    }
+    true
+}
+
+// Whether the table is accepted, and the index right.
+pub fn told_right(settings: &[u64; 25], table: &[u8], index: &[u8]) -> bool
+    requires { ⌜ settings-check (settings-of (now settings)) ≡ got tt ⌝ }
+    ensures { λ r. ⌜ (r ≡ true → UnitsGood (settings-of (now (settings .entry))) (now (table .entry)) × Right (now (table .entry)) (now (index .entry))) ⌝ }
+{
+    if table.len() % ROW_SIZE != 0 {
+        return false;
+    }
+    let count = table.len() / ROW_SIZE;
+    if count > MOST_ROWS {
+        return false;
+    }
+    if index.len() != count {
+        return false;
+    }
+    if count == 0 {
+        return true;
+    }
+    if !each_alone(unit_rule(settings), table) {
+        return false;
+    }
+    names_rise(table, index)
+}
