@@ -4,7 +4,7 @@ ghost use Prim.Native.Nat.{_≤_};
 ghost use lib.ListN.{length};
 ghost use Rattle.rules.specs.Common.{same};
 ghost use Rattle.rules.specs.SettingsAndUnitTable.{row-size, name-room, name-size, name};
-ghost use Rattle.index.specs.TheSortedIndex.{order};
+ghost use Rattle.index.specs.TheSortedIndex.{order, before};
 use index::Order;
 use rows::fields::NAME_AT;
 
@@ -60,4 +60,15 @@ pub fn order(a: &[u8], b: &[u8]) -> Order
         return Order::Before;
     }
     Order::Same
+}
+
+// Whether a name comes before another.
+pub fn before(a: &[u8], b: &[u8]) -> bool
+    ensures { λ r. ⌜ r ≡ before (now (a .entry)) (now (b .entry)) ⌝ }
+{
+    match order(a, b) {
+        Order::Before => true,
+        Order::Same => false,
+        Order::After => false,
+    }
 }

@@ -6,20 +6,24 @@ ghost use lib.ListN.{length};
 ghost use Prim.Native.Nat.{ℕ, _<_};
 ghost use Rattle.rules.specs.NumbersHandedBack.{got};
 ghost use Rattle.rules.specs.SettingsAsWords.{settings-of};
-ghost use Rattle.rules.specs.SettingsAndUnitTable.{settings-check, rows, row};
-ghost use Rattle.card.specs.Fields.{alone};
+ghost use Rattle.rules.specs.SettingsAndUnitTable.{settings-check, row-size, rows, row, name};
+ghost use Rattle.card.specs.Fields.{padded, alone};
 ghost use Rattle.card.specs.Laws.Accepted.{UnitsGood};
+ghost use Rattle.index.specs.TheSortedIndex.{before};
 ghost use Rattle.index.specs.Laws.Right.{Right, Rising};
 use card::table::RowRule;
 use card::table::row_alone;
 use card::table::unit_rule;
-use index::Order;
-use lookup::names::order;
+use rows::fields::KIND_AT;
+use rows::fields::NAME_AT;
 use rows::fields::ROW_SIZE;
-use rows::fields::name_of;
 use rows::fields::row_at;
+use words::word_at;
 
 const MOST_ROWS: usize = 64;
+
+// Where the second of the two words of a name's room stands.
+const SECOND_WORD_AT: usize = 9;
 
 // Whether each row passes by itself.
 fn each_alone(rule: RowRule, table: &[u8]) -> bool
@@ -36,18 +40,30 @@ fn each_alone(rule: RowRule, table: &[u8]) -> bool
     true
 }
 
-// Whether one row's name comes before another's.
-fn comes_before(row: &[u8], other: &[u8]) -> bool {
-    match order(name_of(row), name_of(other)) {
-        Order::Before => true,
-        Order::Same => false,
-        Order::After => false,
+// Whether one row's name comes before another's. Both have zeros after it, so that the name's whole room decides, and where it is the same the
+// sizes do. Names that begin alike are told by a word at once.
+fn comes_before(row: &[u8], other: &[u8]) -> bool
+    requires { ⌜ (length (now row) ≡ row-size) × (padded (now row) ≡ true) ⌝ }
+    requires { ⌜ (length (now other) ≡ row-size) × (padded (now other) ≡ true) ⌝ }
+    ensures { λ r. ⌜ (r ≡ true → before (name (now (row .entry))) (name (now (other .entry))) ≡ true) ⌝ }
+{
+    let mut at = NAME_AT;
+    if word_at(row, NAME_AT) == word_at(other, NAME_AT) {
+        at = SECOND_WORD_AT;
     }
+    while at < KIND_AT {
+        if row[at] != other[at] {
+            return row[at] < other[at];
+        }
+        at += 1;
+    }
+    row[0] < other[0]
 }
 
 // Whether the entries are numbers of rows, and each name comes after the one before it.
 fn names_rise(table: &[u8], index: &[u8]) -> bool
     requires { ⌜ length (now index) ≡ rows (now table) ⌝ }
+    requires { ⌜ ((i : ℕ) → i < rows (now table) → padded (row (now table) i) ≡ true) ⌝ }
     ensures { λ r. ⌜ (r ≡ true → Rising (now (table .entry)) (now (index .entry))) ⌝ }
 {
     let count = index.len();

@@ -1,6 +1,6 @@
 // The checks of a card with its indexes, and of one table with its index: 7, then 23.
-use crate::entries::IndexFound;
-use crate::entries::index_found;
+use crate::true_order::IndexFound;
+use crate::true_order::index_found;
 use crate::rising::told_right;
 use card::table::card_check;
 use card::table::numerals_check;

@@ -1,4 +1,4 @@
 // The index beside a unit table: checked, made, and changed with a row.
 pub mod checked;
-pub mod entries;
 pub mod rising;
+pub mod true_order;

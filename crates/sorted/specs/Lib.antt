@@ -1,0 +1,2 @@
+-- What the functions over an index are promised by, and their laws.
+pub mod Found
