@@ -1,2 +1,5 @@
 -- What the functions over an index are promised by, and their laws.
 pub mod Found
+pub mod Rooms
+pub mod Climbing
+pub mod Checks

@@ -1,7 +1,14 @@
-// The checks of a card with its indexes, and of one table with its index: 7, then 23.
+// The checks of one table with its index, and of a card with its indexes: all of 7, then 23.
+ghost use mathlib.Core.Path.{_≡_};
+ghost use Prim.Native.Nat.{_≤_};
+ghost use Rattle.rules.specs.declared.Refusal.{Refusal};
+ghost use Rattle.rules.specs.SettingsAsWords.{settings-of};
+ghost use Rattle.rules.specs.SettingsAndUnitTable.{most-rows, rows};
+ghost use Rattle.settings.specs.Outcomes.{outcome};
+ghost use Rattle.index.specs.TheSortedIndex.{index-check, checking, indexed-of, indexed-check};
+use crate::rising::told_right;
 use crate::true_order::IndexFound;
 use crate::true_order::index_found;
-use crate::rising::told_right;
 use card::table::card_check;
 use card::table::numerals_check;
 use card::table::table_check;
@@ -9,7 +16,10 @@ use rules::Refusal;
 use settings::Checked;
 use settings::check::settings_check;
 
+// The hall's index, or that of one table by itself.
 fn index_check(table: &[u8], index: &[u8]) -> Checked
+    requires { ⌜ rows (now table) ≤ most-rows ⌝ }
+    ensures { λ r. ⌜ outcome r ≡ index-check Refusal.WrongIndex (now (table .entry)) (now (index .entry)) ⌝ }
 {
     match index_found(table, index) {
         IndexFound::Right => Checked::Accepted,
@@ -17,7 +27,10 @@ fn index_check(table: &[u8], index: &[u8]) -> Checked
     }
 }
 
+// The line's.
 fn line_index_check(line: &[u8], index: &[u8]) -> Checked
+    requires { ⌜ rows (now line) ≤ most-rows ⌝ }
+    ensures { λ r. ⌜ outcome r ≡ index-check Refusal.WrongLineIndex (now (line .entry)) (now (index .entry)) ⌝ }
 {
     match index_found(line, index) {
         IndexFound::Right => Checked::Accepted,
@@ -25,48 +38,9 @@ fn line_index_check(line: &[u8], index: &[u8]) -> Checked
     }
 }
 
-fn checked_apart(
-    settings: &[u64; 25],
-    hall: &[u8],
-    hall_index: &[u8],
-    line: &[u8],
-    line_index: &[u8],
-    numerals: &[u8],
-) -> Checked
-{
-    let of_the_card = card_check(settings, hall, line, numerals);
-    let Checked::Accepted = of_the_card else {
-        return of_the_card;
-    };
-    let of_the_hall = index_check(hall, hall_index);
-    let Checked::Accepted = of_the_hall else {
-        return of_the_hall;
-    };
-    line_index_check(line, line_index)
-}
-
-pub fn indexed_check(
-    settings: &[u64; 25],
-    hall: &[u8],
-    hall_index: &[u8],
-    line: &[u8],
-    line_index: &[u8],
-    numerals: &[u8],
-) -> Checked
-{
-    let checked = settings_check(settings);
-    let Checked::Accepted = checked else {
-        return checked;
-    };
-    if told_right(settings, hall, hall_index) {
-        if told_right(settings, line, line_index) {
-            return numerals_check(numerals);
-        }
-    }
-    checked_apart(settings, hall, hall_index, line, line_index, numerals)
-}
-
+// One table with its index. Most are right, and told so in one pass; where anything is wrong, the whole of 7 decides, and then the index.
 pub fn table_and_index_check(settings: &[u64; 25], table: &[u8], index: &[u8]) -> Checked
+    ensures { λ r. ⌜ outcome r ≡ checking (settings-of (now (settings .entry))) (now (table .entry)) (now (index .entry)) ⌝ }
 {
     let checked = settings_check(settings);
     let Checked::Accepted = checked else {
@@ -80,4 +54,49 @@ pub fn table_and_index_check(settings: &[u64; 25], table: &[u8], index: &[u8]) -
         return of_the_table;
     };
     index_check(table, index)
+}
+
+// A card and its indexes, one after another.
+fn checked_apart(
+    settings: &[u64; 25],
+    hall: &[u8],
+    hall_index: &[u8],
+    line: &[u8],
+    line_index: &[u8],
+    numerals: &[u8],
+) -> Checked
+    ensures { λ r. ⌜ outcome r ≡ indexed-check (indexed-of (now (settings .entry)) (now (hall .entry)) (now («hall_index» .entry)) (now (line .entry)) (now («line_index» .entry)) (now (numerals .entry))) ⌝ }
+{
+    let of_the_card = card_check(settings, hall, line, numerals);
+    let Checked::Accepted = of_the_card else {
+        return of_the_card;
+    };
+    let of_the_hall = index_check(hall, hall_index);
+    let Checked::Accepted = of_the_hall else {
+        return of_the_hall;
+    };
+    line_index_check(line, line_index)
+}
+
+// The same, with both tables told right in one pass each where they are.
+pub fn indexed_check(
+    settings: &[u64; 25],
+    hall: &[u8],
+    hall_index: &[u8],
+    line: &[u8],
+    line_index: &[u8],
+    numerals: &[u8],
+) -> Checked
+    ensures { λ r. ⌜ outcome r ≡ indexed-check (indexed-of (now (settings .entry)) (now (hall .entry)) (now («hall_index» .entry)) (now (line .entry)) (now («line_index» .entry)) (now (numerals .entry))) ⌝ }
+{
+    let checked = settings_check(settings);
+    let Checked::Accepted = checked else {
+        return checked;
+    };
+    if told_right(settings, hall, hall_index) {
+        if told_right(settings, line, line_index) {
+            return numerals_check(numerals);
+        }
+    }
+    checked_apart(settings, hall, hall_index, line, line_index, numerals)
 }

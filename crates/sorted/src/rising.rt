@@ -70,8 +70,8 @@ fn names_rise(table: &[u8], index: &[u8]) -> bool
     if count == 0 {
         return true;
     }
-    let mut before = index[0] as usize;
-    if before >= count {
+    let mut last = index[0] as usize;
+    if last >= count {
         return false;
     }
     let mut k = 1;
@@ -80,10 +80,10 @@ fn names_rise(table: &[u8], index: &[u8]) -> bool
         if entry >= count {
             return false;
         }
-        if !comes_before(row_at(table, before), row_at(table, entry)) {
+        if !comes_before(row_at(table, last), row_at(table, entry)) {
             return false;
         }
-        before = entry;
+        last = entry;
         k += 1;
     }
     true

@@ -28,11 +28,11 @@ module _ (a b : ℕ) (more bs : List ℕ) where
   unfolding order if_then_else_
   order-further e = rw (le-ltb a b (omega arith), le-ltb b a (omega arith))
 
-before-less : (a b : ℕ) (more bs : List ℕ) → a < b → before (a ∷ more) (b ∷ bs) ≡ true
+pub before-less : (a b : ℕ) (more bs : List ℕ) → a < b → before (a ∷ more) (b ∷ bs) ≡ true
 unfolding before is-before
 before-less a b more bs h = rw (order-less a b more bs h)
 
-before-further : (a b : ℕ) (more bs : List ℕ) → a ≡ b → before more bs ≡ true → before (a ∷ more) (b ∷ bs) ≡ true
+pub before-further : (a b : ℕ) (more bs : List ℕ) → a ≡ b → before more bs ≡ true → before (a ∷ more) (b ∷ bs) ≡ true
 unfolding before
 before-further a b more bs e rest = rw (order-further a b more bs e) rest
 

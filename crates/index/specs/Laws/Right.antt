@@ -181,7 +181,7 @@ module _ (table : List ℕ) where
   -- ---- the one right index of a table without two equal names
 
   module _ (own : Own table) where
-    different : (i j : ℕ) → i < rows table → j < rows table → name (row table i) ≡ name (row table j) → i ≡ j
+    pub different : (i j : ℕ) → i < rows table → j < rows table → name (row table i) ≡ name (row table j) → i ≡ j
     different i j below within e =
         let at-i = own i below in
         let at-j = own j within in
