@@ -3,3 +3,5 @@ pub mod Found
 pub mod Rooms
 pub mod Climbing
 pub mod Checks
+pub mod Sifting
+pub mod Making
