@@ -77,7 +77,11 @@ module _ (c : Indexed) where
     where
       go : (m : Outcome (Unit {0})) → m ≡ (settings-check (c .card .settings) >> (units-check TableSize BadRow (c .card .settings) (c .card .hall) >> (units-check LineSize BadLineRow (c .card .settings) (c .card .line) >> m)) >> (index-check WrongIndex (c .card .hall) (c .hall-index) >> index-check WrongLineIndex (c .card .line) (c .line-index)))
       go (got tt) =
-          rw
-          (settings, units-accepted TableSize BadRow _ _ hall, units-accepted LineSize BadLineRow _ _ line,
-          index-accepts WrongIndex _ _ .1 hall-right, index-accepts WrongLineIndex _ _ .1 line-right)
+          rw (
+            settings,
+            units-accepted TableSize BadRow _ _ hall,
+            units-accepted LineSize BadLineRow _ _ line,
+            index-accepts WrongIndex _ _ .1 hall-right,
+            index-accepts WrongLineIndex _ _ .1 line-right,
+          )
       go (refused cause) = rw (settings, units-accepted TableSize BadRow _ _ hall, units-accepted LineSize BadLineRow _ _ line)

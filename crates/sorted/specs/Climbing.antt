@@ -64,7 +64,7 @@ climbed table index all climbing =
 -- ---- a table told right
 
 -- no row has the name
-unnamed-below : (table wanted : List ℕ) (n : ℕ) → ((j : ℕ) → j < n → name (row table j) ≡ wanted → ⊥) → named table wanted n ≡ false
+pub unnamed-below : (table wanted : List ℕ) (n : ℕ) → ((j : ℕ) → j < n → name (row table j) ≡ wanted → ⊥) → named table wanted n ≡ false
 unfolding named
 unnamed-below table wanted zero none = refl
 unnamed-below table wanted (suc n) none =
@@ -73,9 +73,11 @@ unnamed-below table wanted (suc n) none =
 -- where each name finds its own row, a row that passes by itself passes
 pub own-ruled : (rule : RowRule) (table : List ℕ) → Own table → (i : ℕ) → i < rows table → alone rule (row table i) ≡ true → ruled rule table i ≡ true
 own-ruled rule table own i below good =
-    rw
-    (ruled-alone rule table i, good,
-    unnamed-below table (name (row table i)) i (λ j less e. omega (arith, different table own j i (omega arith) below e)))
+    rw (
+      ruled-alone rule table i,
+      good,
+      unnamed-below table (name (row table i)) i (λ j less e. omega (arith, different table own j i (omega arith) below e)),
+    )
 
 -- each row by itself, and names that rise along an index as long as the table
 pub told-good :

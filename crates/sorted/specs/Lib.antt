@@ -5,3 +5,5 @@ pub mod Climbing
 pub mod Checks
 pub mod Sifting
 pub mod Making
+pub mod Replacing
+pub mod PuttingRows

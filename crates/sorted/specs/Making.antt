@@ -71,7 +71,7 @@ module _ (table index : List ℕ) (i : ℕ) (m : Making table index i) where
     make-next {sifted} s =
         let count : length sifted ≡ i + 1 = s .long ∙ next-long in
         let front : take (i + 1) (sifted ++ drop (i + 1) (set index i i)) ≡ sifted =
-            take-append-le (i + 1) sifted (drop (i + 1) (set index i i)) (omega arith) ∙ take-all (i + 1) sifted (omega arith)
+        take-append-le (i + 1) sifted (drop (i + 1) (set index i i)) (omega arith) ∙ take-all (i + 1) sifted (omega arith)
         in
         record {
           long = simp (length-append, length-drop, length-set) (omega (arith, m .long));

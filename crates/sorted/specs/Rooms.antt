@@ -83,11 +83,11 @@ pub alike-word :
     → low-first (take 8 (drop 1 row)) ≡ low-first (take 8 (drop 1 other)) → Alike row other 9
 alike-word row other p q bytes others e k below some =
     let parts : take 8 (drop 1 row) ≡ take 8 (drop 1 other) =
-        low-first-only (take 8 (drop 1 row)) (take 8 (drop 1 other)) (simp (length-take, length-drop) (omega arith)) (bytes-part row 8 1 bytes) (bytes-part other 8 1 others) e
+    low-first-only (take 8 (drop 1 row)) (take 8 (drop 1 other)) (simp (length-take, length-drop) (omega arith)) (bytes-part row 8 1 bytes) (bytes-part other 8 1 others) e
     in
     let place : 1 + (k - 1) ≡ k = omega arith in
     let at : (l : List ℕ) → getD (take 8 (drop 1 l)) (k - 1) 0 ≡ getD l k 0 =
-        λ l. getD-take 8 (drop 1 l) (k - 1) 0 (omega arith) ∙ getD-drop 1 l (k - 1) 0 ∙ ap (λ n. getD l n 0) place
+    λ l. getD-take 8 (drop 1 l) (k - 1) 0 (omega arith) ∙ getD-drop 1 l (k - 1) 0 ∙ ap (λ n. getD l n 0) place
     in
     sym (at row) ∙ ap (λ l. getD l (k - 1) 0) parts ∙ at other
 

@@ -94,8 +94,8 @@ module _ (table index : List ℕ) (at : ℕ) (s : Sifting table index at) where
               at - 1,
               rose is,
               getD-set-other (set index at (entry index (at - 1))) (at - 1) k (entry index at) 0 (λ e. omega arith)
-              ∙ ap (λ n. entry (set index at (entry index (at - 1))) n) is
-              ∙ getD-set-same index at (entry index (at - 1)) 0 (s .here),
+                  ∙ ap (λ n. entry (set index at (entry index (at - 1))) n) is
+                  ∙ getD-set-same index at (entry index (at - 1)) 0 (s .here),
             )
         go false p true q =
             let next : k + 1 ≡ at = eqb-true (k + 1) at q in
@@ -103,7 +103,7 @@ module _ (table index : List ℕ) (at : ℕ) (s : Sifting table index at) where
               at,
               sank next,
               ap (λ n. entry (set (set index at (entry index (at - 1))) (at - 1) (entry index at)) n) is
-              ∙ getD-set-same (set index at (entry index (at - 1))) (at - 1) (entry index at) 0 (simp length-set (omega (arith, s .here))),
+                  ∙ getD-set-same (set index at (entry index (at - 1))) (at - 1) (entry index at) 0 (simp length-set (omega (arith, s .here))),
             )
         go false p false q =
             let not-next : k + 1 ≡ at → ⊥ = eqb-false (k + 1) at q in (

@@ -1,5 +1,6 @@
 // The index beside a unit table: checked, made, and changed with a row.
 pub mod checked;
 pub mod made;
+pub mod replaced;
 pub mod rising;
 pub mod true_order;

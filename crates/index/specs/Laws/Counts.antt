@@ -118,10 +118,10 @@ whether f v (suc m) = go (eqb (f m) v) refl (whether f v m)
             cases false e = inr (omega (arith, ltb-false k m e))
 
 -- the places but one
-unfoldable skip : ℕ → ℕ → ℕ
+unfoldable pub skip : ℕ → ℕ → ℕ
 skip v k = if ltb k v then k else suc k
 
-skipped : (v k : ℕ) → ((k < v) × (skip v k ≡ k)) ⊎ ((v ≤ k) × (skip v k ≡ suc k))
+pub skipped : (v k : ℕ) → ((k < v) × (skip v k ≡ k)) ⊎ ((v ≤ k) × (skip v k ≡ suc k))
 unfolding skip if_then_else_
 skipped v k = go (ltb k v) refl
   where
@@ -129,11 +129,11 @@ skipped v k = go (ltb k v) refl
     go true e = inl (ltb-true k v e, rw e)
     go false e = inr (ltb-false k v e, rw e)
 
-skip-rises : (v j k : ℕ) → j < k → skip v j < skip v k
+pub skip-rises : (v j k : ℕ) → j < k → skip v j < skip v k
 skip-rises v j k h =
     ⊎-elim (λ p. ⊎-elim (λ q. omega arith) (λ q. omega arith) (skipped v k)) (λ p. ⊎-elim (λ q. omega arith) (λ q. omega arith) (skipped v k)) (skipped v j)
 
-skip-most : (v k : ℕ) → skip v k ≤ suc k
+pub skip-most : (v k : ℕ) → skip v k ≤ suc k
 skip-most v k = ⊎-elim (λ p. omega arith) (λ p. omega arith) (skipped v k)
 
 -- different numbers that pass a test are no more than pass it

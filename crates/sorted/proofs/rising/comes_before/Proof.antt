@@ -21,10 +21,12 @@ loop-holds c =
     let known = c .before .before .before in
     let start = known .before .before in
     ⊎-elim
-    (λ w. rw (w .1)
-    (omega arith, omega arith,
-    alike-word (start .args .row .now) (start .args .other .now) (start .pre .0 .0) (start .pre .1 .0) (λ k. known .before .shared-slice-known .given k .fits) (λ k. known .shared-slice-known2 .given k .fits)
-    (sym (c .before .before .word-at .ensures) ∙ w .0 .taken ∙ c .before .word-at2 .ensures)))
+    (λ w. rw (w .1) (
+      omega arith,
+      omega arith,
+      alike-word (start .args .row .now) (start .args .other .now) (start .pre .0 .0) (start .pre .1 .0) (λ k. known .before .shared-slice-known .given k .fits) (λ k. known .shared-slice-known2 .given k .fits)
+          (sym (c .before .before .word-at .ensures) ∙ w .0 .taken ∙ c .before .word-at2 .ensures),
+    ))
     (λ w. rw (w .1) (omega arith, omega arith, alike-none (start .args .row .now) (start .args .other .now)))
     (c .if1 .came)
 

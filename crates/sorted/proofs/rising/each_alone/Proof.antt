@@ -28,7 +28,7 @@ loop-again c =
       loop .inv .0,
       omega arith,
       below-more _ (loop .i) (loop .inv .2)
-      (ap (alone _) (sym (c .before .before .row-at .ensures)) ∙ sym (c .before .row-alone .ensures) ∙ not-false _ (c .if1 .left)),
+          (ap (alone _) (sym (c .before .before .row-at .ensures)) ∙ sym (c .before .row-alone .ensures) ∙ not-false _ (c .if1 .left)),
     )
 
 pub each-alone-spec : {M : Type 1} → statement M

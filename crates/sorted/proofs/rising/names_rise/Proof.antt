@@ -55,7 +55,7 @@ loop-again c =
     let index = start .args .index .now in
     let place : loop .k + 1 - 1 ≡ loop .k = omega arith in
     let higher : before (name (row table (loop .last))) (name (row table (getD index (loop .k) 0))) ≡ true =
-        rw (← (c .before .before .before .row-at .ensures), ← (c .before .before .row-at2 .ensures)) (c .before .comes-before .ensures (not-false _ (c .if4 .left)))
+    rw (← (c .before .before .before .row-at .ensures), ← (c .before .before .row-at2 .ensures)) (c .before .comes-before .ensures (not-false _ (c .if4 .left)))
     in (
       refl,
       omega arith,
