@@ -326,7 +326,7 @@ impl Tried {
         Ok(sum)
     }
 
-    /// Each row of the hall's table and one past the last, by the rows of the line's
+    /// Each row of the hall's table and two past the last, by the rows of the line's
     /// over and over, behind the last of which comes none.
     fn replace(&mut self, card: &Card) -> Result<Sum, String> {
         let line: Vec<&[u8]> = card.line.chunks(ROW_BYTES).collect();
@@ -334,7 +334,7 @@ impl Tried {
         let mut card = card.clone();
         let mut index = plain_index::index_of(&card.hall);
         let mut sum = Sum::begin();
-        for row in 0..=index.len() {
+        for row in 0..index.len() + 2 {
             let new_row = line.get(row % span).copied().unwrap_or_default();
             let outcome = plain_index::answer(&IndexRequest::Replace {
                 row: row as u64,
