@@ -27,6 +27,8 @@ mod make;
 #[allow(dead_code)]
 mod make_card;
 #[allow(dead_code)]
+mod make_indexes;
+#[allow(dead_code)]
 mod make_text;
 #[allow(dead_code)]
 mod nanoseconds;

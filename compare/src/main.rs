@@ -10,6 +10,7 @@ mod chosen;
 mod crate_side;
 mod day;
 mod evaluations;
+mod index_antt;
 mod index_limits;
 mod index_list;
 mod index_request;
@@ -24,6 +25,7 @@ mod lines;
 mod long_texts;
 mod make;
 mod make_card;
+mod make_indexes;
 mod make_odd;
 mod make_text;
 mod nanoseconds;
@@ -77,6 +79,8 @@ usage: compare make SEED COUNT          make requests
        compare antt REQUESTS ANSWERS DIR  both as antt modules in the folder DIR
        compare antt iso-texts DIR       ISO timings with the plain way's answers, the same
        compare antt iso-lengths DIR     lengths written as ISO timings, the same
+       compare antt index-limits DIR    indexes and lookups at their limits, the same
+       compare antt index-made DIR      made ones with the plain reading's answers, the same
 ";
 
 fn main() -> ExitCode {
@@ -110,6 +114,8 @@ fn main() -> ExitCode {
         ["index", cards, found] => index_list::write_files(cards, found),
         ["antt", "iso-texts", folder] => told(iso_antt::write_texts(Path::new(folder))),
         ["antt", "iso-lengths", folder] => told(iso_antt::write_lengths(Path::new(folder))),
+        ["antt", "index-limits", folder] => told(index_antt::write_limits(Path::new(folder))),
+        ["antt", "index-made", folder] => told(index_antt::write_made(Path::new(folder))),
         ["antt", requests, answers, folder] => write_antt(requests, answers, folder),
         _ => Err(USAGE.to_string()),
     };
