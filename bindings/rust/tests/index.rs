@@ -163,6 +163,45 @@ fn looked_up_in_both_tables() {
     }
 }
 
+/// The words that a lookup hands back.
+#[test]
+fn looked_up_as_words() {
+    let card = line_7();
+    let (settings, hall, line) = (card.settings(), card.hall(), card.line());
+    let (hall_index, line_index) = (card.hall_index(), card.line_index());
+    for (name, table, row, by_row, halving) in [
+        ("turn", 2, 1, 2, 1),
+        ("block", 1, 5, 8, 5),
+        ("pouch", 0, 0, 8, 5),
+    ] {
+        let found = |compared| Found {
+            number: 0,
+            position: 0,
+            table,
+            row,
+            compared,
+        };
+        let name = name.as_bytes();
+        let looked_up = raw::look_up(settings, hall, line, name);
+        assert_eq!(looked_up, found(by_row));
+        let looked_up = raw::look_up_indexed(settings, hall, hall_index, line, line_index, name);
+        assert_eq!(looked_up, found(halving));
+    }
+}
+
+/// A name of any size is looked up whole.
+#[test]
+fn names_longer_than_a_rows() {
+    let longest = "abcdefghijklmnop";
+    let card = card(units([longest]));
+    assert_eq!(card.look_up(longest), found(Table::Hall, 0, 1));
+    for behind in ["q", "\0", &"\0".repeat(256)] {
+        let name = format!("{longest}{behind}");
+        assert_eq!(card.look_up(&name), nowhere(1));
+        assert_eq!(card.look_up_row_by_row(&name), nowhere(1));
+    }
+}
+
 #[test]
 fn at_most_seven_names_of_64() {
     let names = many(64);
@@ -212,12 +251,14 @@ fn readings_are_the_same() {
         assert_eq!(shift, through.unwrap_or(Length::ZERO), "`{text}`");
         for place in 0..=text.len() + 1 {
             let part = raw::read_part(settings, hall, line, numerals, bytes, place);
-            let through = card.read_part(text, place).map(|part| part.next);
-            let next = match part.number {
-                0 => Ok(part.position as usize),
-                number => Err(refusal(number, part.position as usize)),
+            let position = part.position as usize;
+            let without = match part.number {
+                0 => Ok((part.length, position)),
+                number => Err(refusal(number, position)),
             };
-            assert_eq!(through, next, "`{text}` from {place} on");
+            let through = card.read_part(text, place);
+            let through = through.map(|part| (part.length.record(), part.next));
+            assert_eq!(through, without, "`{text}` from {place} on");
         }
     }
 }
