@@ -1519,6 +1519,7 @@ static herovinga_card line_7(const card_a *a)
 static void lookups(const card_a *a)
 {
     static uint8_t hall[FULL], line[FULL];
+    static const char far_too_long[257] = "s";
     const herovinga_card seven = line_7(a), alone = with_line(of(a), NULL, 0);
     herovinga_card c;
     finds(alone, "ns", HEROVINGA_HALL, 0, 1, 1);
@@ -1532,6 +1533,7 @@ static void lookups(const card_a *a)
     finds(alone, "\377", HEROVINGA_NO_TABLE, 0, 6, 2);
     finds_bytes(alone, NULL, 0, HEROVINGA_NO_TABLE, 0, 6, 3);
     finds_bytes(alone, "s\0", 2, HEROVINGA_NO_TABLE, 0, 6, 3);
+    finds_bytes(alone, far_too_long, sizeof far_too_long, HEROVINGA_NO_TABLE, 0, 6, 3);
     finds_bytes(alone, "\0", 1, HEROVINGA_NO_TABLE, 0, 6, 3);
     finds(with_hall(alone, NULL, 0), "s", HEROVINGA_NO_TABLE, 0, 0, 0);
     finds_bytes(with_hall(alone, NULL, 0), NULL, 0, HEROVINGA_NO_TABLE, 0, 0, 0);
