@@ -99,7 +99,8 @@ impl Line {
         }
         if place != text.len() as u64 {
             let wanted = "the text to end with the last length".to_string();
-            return Err(self.wrong_reading(Some(place), self.port.part(PARTS, text, place), wanted));
+            let part = self.port.part(PARTS, text, place);
+            return Err(self.wrong_reading(Some(place), part, wanted));
         }
         if !self.lengths.is_empty() {
             let total = self.port.total(TOTAL, text);
