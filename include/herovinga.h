@@ -1,20 +1,24 @@
 /* Herovinga for C99 and C++: timings that are read exactly.
  *
- * Six functions, over numbers and bytes: a part of a text, a text's total, a length written, a shift total added to, an ISO 8601 duration
- * read, and a length written as one. They keep nothing between calls, so any number of threads may call them. The library is
- * target/staticlib/libterminal.a (rt staticlib terminal), for Linux on x86-64; every function in it is proved to answer as document 01 and
- * the requests that followed it say, whatever it is passed. Three more stand here in C and only call those of the library that read a text:
- * they take what it is read under as one card.
+ * Fourteen functions, over numbers and bytes: a part of a text, a text's total, a length written, a shift total added to, an ISO 8601 duration
+ * read, and a length written as one; an index beside a unit table made, checked, and kept while a row is replaced; part, total and shift total
+ * through such indexes; and a name looked up without them and through them. They keep nothing between calls, so any number of threads may call
+ * them. The library is target/staticlib/libterminal.a (rt staticlib terminal), for Linux on x86-64; every function in it is proved to answer
+ * as document 01 and the requests that followed it say, whatever it is passed. Eight more stand here in C and only call those of the library
+ * that read a text or look up a name: they take what it is read under as one card.
  *
  * Each function returns a number of enum herovinga_number and writes the whole answer. On 0 the answer has the position and the length
  * that stand at the function below; on a refusal it has the position that stands at the number, and a length of zero with a plus, and
- * nothing else that was passed has changed.
+ * nothing else that was passed has changed. A lookup writes a herovinga_found in the place of an answer, with zeros behind the position of a
+ * refusal.
  *
  * What a caller owes:
- * - A pointer to a card, settings, a length, a total or an answer points to one, and is not null.
+ * - A pointer to a card, settings, a length, a total, an answer or what is found points to one, and is not null.
  * - A pointer to bytes points to as many as the size beside it says. With size 0 it may be null.
- * - What a function writes (answer, total, buffer) overlaps nothing else that the call is passed. So the length to be written is not the
- *   one within the answer. What it only reads (card, settings, tables, text, length) may overlap, and no other thread changes it meanwhile.
+ * - What a function writes (answer, found, total, buffer, the index that it makes, the table and the index of which it replaces a row) overlaps
+ *   nothing else that the call is passed. So the length to be written is not the one within the answer, and a new row is not one of the table
+ *   that it goes into. What it only reads (card, settings, tables, indexes, text, name, length) may overlap, and no other thread changes it
+ *   meanwhile.
  * Nothing else: every value of every word, byte, size and place has an answer.
  */
 #ifndef HEROVINGA_H
@@ -28,9 +32,9 @@ extern "C" {
 #endif
 
 /* What is handed back, and the position that then stands in the answer; places are counted from the start of the text, also where a part is
- * read from further on. The first test that fails decides, in the order 7, 11, 8, 10 and then left to right through the text, with 16 and 5
+ * read from further on. The first test that fails decides, in the order 7, 23, 11, 8, 10 and then left to right through the text, with 16 and 5
  * last in their part; the writer's order is 11, 10, 9. For an ISO text it is 8, then 12 and 13 left to right, and 14 last; for the ISO
- * writer 11, 5, 10, 9. */
+ * writer 11, 5, 10, 9. For an index by itself it is 7, 23, and where a row is replaced then 10, and 7 again. */
 enum herovinga_number {
     HEROVINGA_DONE = 0,           /* read or written: the next place, or the text's size for a total and for an ISO text */
     HEROVINGA_NOTHING = 1,        /* nothing at the place: the place */
@@ -41,7 +45,7 @@ enum herovinga_number {
     HEROVINGA_CARD = 7,           /* settings or a table are wrong: one of enum herovinga_wrong, or the number of the hall's first bad row */
     HEROVINGA_TEXT_TOO_LONG = 8,  /* a text of more than 4,096 bytes: 4096 */
     HEROVINGA_NO_ROOM = 9,        /* the buffer has fewer bytes left than the length needs: the place */
-    HEROVINGA_BEYOND = 10,        /* a place beyond the text or the buffer: the place */
+    HEROVINGA_BEYOND = 10,        /* a place beyond the text or the buffer: the place; a row to be replaced past the last: its number */
     HEROVINGA_MALFORMED = 11,     /* no length: 1,000,000,000 nanoseconds or more, or zero with a minus: 0 */
     HEROVINGA_NOT_ISO = 12,       /* no right ISO text has this byte here, or it ends too soon: that place */
     HEROVINGA_YEAR_OR_MONTH = 13, /* the letter of years or months, which have no length: that byte */
@@ -56,8 +60,11 @@ enum herovinga_number {
                                       delimiter, digit or sign is behind it, as in "1s android": the byte where one is wanted */
     HEROVINGA_FRACTION = 20,       /* a point with a digit on neither side, as in ".s", or while fractions are off: the point, which is to go */
     HEROVINGA_EXPONENT = 21,       /* a byte in the place of an exponent's digit, as in "1ex": that byte; or exponents are off: the 'e' to go */
-    HEROVINGA_INFINITY = 22        /* the text ends within "infinity", as in "infi": its first byte, and the whole word is wanted; or a letter of
+    HEROVINGA_INFINITY = 22,       /* the text ends within "infinity", as in "infi": its first byte, and the whole word is wanted; or a letter of
                                       it is wrong, as in "infix", or no outer delimiter is behind it, as in "inf+1": that byte */
+
+    HEROVINGA_INDEX = 23 /* an index is not its table's, and is to be made anew: the number of rows, if it has another length; else its first entry
+                            that is not the one of the true order. The hall's index is looked at first; 128 more for the line's */
 };
 
 /* Positions of number 7 beside those of the hall's rows, which are 0 to 63. What is wrong is looked for in the order settings, hall, line,
@@ -69,7 +76,7 @@ enum herovinga_wrong {
     HEROVINGA_WRONG_DEFAULT_KIND = 67,
     HEROVINGA_FIRST_NUMERAL = 68, /* plus the number of the first bad numeral: 68 to 99 */
     HEROVINGA_WRONG_NUMERALS_SIZE = 100,
-    HEROVINGA_FIRST_LINE_ROW = 128, /* plus the number of the line's first bad row: 128 to 191 */
+    HEROVINGA_FIRST_LINE_ROW = 128, /* plus the number of the line's first bad row: 128 to 191; for 23 plus that of its index's first bad entry */
     HEROVINGA_WRONG_LINE_SIZE = 192
 };
 
@@ -101,6 +108,13 @@ enum herovinga_row {
     HEROVINGA_MOST_NUMERALS = 32
 };
 
+/* The tables that a lookup can find a name in. */
+enum herovinga_table {
+    HEROVINGA_NO_TABLE = 0,
+    HEROVINGA_HALL = 1,
+    HEROVINGA_LINE = 2
+};
+
 enum herovinga_limit {
     HEROVINGA_LONGEST_TEXT = 4096, /* bytes of a text that is read */
     HEROVINGA_LONGEST_FORM = 31,   /* bytes of a length that is written, at most */
@@ -118,6 +132,14 @@ typedef struct herovinga_answer {
     uint64_t position;
     herovinga_length length;
 } herovinga_answer;
+
+/* What a lookup hands back. */
+typedef struct herovinga_found {
+    uint64_t position;
+    uint64_t table;    /* one of enum herovinga_table */
+    uint64_t row;      /* the number of the row in that table that has the name, 0 if none has it */
+    uint64_t compared; /* how many names it was compared with */
+} herovinga_found;
 
 /* A word that may stand between two parts: 1 to 8 ASCII letters, the first in the low byte. */
 typedef struct herovinga_conjunction {
@@ -152,6 +174,15 @@ typedef struct herovinga_card {
     const uint8_t *numerals;
     size_t numerals_size;
 } herovinga_card;
+
+/* A card with an index beside each of its two unit tables, lent too. The index of an empty table is empty and may be null. */
+typedef struct herovinga_indexed_card {
+    herovinga_card card;
+    const uint8_t *hall_index;
+    size_t hall_index_size;
+    const uint8_t *line_index;
+    size_t line_index_size;
+} herovinga_indexed_card;
 
 /* How to make a card.
  *
@@ -254,6 +285,105 @@ uint8_t herovinga_read_iso(const uint8_t *text, size_t text_size, herovinga_answ
  * those of zero left out; zero is "PT0S". Position: the place behind it. Length: the one written, and herovinga_read_iso reads it back. No
  * other byte of the buffer changes, and none on a refusal. A length with a minus is refused by 5. */
 uint8_t herovinga_write_iso(const herovinga_length *length, uint8_t *buffer, size_t buffer_size, size_t place, herovinga_answer *answer);
+
+/* How to keep an index.
+ *
+ * Without an index a unit's name is compared with that of one row after another, so with up to 64 in each of the two tables. An index beside a
+ * table has a byte for each row: the numbers of the rows in the order of their names. Names are ordered byte by byte, as numbers from 0 to 255,
+ * and a name stands before those that it begins: "m", "min", "ms", and behind all letters "\xc2\xb5s". Through its index no more than 7 names of
+ * a table are compared. An index changes no answer of a reading, but that a wrong one is 23.
+ *
+ *     uint8_t order[HEROVINGA_MOST_ROWS];
+ *     herovinga_indexed_card i = {0};
+ *     i.card = c;
+ *     i.hall_index_size = c.hall_size / HEROVINGA_ROW_SIZE;
+ *     herovinga_make_index(&c.settings, c.hall, c.hall_size, order, i.hall_index_size, &answer);
+ *     i.hall_index = order;
+ *
+ * herovinga_replace_row changes a row of a table, and the index beside it with it: both, or neither. After any other change of a table its index
+ * is to be made anew. The three functions over one table and its index do not ask whose they are: their positions have no 128.
+ */
+
+/* Makes the index of a unit table under settings. The index that is lent has as many bytes as the table has rows, and is written whole, or not
+ * at all. Position: the number of rows. Length: zero. */
+uint8_t herovinga_make_index(const herovinga_settings *settings, const uint8_t *table, size_t table_size, uint8_t *index, size_t index_size,
+                             herovinga_answer *answer);
+
+/* Checks a unit table and its index under settings, and changes neither. Position: the number of rows. Length: zero. */
+uint8_t herovinga_check_index(const herovinga_settings *settings, const uint8_t *table, size_t table_size, const uint8_t *index,
+                              size_t index_size, herovinga_answer *answer);
+
+/* Puts a new row in the place of one of a unit table, by its number from 0 on, and makes the table's index the one of the new table. Both are
+ * lent, and right before. A row past the last is refused by 10. A new row that has not 32 bytes, or with which the table would not pass,
+ * whichever row is then bad, is refused by 7 at the number of the row that was to be replaced. Position: the number of rows. Length: zero. */
+uint8_t herovinga_replace_row(const herovinga_settings *settings, uint8_t *table, size_t table_size, uint8_t *index, size_t index_size,
+                              size_t row, const uint8_t *new_row, size_t new_row_size, herovinga_answer *answer);
+
+/* herovinga_read_part, herovinga_read_total and herovinga_add_total through an index beside the hall's table and one beside the line's. What
+ * they hand back is the same, but that a wrong index is refused by 23, after 7 and before all else. */
+uint8_t herovinga_read_part_indexed(const herovinga_settings *settings, const uint8_t *hall, size_t hall_size, const uint8_t *hall_index,
+                                    size_t hall_index_size, const uint8_t *line, size_t line_size, const uint8_t *line_index,
+                                    size_t line_index_size, const uint8_t *numerals, size_t numerals_size, const uint8_t *text,
+                                    size_t text_size, size_t place, herovinga_answer *answer);
+
+uint8_t herovinga_read_total_indexed(const herovinga_settings *settings, const uint8_t *hall, size_t hall_size, const uint8_t *hall_index,
+                                     size_t hall_index_size, const uint8_t *line, size_t line_size, const uint8_t *line_index,
+                                     size_t line_index_size, const uint8_t *numerals, size_t numerals_size, const uint8_t *text,
+                                     size_t text_size, herovinga_answer *answer);
+
+uint8_t herovinga_add_total_indexed(herovinga_length *total, const herovinga_settings *settings, const uint8_t *hall, size_t hall_size,
+                                    const uint8_t *hall_index, size_t hall_index_size, const uint8_t *line, size_t line_size,
+                                    const uint8_t *line_index, size_t line_index_size, const uint8_t *numerals, size_t numerals_size,
+                                    const uint8_t *text, size_t text_size, herovinga_answer *answer);
+
+/* Looks a name up as a text's unit is looked up, in the line's table and, if that has not got it, in the hall's. It returns 0 whether a table
+ * has the name or not; any bytes are a name, none at all too. Position: 0. Found: the table, the row and how many names were compared, of the
+ * line's table and, if it was searched, of the hall's: each up to the one that is the same. Numerals are no part of it. */
+uint8_t herovinga_look_up(const herovinga_settings *settings, const uint8_t *hall, size_t hall_size, const uint8_t *line, size_t line_size,
+                          const uint8_t *name, size_t name_size, herovinga_found *found);
+
+/* The same through indexes. Table and row are those of herovinga_look_up. Compared are the names that halving comes to: of the entries that are
+ * left it takes the one in the middle, or the later of two, and then those before it or those behind it are left. A wrong index is 23, after 7. */
+uint8_t herovinga_look_up_indexed(const herovinga_settings *settings, const uint8_t *hall, size_t hall_size, const uint8_t *hall_index,
+                                  size_t hall_index_size, const uint8_t *line, size_t line_size, const uint8_t *line_index,
+                                  size_t line_index_size, const uint8_t *name, size_t name_size, herovinga_found *found);
+
+/* A name looked up under a card; and the four under a card with indexes. */
+static inline uint8_t herovinga_card_look_up(const herovinga_card *card, const uint8_t *name, size_t name_size, herovinga_found *found)
+{
+    return herovinga_look_up(&card->settings, card->hall, card->hall_size, card->line, card->line_size, name, name_size, found);
+}
+
+static inline uint8_t herovinga_indexed_card_read_part(const herovinga_indexed_card *card, const uint8_t *text, size_t text_size, size_t place,
+                                                       herovinga_answer *answer)
+{
+    return herovinga_read_part_indexed(&card->card.settings, card->card.hall, card->card.hall_size, card->hall_index, card->hall_index_size,
+                                       card->card.line, card->card.line_size, card->line_index, card->line_index_size, card->card.numerals,
+                                       card->card.numerals_size, text, text_size, place, answer);
+}
+
+static inline uint8_t herovinga_indexed_card_read_total(const herovinga_indexed_card *card, const uint8_t *text, size_t text_size,
+                                                        herovinga_answer *answer)
+{
+    return herovinga_read_total_indexed(&card->card.settings, card->card.hall, card->card.hall_size, card->hall_index, card->hall_index_size,
+                                        card->card.line, card->card.line_size, card->line_index, card->line_index_size, card->card.numerals,
+                                        card->card.numerals_size, text, text_size, answer);
+}
+
+static inline uint8_t herovinga_indexed_card_add_total(herovinga_length *total, const herovinga_indexed_card *card, const uint8_t *text,
+                                                       size_t text_size, herovinga_answer *answer)
+{
+    return herovinga_add_total_indexed(total, &card->card.settings, card->card.hall, card->card.hall_size, card->hall_index,
+                                       card->hall_index_size, card->card.line, card->card.line_size, card->line_index, card->line_index_size,
+                                       card->card.numerals, card->card.numerals_size, text, text_size, answer);
+}
+
+static inline uint8_t herovinga_indexed_card_look_up(const herovinga_indexed_card *card, const uint8_t *name, size_t name_size,
+                                                     herovinga_found *found)
+{
+    return herovinga_look_up_indexed(&card->card.settings, card->card.hall, card->card.hall_size, card->hall_index, card->hall_index_size,
+                                     card->card.line, card->card.line_size, card->line_index, card->line_index_size, name, name_size, found);
+}
 
 #ifdef __cplusplus
 }

@@ -1,7 +1,7 @@
 /* Calls the entries as C calls them, with what only C can pass (null, odd switches, counts that no byte holds, words that are no length) and
- * with every number that is handed back, and holds each answer, the buffer and the total to what must be there. Those that take a card are
- * called by their own parameters and by the card's functions. Prints how many answers were held so, and each that is wrong; exits 1 if one
- * is. */
+ * with every number that is handed back, and holds each answer, the buffer, the total, the table and the index to what must be there. Those that
+ * take a card are called by their own parameters and by the card's functions, without indexes and through them. Prints how many answers were
+ * held so, and each that is wrong; exits 1 if one is. */
 #include <inttypes.h>
 #include <stdint.h>
 #include <stdio.h>
@@ -11,7 +11,7 @@
 #include "herovinga.h"
 
 #define LARGEST UINT64_MAX
-#define NUMBERS 23
+#define NUMBERS 24
 
 /* What was one number for syntax. */
 #define NOT_GIVEN 2
@@ -68,35 +68,114 @@ static void check_answer(const char *what, uint8_t number, herovinga_answer answ
     check(what, number == wanted && answer.position == position && same_length(answer.length, length));
 }
 
-/* ---- the entries that take a card, by their own parameters and by the card's functions */
+/* ---- the entries that take a card, by their own parameters and by the card's functions, without indexes and through them */
 
-enum way { BY_PARAMETERS, BY_CARD, WAYS };
+enum way { BY_PARAMETERS, BY_CARD, BY_INDEXES, BY_INDEXED_CARD, WAYS };
+
+static uint8_t read_part_indexed(int way, const herovinga_indexed_card *i, const char *text, size_t size, size_t place, herovinga_answer *answer)
+{
+    const herovinga_card *c = &i->card;
+    const uint8_t *bytes = (const uint8_t *)text;
+    *answer = unwritten();
+    return way == BY_INDEXED_CARD
+               ? herovinga_indexed_card_read_part(i, bytes, size, place, answer)
+               : herovinga_read_part_indexed(&c->settings, c->hall, c->hall_size, i->hall_index, i->hall_index_size, c->line, c->line_size,
+                                             i->line_index, i->line_index_size, c->numerals, c->numerals_size, bytes, size, place, answer);
+}
+
+static uint8_t read_total_indexed(int way, const herovinga_indexed_card *i, const char *text, size_t size, herovinga_answer *answer)
+{
+    const herovinga_card *c = &i->card;
+    const uint8_t *bytes = (const uint8_t *)text;
+    *answer = unwritten();
+    return way == BY_INDEXED_CARD
+               ? herovinga_indexed_card_read_total(i, bytes, size, answer)
+               : herovinga_read_total_indexed(&c->settings, c->hall, c->hall_size, i->hall_index, i->hall_index_size, c->line, c->line_size,
+                                              i->line_index, i->line_index_size, c->numerals, c->numerals_size, bytes, size, answer);
+}
+
+static uint8_t add_total_indexed(int way, herovinga_length *total, const herovinga_indexed_card *i, const char *text, size_t size,
+                                 herovinga_answer *answer)
+{
+    const herovinga_card *c = &i->card;
+    const uint8_t *bytes = (const uint8_t *)text;
+    *answer = unwritten();
+    return way == BY_INDEXED_CARD
+               ? herovinga_indexed_card_add_total(total, i, bytes, size, answer)
+               : herovinga_add_total_indexed(total, &c->settings, c->hall, c->hall_size, i->hall_index, i->hall_index_size, c->line,
+                                             c->line_size, i->line_index, i->line_index_size, c->numerals, c->numerals_size, bytes, size,
+                                             answer);
+}
+
+/* The index of a table, made for it, and its size. One beside a table that is refused is not made, and has any bytes: the table is looked at
+ * first. That of an empty table is null. */
+static const uint8_t *index_of(const herovinga_settings *settings, const uint8_t *table, size_t table_size, uint8_t *room, size_t *size)
+{
+    herovinga_answer answer;
+    *size = table_size / HEROVINGA_ROW_SIZE;
+    if (*size > HEROVINGA_MOST_ROWS)
+        *size = HEROVINGA_MOST_ROWS;
+    herovinga_make_index(settings, table, table_size, room, *size, &answer);
+    return *size == 0 ? NULL : room;
+}
+
+/* A card with its indexes, of which there is one at a time. */
+static herovinga_indexed_card indexed(const herovinga_card *c)
+{
+    static uint8_t of_the_hall[HEROVINGA_MOST_ROWS], of_the_line[HEROVINGA_MOST_ROWS];
+    herovinga_indexed_card i;
+    i.card = *c;
+    i.hall_index = index_of(&c->settings, c->hall, c->hall_size, of_the_hall, &i.hall_index_size);
+    i.line_index = index_of(&c->settings, c->line, c->line_size, of_the_line, &i.line_index_size);
+    return i;
+}
 
 static uint8_t read_part(int way, const herovinga_card *c, const char *text, size_t size, size_t place, herovinga_answer *answer)
 {
     const uint8_t *bytes = (const uint8_t *)text;
+    const herovinga_indexed_card i = indexed(c);
     *answer = unwritten();
-    return way == BY_CARD ? herovinga_card_read_part(c, bytes, size, place, answer)
-                          : herovinga_read_part(&c->settings, c->hall, c->hall_size, c->line, c->line_size, c->numerals, c->numerals_size,
-                                                bytes, size, place, answer);
+    switch (way) {
+    case BY_PARAMETERS:
+        return herovinga_read_part(&c->settings, c->hall, c->hall_size, c->line, c->line_size, c->numerals, c->numerals_size, bytes, size, place,
+                                   answer);
+    case BY_CARD:
+        return herovinga_card_read_part(c, bytes, size, place, answer);
+    default:
+        return read_part_indexed(way, &i, text, size, place, answer);
+    }
 }
 
 static uint8_t read_total(int way, const herovinga_card *c, const char *text, size_t size, herovinga_answer *answer)
 {
     const uint8_t *bytes = (const uint8_t *)text;
+    const herovinga_indexed_card i = indexed(c);
     *answer = unwritten();
-    return way == BY_CARD ? herovinga_card_read_total(c, bytes, size, answer)
-                          : herovinga_read_total(&c->settings, c->hall, c->hall_size, c->line, c->line_size, c->numerals, c->numerals_size,
-                                                 bytes, size, answer);
+    switch (way) {
+    case BY_PARAMETERS:
+        return herovinga_read_total(&c->settings, c->hall, c->hall_size, c->line, c->line_size, c->numerals, c->numerals_size, bytes, size,
+                                    answer);
+    case BY_CARD:
+        return herovinga_card_read_total(c, bytes, size, answer);
+    default:
+        return read_total_indexed(way, &i, text, size, answer);
+    }
 }
 
 static uint8_t add_total(int way, herovinga_length *total, const herovinga_card *c, const char *text, size_t size, herovinga_answer *answer)
 {
     const uint8_t *bytes = (const uint8_t *)text;
+    const herovinga_indexed_card i = indexed(c);
     *answer = unwritten();
-    return way == BY_CARD ? herovinga_card_add_total(total, c, bytes, size, answer)
-                          : herovinga_add_total(total, &c->settings, c->hall, c->hall_size, c->line, c->line_size, c->numerals,
-                                                c->numerals_size, bytes, size, answer);
+    switch (way) {
+    case BY_PARAMETERS:
+        return herovinga_add_total(total, &c->settings, c->hall, c->hall_size, c->line, c->line_size, c->numerals, c->numerals_size, bytes, size,
+                                   answer);
+    case BY_CARD:
+        return herovinga_card_add_total(total, c, bytes, size, answer);
+    default:
+        return add_total_indexed(way, total, &i, text, size, answer);
+    }
 }
 
 /* A card with the first rows of the hall's table, and what is passed beside it wherever nothing else is. */
@@ -236,6 +315,10 @@ static void layout(void)
     check("default kind at word 24", offsetof(herovinga_settings, default_kind) == 24 * sizeof(uint64_t));
     check("a length is 3 words", sizeof(herovinga_length) == 3 * sizeof(uint64_t));
     check("an answer is 4 words", sizeof(herovinga_answer) == 4 * sizeof(uint64_t));
+    check("what is found is 4 words", sizeof(herovinga_found) == 4 * sizeof(uint64_t));
+    check("the table at word 1", offsetof(herovinga_found, table) == 1 * sizeof(uint64_t));
+    check("the row at word 2", offsetof(herovinga_found, row) == 2 * sizeof(uint64_t));
+    check("compared at word 3", offsetof(herovinga_found, compared) == 3 * sizeof(uint64_t));
     check("a size is a word", sizeof(size_t) == sizeof(uint64_t));
 }
 
@@ -1153,6 +1236,431 @@ static void iso_writings(void)
     check_answer("beyond a null buffer for ISO", got, answer, HEROVINGA_BEYOND, 1, zero);
 }
 
+/* ---- indexes beside the unit tables */
+
+/* Card A's index (block, min, ms, ns, s, turn), and that of a line's table of jaw and turn. */
+static const uint8_t index_a[6] = {5, 3, 1, 0, 2, 4}, index_7[2] = {0, 1};
+
+/* Room for an index, and bytes behind it that nothing changes. */
+enum { GUARDED = HEROVINGA_MOST_ROWS + 8, GUARD = 0xa5 };
+
+/* Bytes with the guard behind them. */
+static void put_guarded(uint8_t *room, size_t room_size, const uint8_t *bytes, size_t size)
+{
+    memset(room, GUARD, room_size);
+    if (size > 0)
+        memcpy(room, bytes, size);
+}
+
+/* An index of so many bytes made: what it holds then, or null if that is what it held. */
+static void makes(herovinga_card c, size_t size, uint8_t number, uint64_t position, const uint8_t *then)
+{
+    uint8_t index[GUARDED], wanted[GUARDED];
+    herovinga_answer answer = unwritten();
+    uint8_t got;
+    memset(index, GUARD, sizeof index);
+    put_guarded(wanted, sizeof wanted, then, then == NULL ? 0 : size);
+    got = herovinga_make_index(&c.settings, c.hall, c.hall_size, size == 0 ? NULL : index, size, &answer);
+    check_answer("an index made", got, answer, number, position, zero);
+    check("the index made", memcmp(index, wanted, sizeof index) == 0);
+}
+
+static void checks_index(herovinga_card c, const uint8_t *index, size_t size, uint8_t number, uint64_t position)
+{
+    herovinga_answer answer = unwritten();
+    uint8_t got = herovinga_check_index(&c.settings, c.hall, c.hall_size, index, size, &answer);
+    check_answer("an index checked", got, answer, number, position, zero);
+}
+
+static void order_of_names(const card_a *a)
+{
+    static const char *const names[] = {"\001", "A", "Z", "a", "ab", "abcdefghijklmnop", "b", "m", "min", "ms", "\177", "\200", "\302\265s", "\377"};
+    enum { COUNT = sizeof names / sizeof names[0] };
+    uint8_t table[COUNT * HEROVINGA_ROW_SIZE], index[COUNT];
+    size_t shift, i;
+    for (shift = 0; shift < COUNT; shift++) {
+        for (i = 0; i < COUNT; i++) {
+            put_row(table + i * HEROVINGA_ROW_SIZE, names[(i + shift) % COUNT], HEROVINGA_SECOND, 1, 0);
+            index[(i + shift) % COUNT] = (uint8_t)i;
+        }
+        makes(with_hall(of(a), table, sizeof table), COUNT, HEROVINGA_DONE, COUNT, index);
+    }
+}
+
+static void made_indexes(const card_a *a)
+{
+    static const size_t wrong_sizes[] = {0, 1, 5, 7, GUARDED};
+    static uint8_t table[MORE];
+    uint8_t rising[HEROVINGA_MOST_ROWS];
+    const herovinga_card c = of(a);
+    card_a worse = *a;
+    size_t i;
+    makes(c, 6, HEROVINGA_DONE, 6, index_a);
+    for (i = 0; i < sizeof wrong_sizes / sizeof wrong_sizes[0]; i++)
+        makes(c, wrong_sizes[i], HEROVINGA_INDEX, 6, NULL);
+    makes(with_hall(c, NULL, 0), 0, HEROVINGA_DONE, 0, NULL);
+    makes(with_hall(c, NULL, 0), 1, HEROVINGA_INDEX, 0, NULL);
+
+    /* As many rows as there may be: of each first letter from a to l three, which stand 26 rows apart, and of the others two. */
+    put_rows(table, 0, HEROVINGA_MOST_ROWS + 1, 1);
+    for (i = 0; i < HEROVINGA_MOST_ROWS; i++)
+        rising[i] = (uint8_t)(i < 36 ? i / 3 + i % 3 * 26 : (i - 36) / 2 + 12 + (i - 36) % 2 * 26);
+    makes(with_hall(c, table, FULL), HEROVINGA_MOST_ROWS, HEROVINGA_DONE, HEROVINGA_MOST_ROWS, rising);
+    makes(with_hall(c, table, FULL), HEROVINGA_MOST_ROWS - 1, HEROVINGA_INDEX, HEROVINGA_MOST_ROWS, NULL);
+    makes(with_hall(c, table, FULL), HEROVINGA_MOST_ROWS + 1, HEROVINGA_INDEX, HEROVINGA_MOST_ROWS, NULL);
+
+    /* A wrong table and wrong settings come first; a wrong table of the line's, or wrong numerals, are not passed. */
+    makes(with_hall(c, table, MORE), HEROVINGA_MOST_ROWS + 1, HEROVINGA_CARD, HEROVINGA_WRONG_HALL_SIZE, NULL);
+    makes(with_hall(c, table, 31), 0, HEROVINGA_CARD, HEROVINGA_WRONG_HALL_SIZE, NULL);
+    worse.hall[5 * HEROVINGA_ROW_SIZE + HEROVINGA_KIND_AT] = 8;
+    makes(of(&worse), 6, HEROVINGA_CARD, 5, NULL);
+    makes(of(&worse), 0, HEROVINGA_CARD, 5, NULL);
+    worse.settings.default_kind = 256;
+    makes(of(&worse), 6, HEROVINGA_CARD, HEROVINGA_WRONG_DEFAULT_KIND, NULL);
+}
+
+/* Every rotation and every swap of card A's index, and every entry that is another. */
+static void wrong_entries(const card_a *a)
+{
+    const herovinga_card c = of(a);
+    uint8_t index[6];
+    size_t i, j;
+    int row;
+    checks_index(c, index_a, sizeof index_a, HEROVINGA_DONE, 6);
+    for (j = 1; j < sizeof index; j++) {
+        for (i = 0; i < sizeof index; i++)
+            index[i] = index_a[(i + j) % sizeof index];
+        checks_index(c, index, sizeof index, HEROVINGA_INDEX, 0);
+    }
+    for (i = 0; i < sizeof index; i++) {
+        for (j = i + 1; j < sizeof index; j++) {
+            memcpy(index, index_a, sizeof index);
+            index[i] = index_a[j];
+            index[j] = index_a[i];
+            checks_index(c, index, sizeof index, HEROVINGA_INDEX, i);
+        }
+        memcpy(index, index_a, sizeof index);
+        for (row = 0; row < 256; row++) {
+            index[i] = (uint8_t)row;
+            if (row == index_a[i])
+                checks_index(c, index, sizeof index, HEROVINGA_DONE, 6);
+            else
+                checks_index(c, index, sizeof index, HEROVINGA_INDEX, i);
+        }
+    }
+}
+
+static void wrong_lengths(const card_a *a)
+{
+    const herovinga_card c = of(a);
+    uint8_t longer[GUARDED];
+    card_a worse = *a;
+    size_t size;
+    put_guarded(longer, sizeof longer, index_a, sizeof index_a);
+    for (size = 0; size <= sizeof longer; size++)
+        if (size != 6)
+            checks_index(c, longer, size, HEROVINGA_INDEX, 6);
+    checks_index(c, NULL, 0, HEROVINGA_INDEX, 6);
+    checks_index(with_hall(c, NULL, 0), NULL, 0, HEROVINGA_DONE, 0);
+    checks_index(with_hall(c, NULL, 0), longer, 1, HEROVINGA_INDEX, 0);
+    checks_index(with_rows(a, 1), longer, 1, HEROVINGA_INDEX, 0);
+    checks_index(with_rows(a, 1), longer + 3, 1, HEROVINGA_DONE, 1);
+    checks_index(with_rows(a, 1), NULL, 0, HEROVINGA_INDEX, 1);
+    worse.hall[2 * HEROVINGA_ROW_SIZE + HEROVINGA_ZEROS_AT] = 1;
+    checks_index(of(&worse), NULL, 0, HEROVINGA_CARD, 2);
+    checks_index(of(&worse), index_a, sizeof index_a, HEROVINGA_CARD, 2);
+    worse.settings.conjunctions = 5;
+    checks_index(of(&worse), NULL, 0, HEROVINGA_CARD, HEROVINGA_WRONG_CONJUNCTIONS);
+}
+
+/* A row of a table replaced under a card's settings: table and index then have the new row and the index that is wanted, or, where that is
+ * null, what they had. */
+static void replaces(herovinga_card c, const uint8_t *index, size_t index_size, size_t row, const uint8_t *new_row, size_t new_size,
+                     uint8_t number, uint64_t position, const uint8_t *wanted)
+{
+    static uint8_t table[MORE + 1], table_then[MORE + 1];
+    uint8_t lent[GUARDED], index_then[GUARDED];
+    herovinga_answer answer = unwritten();
+    uint8_t got;
+    put_guarded(table, sizeof table, c.hall, c.hall_size);
+    put_guarded(table_then, sizeof table_then, c.hall, c.hall_size);
+    put_guarded(lent, sizeof lent, index, index_size);
+    put_guarded(index_then, sizeof index_then, wanted == NULL ? index : wanted, index_size);
+    if (wanted != NULL)
+        memcpy(table_then + row * HEROVINGA_ROW_SIZE, new_row, HEROVINGA_ROW_SIZE);
+    got = herovinga_replace_row(&c.settings, c.hall_size == 0 ? NULL : table, c.hall_size, index_size == 0 ? NULL : lent, index_size, row, new_row,
+                                new_size, &answer);
+    check_answer("a row replaced", got, answer, number, position, zero);
+    check("the table then", memcmp(table, table_then, sizeof table) == 0);
+    check("the index then", memcmp(lent, index_then, sizeof lent) == 0);
+}
+
+/* A row of card A's table, with its right index. */
+static void replaces_a(const card_a *a, size_t row, const char *name, uint8_t number, uint64_t position, const uint8_t *wanted)
+{
+    uint8_t new_row[HEROVINGA_ROW_SIZE];
+    put_row(new_row, name, HEROVINGA_SECOND, 1, 0);
+    replaces(of(a), index_a, sizeof index_a, row, new_row, sizeof new_row, number, position, wanted);
+}
+
+static void replaced_rows(const card_a *a)
+{
+    static const uint8_t first[6] = {2, 5, 3, 1, 0, 4}, last[6] = {3, 1, 0, 2, 4, 5}, between[6] = {5, 3, 4, 1, 0, 2};
+    const herovinga_card c = of(a);
+    replaces_a(a, 2, "apart", HEROVINGA_DONE, 6, first);
+    replaces_a(a, 5, "zone", HEROVINGA_DONE, 6, last);
+    replaces_a(a, 5, "\302\265s", HEROVINGA_DONE, 6, last);
+    replaces_a(a, 4, "mn", HEROVINGA_DONE, 6, between);
+    replaces_a(a, 1, "ms", HEROVINGA_DONE, 6, index_a);
+    replaces_a(a, 3, "blocks", HEROVINGA_DONE, 6, index_a);
+    replaces(c, index_a, sizeof index_a, 0, c.hall, HEROVINGA_ROW_SIZE, HEROVINGA_DONE, 6, index_a);
+}
+
+/* 7, 23, 10 at a row past the last, and 7 at the row: whatever is wrong behind it. */
+static void rows_not_replaced(const card_a *a)
+{
+    static const uint8_t swapped[6] = {5, 3, 1, 0, 4, 2};
+    static const size_t past[] = {6, 7, 64, 256, SIZE_MAX / 32 + 1, SIZE_MAX};
+    const herovinga_card c = of(a);
+    uint8_t two[2 * HEROVINGA_ROW_SIZE], bad[HEROVINGA_ROW_SIZE];
+    card_a worse = *a;
+    size_t i;
+    put_row(two, "zone", HEROVINGA_SECOND, 1, 0);
+    put_row(two + HEROVINGA_ROW_SIZE, "yard", HEROVINGA_SECOND, 1, 0);
+    put_row(bad, "1", HEROVINGA_SECOND, 1, 0);
+
+    /* The name of another row, whether the check would name this one or the other; a bad row; a size that is no row's. */
+    replaces_a(a, 0, "s", HEROVINGA_CARD, 0, NULL);
+    replaces_a(a, 4, "s", HEROVINGA_CARD, 4, NULL);
+    replaces_a(a, 5, "ns", HEROVINGA_CARD, 5, NULL);
+    replaces_a(a, 3, "a b", HEROVINGA_CARD, 3, NULL);
+    replaces(c, index_a, 6, 1, bad, sizeof bad, HEROVINGA_CARD, 1, NULL);
+    replaces(c, index_a, 6, 0, two, HEROVINGA_ROW_SIZE - 1, HEROVINGA_CARD, 0, NULL);
+    replaces(c, index_a, 6, 0, two, HEROVINGA_ROW_SIZE + 1, HEROVINGA_CARD, 0, NULL);
+    replaces(c, index_a, 6, 5, two, sizeof two, HEROVINGA_CARD, 5, NULL);
+    replaces(c, index_a, 6, 5, NULL, 0, HEROVINGA_CARD, 5, NULL);
+    for (i = 0; i < sizeof past / sizeof past[0]; i++) {
+        replaces(c, index_a, 6, past[i], two, HEROVINGA_ROW_SIZE, HEROVINGA_BEYOND, past[i], NULL);
+        replaces(c, index_a, 6, past[i], NULL, 0, HEROVINGA_BEYOND, past[i], NULL);
+        replaces(c, swapped, 6, past[i], NULL, 0, HEROVINGA_INDEX, 4, NULL);
+        replaces(c, index_a, 5, past[i], NULL, 0, HEROVINGA_INDEX, 6, NULL);
+        replaces(with_hall(c, NULL, 0), NULL, 0, past[i], NULL, 0, HEROVINGA_BEYOND, past[i], NULL);
+    }
+    replaces(with_hall(c, NULL, 0), NULL, 0, 0, two, HEROVINGA_ROW_SIZE, HEROVINGA_BEYOND, 0, NULL);
+    replaces(c, swapped, 6, 5, two, HEROVINGA_ROW_SIZE, HEROVINGA_INDEX, 4, NULL);
+    replaces(c, NULL, 0, 5, two, HEROVINGA_ROW_SIZE, HEROVINGA_INDEX, 6, NULL);
+    worse.hall[2 * HEROVINGA_ROW_SIZE + HEROVINGA_ZEROS_AT] = 1;
+    replaces(of(&worse), NULL, 0, SIZE_MAX, NULL, 0, HEROVINGA_CARD, 2, NULL);
+    replaces(of(&worse), index_a, 6, 2, two, HEROVINGA_ROW_SIZE, HEROVINGA_CARD, 2, NULL);
+    worse.settings.default_kind = 8;
+    replaces(of(&worse), NULL, 0, SIZE_MAX, NULL, 0, HEROVINGA_CARD, HEROVINGA_WRONG_DEFAULT_KIND, NULL);
+}
+
+/* What a lookup hands back, with no word right by chance before. */
+static herovinga_found unfound(void)
+{
+    herovinga_found found;
+    memset(&found, GUARD, sizeof found);
+    return found;
+}
+
+static void check_found(const char *what, uint8_t number, herovinga_found found, uint8_t wanted, uint64_t position, uint64_t table, uint64_t row,
+                        uint64_t compared)
+{
+    if (number < NUMBERS)
+        answers[number]++;
+    check(what, number == wanted && found.position == position && found.table == table && found.row == row && found.compared == compared);
+}
+
+static uint8_t look_up(int way, const herovinga_indexed_card *i, const char *name, size_t size, herovinga_found *found)
+{
+    const herovinga_card *c = &i->card;
+    const uint8_t *bytes = (const uint8_t *)name;
+    *found = unfound();
+    switch (way) {
+    case BY_PARAMETERS:
+        return herovinga_look_up(&c->settings, c->hall, c->hall_size, c->line, c->line_size, bytes, size, found);
+    case BY_CARD:
+        return herovinga_card_look_up(c, bytes, size, found);
+    case BY_INDEXES:
+        return herovinga_look_up_indexed(&c->settings, c->hall, c->hall_size, i->hall_index, i->hall_index_size, c->line, c->line_size,
+                                         i->line_index, i->line_index_size, bytes, size, found);
+    default:
+        return herovinga_indexed_card_look_up(i, bytes, size, found);
+    }
+}
+
+/* A name under a card: its table and row, and the names that are compared without indexes and through them. */
+static void finds_bytes(herovinga_card c, const char *name, size_t size, uint64_t table, uint64_t row, uint64_t one_by_one, uint64_t halving)
+{
+    const herovinga_indexed_card i = indexed(&c);
+    int way;
+    for (way = 0; way < WAYS; way++) {
+        herovinga_found found;
+        uint8_t got = look_up(way, &i, name, size, &found);
+        check_found("a name looked up", got, found, HEROVINGA_DONE, 0, table, row, way < BY_INDEXES ? one_by_one : halving);
+    }
+}
+
+static void finds(herovinga_card c, const char *name, uint64_t table, uint64_t row, uint64_t one_by_one, uint64_t halving)
+{
+    finds_bytes(c, name, strlen(name), table, row, one_by_one, halving);
+}
+
+/* Line 7: card A with a jaw stroke and a turn of its own. */
+static herovinga_card line_7(const card_a *a)
+{
+    static uint8_t line[2 * HEROVINGA_ROW_SIZE];
+    put_row(line, "jaw", HEROVINGA_MILLISECOND, 40, 0);
+    put_row(line + HEROVINGA_ROW_SIZE, "turn", HEROVINGA_MILLISECOND, 15, 0);
+    return with_line(of(a), line, sizeof line);
+}
+
+static void lookups(const card_a *a)
+{
+    static uint8_t hall[FULL], line[FULL];
+    static const char far_too_long[257] = "s";
+    const herovinga_card seven = line_7(a), alone = with_line(of(a), NULL, 0);
+    herovinga_card c;
+    finds(alone, "ns", HEROVINGA_HALL, 0, 1, 1);
+    finds(alone, "ms", HEROVINGA_HALL, 1, 2, 3);
+    finds(alone, "s", HEROVINGA_HALL, 2, 3, 3);
+    finds(alone, "min", HEROVINGA_HALL, 3, 4, 2);
+    finds(alone, "turn", HEROVINGA_HALL, 4, 5, 2);
+    finds(alone, "block", HEROVINGA_HALL, 5, 6, 3);
+    finds(alone, "blocks", HEROVINGA_NO_TABLE, 0, 6, 3);
+    finds(alone, "z", HEROVINGA_NO_TABLE, 0, 6, 2);
+    finds(alone, "\377", HEROVINGA_NO_TABLE, 0, 6, 2);
+    finds_bytes(alone, NULL, 0, HEROVINGA_NO_TABLE, 0, 6, 3);
+    finds_bytes(alone, "s\0", 2, HEROVINGA_NO_TABLE, 0, 6, 3);
+    finds_bytes(alone, far_too_long, sizeof far_too_long, HEROVINGA_NO_TABLE, 0, 6, 3);
+    finds_bytes(alone, "\0", 1, HEROVINGA_NO_TABLE, 0, 6, 3);
+    finds(with_hall(alone, NULL, 0), "s", HEROVINGA_NO_TABLE, 0, 0, 0);
+    finds_bytes(with_hall(alone, NULL, 0), NULL, 0, HEROVINGA_NO_TABLE, 0, 0, 0);
+    finds(seven, "jaw", HEROVINGA_LINE, 0, 1, 2);
+    finds(seven, "turn", HEROVINGA_LINE, 1, 2, 1);
+    finds(seven, "s", HEROVINGA_HALL, 2, 5, 5);
+    finds(seven, "block", HEROVINGA_HALL, 5, 8, 5);
+    finds(seven, "pouch", HEROVINGA_NO_TABLE, 0, 8, 5);
+    finds(seven, "", HEROVINGA_NO_TABLE, 0, 8, 5);
+    finds(with_hall(seven, NULL, 0), "s", HEROVINGA_NO_TABLE, 0, 2, 2);
+    finds(with_numerals(seven, seven.hall, 31), "jaw", HEROVINGA_LINE, 0, 1, 2);
+
+    /* A longer name is not cut to the size of a row's. */
+    put_row(line, "abcdefghijklmnop", HEROVINGA_SECOND, 1, 0);
+    c = with_line(seven, line, HEROVINGA_ROW_SIZE);
+    finds(c, "abcdefghijklmnop", HEROVINGA_LINE, 0, 1, 1);
+    finds(c, "abcdefghijklmnopq", HEROVINGA_NO_TABLE, 0, 7, 4);
+    finds_bytes(c, "abcdefghijklmnop\003", 17, HEROVINGA_NO_TABLE, 0, 7, 4);
+
+    /* Both full: at most 64 of each one by one, and 7 by halving. */
+    put_rows(line, 0, HEROVINGA_MOST_ROWS, 1);
+    put_rows(hall, 64, HEROVINGA_MOST_ROWS, 1);
+    c = with_hall(with_line(seven, line, FULL), hall, FULL);
+    finds(c, "aA", HEROVINGA_LINE, 0, 1, 7);
+    finds(c, "mC", HEROVINGA_HALL, 0, 65, 9);
+    finds(c, "", HEROVINGA_NO_TABLE, 0, 128, 14);
+    finds(c, "zz", HEROVINGA_NO_TABLE, 0, 128, 12);
+}
+
+/* A card that the lookups refuse, with indexes and without. */
+static void lookups_refused(const card_a *a)
+{
+    static const uint8_t bad[HEROVINGA_ROW_SIZE];
+    herovinga_card c[4];
+    const uint64_t positions[4] = {HEROVINGA_FIRST_LINE_ROW, HEROVINGA_WRONG_LINE_SIZE, 0, HEROVINGA_WRONG_CONJUNCTIONS};
+    size_t i;
+    int way;
+    c[0] = with_line(of(a), bad, sizeof bad);
+    c[1] = with_line(of(a), bad, sizeof bad - 1);
+    c[2] = with_hall(c[1], bad, sizeof bad);
+    c[3] = c[2];
+    c[3].settings.conjunctions = LARGEST;
+    for (i = 0; i < 4; i++) {
+        const herovinga_indexed_card indexes = indexed(&c[i]);
+        for (way = 0; way < WAYS; way++) {
+            herovinga_found found;
+            uint8_t got = look_up(way, &indexes, "s", 1, &found);
+            check_found("a lookup refused", got, found, HEROVINGA_CARD, positions[i], HEROVINGA_NO_TABLE, 0, 0);
+        }
+    }
+}
+
+/* Card and indexes that each entry which takes both refuses, whatever name, text, place and total are. */
+static void refused_indexes(herovinga_card c, const uint8_t *hall_index, size_t hall_size, const uint8_t *line_index, size_t line_size,
+                            uint8_t number, uint64_t position)
+{
+    const herovinga_length minus_zero = {1, 0, 0}, odd = {5, 7, 0};
+    static const char text[HEROVINGA_LONGEST_TEXT + 1];
+    herovinga_indexed_card i;
+    int way;
+    i.card = c;
+    i.hall_index = hall_index;
+    i.hall_index_size = hall_size;
+    i.line_index = line_index;
+    i.line_index_size = line_size;
+    for (way = BY_INDEXES; way < WAYS; way++) {
+        herovinga_length total = minus_zero;
+        herovinga_answer answer;
+        herovinga_found found;
+        uint8_t got = add_total_indexed(way, &total, &i, text, sizeof text, &answer);
+        check_answer("an index before total and text", got, answer, number, position, zero);
+        check("a wrong index leaves the total", same_length(total, minus_zero));
+        total = odd;
+        got = add_total_indexed(way, &total, &i, "1s", 2, &answer);
+        check_answer("an index before a right text", got, answer, number, position, zero);
+        check("a wrong index leaves the total", same_length(total, odd));
+        got = read_total_indexed(way, &i, text, sizeof text, &answer);
+        check_answer("an index before the text", got, answer, number, position, zero);
+        got = read_total_indexed(way, &i, "1", 1, &answer);
+        check_answer("an index before a text without units", got, answer, number, position, zero);
+        got = read_part_indexed(way, &i, "1s", 2, SIZE_MAX, &answer);
+        check_answer("an index before the place", got, answer, number, position, zero);
+        got = look_up(way, &i, "jaw", 3, &found);
+        check_found("an index before the name", got, found, number, position, HEROVINGA_NO_TABLE, 0, 0);
+    }
+}
+
+/* All of 7, then the hall's index, then the line's with 128 more. Each has all wrong that the one before has. */
+static void order_of_indexes(const card_a *a)
+{
+    static const uint8_t wrong_hall[6] = {5, 3, 1, 0, 4, 2}, wrong_line[3] = {1, 0, 2}, bad[HEROVINGA_ROW_SIZE];
+    const herovinga_card seven = line_7(a);
+    herovinga_card c = seven;
+    refused_indexes(c, index_a, 6, wrong_line, 2, HEROVINGA_INDEX, HEROVINGA_FIRST_LINE_ROW);
+    refused_indexes(c, index_a, 6, index_a + 3, 2, HEROVINGA_INDEX, HEROVINGA_FIRST_LINE_ROW + 1);
+    refused_indexes(c, index_a, 6, index_7, 1, HEROVINGA_INDEX, HEROVINGA_FIRST_LINE_ROW + 2);
+    refused_indexes(c, index_a, 6, wrong_line, 3, HEROVINGA_INDEX, HEROVINGA_FIRST_LINE_ROW + 2);
+    refused_indexes(c, index_a, 6, NULL, 0, HEROVINGA_INDEX, HEROVINGA_FIRST_LINE_ROW + 2);
+    refused_indexes(with_line(c, NULL, 0), index_a, 6, index_7, 1, HEROVINGA_INDEX, HEROVINGA_FIRST_LINE_ROW);
+    refused_indexes(c, wrong_hall, 6, wrong_line, 2, HEROVINGA_INDEX, 4);
+    refused_indexes(c, wrong_hall, 5, NULL, 0, HEROVINGA_INDEX, 6);
+    refused_indexes(c, NULL, 0, index_7, 2, HEROVINGA_INDEX, 6);
+    refused_indexes(with_hall(c, NULL, 0), index_a, 1, index_7, 2, HEROVINGA_INDEX, 0);
+    c = with_line(c, bad, sizeof bad);
+    refused_indexes(c, NULL, 0, NULL, 0, HEROVINGA_CARD, HEROVINGA_FIRST_LINE_ROW);
+    c = with_hall(c, bad, sizeof bad);
+    refused_indexes(c, NULL, 0, NULL, 0, HEROVINGA_CARD, 0);
+    c.settings.default_kind = 8;
+    refused_indexes(c, NULL, 0, NULL, 0, HEROVINGA_CARD, HEROVINGA_WRONG_DEFAULT_KIND);
+}
+
+/* Numerals are wrong before an index is, but for a lookup, which they are no part of. */
+static void numerals_before_indexes(const card_a *a)
+{
+    herovinga_indexed_card i = indexed(&(const herovinga_card){0});
+    int way;
+    i.card = with_numerals(line_7(a), own, 31);
+    for (way = BY_INDEXES; way < WAYS; way++) {
+        herovinga_answer answer;
+        herovinga_found found;
+        uint8_t got = read_total_indexed(way, &i, "1s", 2, &answer);
+        check_answer("numerals before an index", got, answer, HEROVINGA_CARD, HEROVINGA_WRONG_NUMERALS_SIZE, zero);
+        got = look_up(way, &i, "s", 1, &found);
+        check_found("no numerals of a lookup", got, found, HEROVINGA_INDEX, 6, HEROVINGA_NO_TABLE, 0, 0);
+    }
+}
+
 int main(void)
 {
     card_a a, before;
@@ -1194,6 +1702,16 @@ int main(void)
     shift_totals(&a);
     iso_readings();
     iso_writings();
+    order_of_names(&a);
+    made_indexes(&a);
+    wrong_entries(&a);
+    wrong_lengths(&a);
+    replaced_rows(&a);
+    rows_not_replaced(&a);
+    lookups(&a);
+    lookups_refused(&a);
+    order_of_indexes(&a);
+    numerals_before_indexes(&a);
     check("the card is as it was", memcmp(&a, &before, sizeof a) == 0);
     check("the line's table is as it was", memcmp(own, own_before, sizeof own) == 0);
     check("the numerals are as they were", memcmp(words, words_before, sizeof words) == 0);

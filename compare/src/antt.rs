@@ -185,7 +185,7 @@ pub fn length(length: &Length) -> String {
     record(sign, &length.seconds.to_string(), &length.nanos.to_string())
 }
 
-fn settings(card: &Card) -> String {
+pub fn settings(card: &Card) -> String {
     let switches = &card.switches;
     let mut out = format!(
         "record {{ negatives = {}; fractions = {}; exponents = {}; infinity = {}; ago = {}; «after_sign» = {}; «before_unit» = {}; inner = {}; outer = {}; conjunctions = {}; ",

@@ -3,6 +3,7 @@
 
 mod all_texts;
 mod found;
+mod indexes_beside;
 mod made_texts;
 mod port_side;
 mod progress;
@@ -16,11 +17,17 @@ mod card_a;
 #[allow(dead_code)]
 mod crate_side;
 #[allow(dead_code)]
+mod index_limits;
+#[allow(dead_code)]
+mod index_request;
+#[allow(dead_code)]
 mod left_out;
 #[allow(dead_code)]
 mod make;
 #[allow(dead_code)]
 mod make_card;
+#[allow(dead_code)]
+mod make_indexes;
 #[allow(dead_code)]
 mod make_text;
 #[allow(dead_code)]
@@ -29,6 +36,8 @@ mod nanoseconds;
 mod natural;
 #[allow(dead_code)]
 mod plain;
+#[allow(dead_code)]
+mod plain_index;
 #[allow(dead_code)]
 mod request;
 #[allow(dead_code)]
@@ -84,6 +93,7 @@ fn seed_and_count(words: &[&str], count: u64) -> Result<(u64, u64), String> {
 
 fn made(seed: u64, count: u64, spoiler: Option<Spoiler>) -> Result<bool, String> {
     let mut found = Found::new(format!("seed {seed}"), count, spoiler);
+    indexes_beside::hold_limits(&mut found);
     made_texts::ask(&mut found, seed, count)?;
     Ok(found.end())
 }
@@ -91,6 +101,7 @@ fn made(seed: u64, count: u64, spoiler: Option<Spoiler>) -> Result<bool, String>
 fn all() -> Result<bool, String> {
     let name = "all texts of up to five bytes".to_string();
     let mut found = Found::new(name, all_texts::count(), None);
+    indexes_beside::hold_limits(&mut found);
     all_texts::ask(&mut found)?;
     Ok(found.end())
 }

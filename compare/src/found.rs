@@ -1,12 +1,14 @@
 //! What a run of the port beside the crate has asked and found.
 
+use std::collections::BTreeMap;
 use std::fmt;
 
 use crate::card_a::same_answer;
 use crate::crate_side::CrateAnswer;
+use crate::index_request::{IndexRequest, Outcome};
 use crate::left_out::LeftOut;
 use crate::progress::Progress;
-use crate::request::{Answer, Card, NUMBERS, Request};
+use crate::request::{Answer, Card, NUMBERS};
 use crate::slips::SLIPS;
 use crate::spoil::Spoiler;
 use crate::table::{MOST_ROWS, ROW_BYTES, merged};
@@ -21,10 +23,12 @@ pub struct Found {
     wanted: u64,
     progress: Progress,
     spoiler: Option<Spoiler>,
-    cards: u64,
+    pub cards: u64,
     pub readings: u64,
     /// Of the readings those of a part from a place.
     parts: u64,
+    /// Of the readings those for which the port looks units up through indexes.
+    pub through_indexes: u64,
     left_out: LeftOut,
     /// The port's answers by number.
     numbers: Numbers,
@@ -36,6 +40,10 @@ pub struct Found {
     places: HeldAgainstPlain,
     /// The port's slips, which are one number of the crate's.
     slips: HeldAgainstPlain,
+    /// What was asked about indexes and lookups, which the crate does not have, by
+    /// the name of the request; and what of it had been written by hand.
+    indexes: BTreeMap<&'static str, HeldAgainstPlain>,
+    index_limits: HeldAgainstPlain,
     /// What the port was asked about itself: texts, their parts, and lengths
     /// written and read back.
     pub texts: u64,
@@ -89,12 +97,22 @@ struct HeldAgainstPlain {
 }
 
 impl HeldAgainstPlain {
-    /// True if the two are the same.
-    fn compare(&mut self, plain: &Answer, port: &Answer) -> bool {
-        let same = plain == port;
-        self.numbers.count(port.number);
+    /// Counts an answer of the port's; true if it is the same.
+    fn count(&mut self, number: u8, same: bool) -> bool {
+        self.numbers.count(number);
         self.differing += u64::from(!same);
         same
+    }
+}
+
+/// The number of what the port answers about indexes.
+fn number_of(outcome: &Outcome) -> u8 {
+    match outcome {
+        Outcome::Answered(answer)
+        | Outcome::Made { answer, .. }
+        | Outcome::Replaced { answer, .. }
+        | Outcome::Shifted { answer, .. } => answer.number,
+        Outcome::LookedUp(found) => found.number,
     }
 }
 
@@ -176,6 +194,7 @@ impl Found {
             cards: 0,
             readings: 0,
             parts: 0,
+            through_indexes: 0,
             left_out: LeftOut::default(),
             numbers: Numbers::default(),
             kinds: [
@@ -187,6 +206,8 @@ impl Found {
             differing: Vec::new(),
             places: HeldAgainstPlain::default(),
             slips: HeldAgainstPlain::default(),
+            indexes: BTreeMap::new(),
+            index_limits: HeldAgainstPlain::default(),
             texts: 0,
             parts_of_texts: 0,
             written: 0,
@@ -239,7 +260,29 @@ impl Found {
             3 | 4 => &mut self.places,
             _ => &mut self.slips,
         };
-        held.compare(plain, port)
+        held.count(port.number, plain == port)
+    }
+
+    /// Counts what the port answers about indexes, compares it with what is wanted
+    /// and shows it if it differs.
+    pub fn hold_index(&mut self, request: &IndexRequest, plain: &Outcome, port: &Outcome) {
+        let held = self.indexes.entry(request.called()).or_default();
+        if !held.count(number_of(port), plain == port) {
+            self.show(
+                request,
+                [("port", port.to_string()), ("plain", plain.to_string())],
+            );
+        }
+    }
+
+    /// The same with what was written by hand.
+    pub fn hold_index_limit(&mut self, request: &IndexRequest, hand: &Outcome, port: &Outcome) {
+        if !self.index_limits.count(number_of(port), hand == port) {
+            self.show(
+                request,
+                [("port", port.to_string()), ("limit", hand.to_string())],
+            );
+        }
     }
 
     /// Counts something in which the port differs from itself.
@@ -252,11 +295,16 @@ impl Found {
     }
 
     fn differing_from_plain(&self) -> u64 {
-        self.places.differing + self.slips.differing
+        self.places.differing + self.slips.differing + self.differing_indexes()
+    }
+
+    fn differing_indexes(&self) -> u64 {
+        let held = self.indexes.values().map(|held| held.differing);
+        held.sum::<u64>() + self.index_limits.differing
     }
 
     /// Shows a request that was just counted as differing, with the answers.
-    pub fn show(&self, request: &Request, answers: [(&str, String); 2]) {
+    pub fn show(&self, request: &impl fmt::Display, answers: [(&str, String); 2]) {
         if self.differing() <= MOST_SHOWN {
             println!("{request}");
             for (whose, answer) in answers {
@@ -284,11 +332,12 @@ impl Found {
     pub fn end(&self) -> bool {
         self.progress.end();
         println!(
-            "{}: {} readings under {} cards, {} of them of a part from a place; {}, {} differ",
+            "{}: {} readings under {} cards, {} of them of a part from a place and {} through indexes; {}, {} differ",
             self.name,
             self.readings,
             self.cards,
             self.parts,
+            self.through_indexes,
             self.left_out,
             self.differing.len()
         );
@@ -307,6 +356,20 @@ impl Found {
             self.slips.differing,
             self.slips.numbers.slips()
         );
+        println!(
+            "indexes at their limits: {} held against what was written by hand, {} differ; by number: {}",
+            self.index_limits.numbers.all(),
+            self.index_limits.differing,
+            self.index_limits.numbers
+        );
+        for (called, held) in &self.indexes {
+            println!(
+                "{called}: {} held against the plain reading, {} differ; by number: {}",
+                held.numbers.all(),
+                held.differing,
+                held.numbers
+            );
+        }
         println!(
             "by the port alone: {} texts read in parts and added to a total, {} parts, {} lengths written and read back; {} differ",
             self.texts, self.parts_of_texts, self.written, self.differing_itself

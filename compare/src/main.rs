@@ -10,6 +10,10 @@ mod chosen;
 mod crate_side;
 mod day;
 mod evaluations;
+mod index_antt;
+mod index_limits;
+mod index_list;
+mod index_request;
 mod iso;
 mod iso_antt;
 mod iso_lengths;
@@ -21,11 +25,13 @@ mod lines;
 mod long_texts;
 mod make;
 mod make_card;
+mod make_indexes;
 mod make_odd;
 mod make_text;
 mod nanoseconds;
 mod natural;
 mod plain;
+mod plain_index;
 mod points;
 mod readings;
 mod replay;
@@ -43,6 +49,7 @@ use std::io::{self, BufRead, BufWriter, Write};
 use std::path::Path;
 use std::process::ExitCode;
 
+use index_request::IndexRequest;
 use make::Maker;
 use request::Request;
 
@@ -57,8 +64,8 @@ usage: compare make SEED COUNT          make requests
        compare untypable                all short texts with a unit that nobody could type, of the crate alone
        compare evaluations              numbers and multipliers with the crate's lengths
        compare tally REQUESTS ANSWERS   count the lines of two files
-       compare limits                   the hand-written cases at the limits, against plain
-       compare limits REQUESTS ANSWERS  the same cases, written into two files
+       compare limits                   the hand-written cases at the limits, those of indexes too, against plain
+       compare limits REQUESTS ANSWERS  the same cases but those of indexes, written into two files
        compare cards CARDS FOUND        cards, and what the plain reading finds of each
        compare day TEXTS FOUND          a day's texts on line 7, and the shift total after each
        compare readings TEXTS FOUND     texts under card A, and what is read of each
@@ -68,9 +75,12 @@ usage: compare make SEED COUNT          make requests
        compare replay LIST FOUND        requests with answers, and what replay prints of them
        compare scale SEED COUNT FOUND   the same made on the fly, the list on standard output
        compare iso TEXTS FOUND          texts for the reader of ISO timings, and what iso_list prints
+       compare index CARDS FOUND        cards for indexes and lookups, and what index_list prints
        compare antt REQUESTS ANSWERS DIR  both as antt modules in the folder DIR
        compare antt iso-texts DIR       ISO timings with the plain way's answers, the same
        compare antt iso-lengths DIR     lengths written as ISO timings, the same
+       compare antt index-limits DIR    indexes and lookups at their limits, the same
+       compare antt index-made DIR      made ones with the plain reading's answers, the same
 ";
 
 fn main() -> ExitCode {
@@ -78,15 +88,15 @@ fn main() -> ExitCode {
     let arguments: Vec<&str> = arguments.iter().map(String::as_str).collect();
     let done = match arguments.as_slice() {
         ["make", seed, count] => make_lines(seed, count),
-        ["answer"] => answer_lines(|request| Ok(crate_side::ask(request).to_string())),
-        ["split"] => answer_lines(chosen::split_line),
-        ["plain"] => answer_lines(|request| Ok(plain::answer_line(request))),
+        ["answer"] => answer_lines(|line| Ok(crate_side::ask(&Request::parse(line)?).to_string())),
+        ["split"] => answer_lines(|line| chosen::split_line(&Request::parse(line)?)),
+        ["plain"] => answer_lines(plain_line),
         ["agree", seed, count] => agree_on(seed, count),
         ["check"] => Ok(card_a::check()),
         ["points"] => points::ask_points(),
         ["untypable"] => untypable::search(),
         ["tally", requests, answers] => tally::tally(requests, answers),
-        ["limits"] => limits::check(),
+        ["limits"] => check_limits(),
         ["limits", requests, answers] => limits::write_files(requests, answers),
         ["evaluations"] => {
             evaluations::print();
@@ -101,8 +111,11 @@ fn main() -> ExitCode {
         ["round", found] => round::write_file(found),
         ["scale", seed, count, found] => print_requests(seed, count, found),
         ["iso", texts, found] => iso_list::write_files(texts, found),
+        ["index", cards, found] => index_list::write_files(cards, found),
         ["antt", "iso-texts", folder] => told(iso_antt::write_texts(Path::new(folder))),
         ["antt", "iso-lengths", folder] => told(iso_antt::write_lengths(Path::new(folder))),
+        ["antt", "index-limits", folder] => told(index_antt::write_limits(Path::new(folder))),
+        ["antt", "index-made", folder] => told(index_antt::write_made(Path::new(folder))),
         ["antt", requests, answers, folder] => write_antt(requests, answers, folder),
         _ => Err(USAGE.to_string()),
     };
@@ -160,13 +173,26 @@ fn agree_on(seed: &str, count: &str) -> Result<bool, String> {
     Ok(agree::agree(number(seed)?, number(count)?))
 }
 
+/// The plain reading's answer to any request, those about indexes too.
+fn plain_line(line: &str) -> Result<String, String> {
+    Ok(match IndexRequest::parse(line)? {
+        Some(request) => plain_index::answer(&request).to_string(),
+        None => plain::answer_line(&Request::parse(line)?),
+    })
+}
+
+/// Both lists are told, also where something of the first differs.
+fn check_limits() -> Result<bool, String> {
+    Ok(limits::check()? & index_limits::check()?)
+}
+
 /// Answers each request on standard input by one line, in order.
-fn answer_lines(answer: impl Fn(&Request) -> Result<String, String>) -> Result<bool, String> {
+fn answer_lines(answer: impl Fn(&str) -> Result<String, String>) -> Result<bool, String> {
     let mut out = BufWriter::new(io::stdout().lock());
     for (index, line) in io::stdin().lock().lines().enumerate() {
         let line = line.map_err(|error| error.to_string())?;
-        let request = Request::parse(&line).map_err(|why| format!("line {}: {why}", index + 1))?;
-        writeln!(out, "{}", answer(&request)?).map_err(|error| error.to_string())?;
+        let answer = answer(&line).map_err(|why| format!("line {}: {why}", index + 1))?;
+        writeln!(out, "{answer}").map_err(|error| error.to_string())?;
     }
     out.flush().map_err(|error| error.to_string())?;
     Ok(true)

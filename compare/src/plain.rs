@@ -4,7 +4,7 @@
 //! a unit that nobody could type is not accepted, an exponent out of range is
 //! refused at the digit with which it is, a numeral may stand for a number, a
 //! line's own units win over the hall's, and what was one number for syntax is
-//! six, each for a slip of its own.
+//! six, each for a slip of its own. Request seven is in [`crate::plain_index`].
 
 use crate::natural::Natural;
 use crate::request::{Answer, ByteSet, Card, Length, Request, bytes_field};
@@ -17,7 +17,7 @@ const LOWEST_EXPONENT_SIZE: u64 = 32_768;
 const NANOS_OF_A_SECOND: u64 = 1_000_000_000;
 
 /// What is added to the position of what is wrong with the line's table.
-const OF_THE_LINE: usize = 128;
+pub const OF_THE_LINE: usize = 128;
 
 /// The six slips of request six.
 mod slip {

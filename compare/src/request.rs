@@ -15,8 +15,8 @@ use std::fmt;
 /// should be an error and not an exhausted memory.
 const MOST_FIELD_BYTES: usize = 1 << 24;
 
-/// The numbers of answers are 0 to 22.
-pub const NUMBERS: usize = 23;
+/// The numbers of answers are 0 to 23.
+pub const NUMBERS: usize = 24;
 
 /// A run of equal bytes at least this long is not written out.
 pub const RUN_WORTH_FOLDING: usize = 24;
@@ -185,9 +185,7 @@ impl Request {
     }
 
     pub fn parse(line: &str) -> Result<Request, String> {
-        let mut fields = Fields {
-            rest: line.split(' '),
-        };
+        let mut fields = Fields::of(line);
         let request = match fields.next("the kind of request")? {
             "total" => Request::Total {
                 card: fields.card()?,
@@ -210,10 +208,8 @@ impl Request {
             },
             other => return Err(format!("no request is called `{other}`")),
         };
-        match fields.rest.next() {
-            None => Ok(request),
-            Some(extra) => Err(format!("`{extra}` stands after the last field")),
-        }
+        fields.end()?;
+        Ok(request)
     }
 }
 
@@ -365,12 +361,26 @@ pub fn hex(bytes: &[u8]) -> String {
 }
 
 /// The fields of a line, taken one after the other.
-struct Fields<'a> {
+pub struct Fields<'a> {
     rest: std::str::Split<'a, char>,
 }
 
 impl<'a> Fields<'a> {
-    fn next(&mut self, wanted: &str) -> Result<&'a str, String> {
+    pub fn of(line: &'a str) -> Self {
+        Self {
+            rest: line.split(' '),
+        }
+    }
+
+    /// Whether all have been taken.
+    pub fn end(mut self) -> Result<(), String> {
+        match self.rest.next() {
+            None => Ok(()),
+            Some(extra) => Err(format!("`{extra}` stands after the last field")),
+        }
+    }
+
+    pub fn next(&mut self, wanted: &str) -> Result<&'a str, String> {
         match self.rest.next() {
             Some(field) if !field.is_empty() => Ok(field),
             Some(_) => Err(format!("an empty field where {wanted} should stand")),
@@ -378,15 +388,15 @@ impl<'a> Fields<'a> {
         }
     }
 
-    fn number(&mut self, wanted: &str) -> Result<u64, String> {
+    pub fn number(&mut self, wanted: &str) -> Result<u64, String> {
         decimal(self.next(wanted)?, wanted)
     }
 
-    fn bytes(&mut self, wanted: &str) -> Result<Vec<u8>, String> {
+    pub fn bytes(&mut self, wanted: &str) -> Result<Vec<u8>, String> {
         parse_bytes(self.next(wanted)?).map_err(|why| format!("{wanted}: {why}"))
     }
 
-    fn length(&mut self) -> Result<Length, String> {
+    pub fn length(&mut self) -> Result<Length, String> {
         let negative = match self.next("SIGN")? {
             "+" => false,
             "-" => true,
@@ -399,7 +409,7 @@ impl<'a> Fields<'a> {
         })
     }
 
-    fn card(&mut self) -> Result<Card, String> {
+    pub fn card(&mut self) -> Result<Card, String> {
         Ok(Card {
             switches: parse_switches(self.next("SWITCHES")?)?,
             inner: parse_set(self.next("INNER")?)?,

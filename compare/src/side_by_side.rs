@@ -1,12 +1,14 @@
 //! The port beside the crate under one card: both are asked about texts, the
 //! plain reading too where the crate gives no place or has one number for six,
-//! and then the port about itself.
+//! and then the port about itself. Before the texts the card's indexes are held
+//! against the plain reading's.
 
 use crate::crate_side::{self, CrateAnswer, SetUp};
 use crate::found::Found;
+use crate::indexes_beside;
 use crate::nanoseconds::{clamped_sum, nanoseconds};
 use crate::plain;
-use crate::port_side::Port;
+use crate::port_side::{Port, Way};
 use crate::request::{Answer, Card, Length, Request};
 use crate::slips::{SYNTAX, is_slip};
 use crate::there_and_back::{Line, Wrong};
@@ -16,6 +18,8 @@ pub struct SideBySide<'a> {
     card: &'a Card,
     set_up: &'a SetUp<'a>,
     port: Port,
+    /// How the port looks up the units of the next reading.
+    way: Way,
     line: Line,
     shift_total: Length,
     found: &'a mut Found,
@@ -28,11 +32,13 @@ pub fn under_card(
     ask_texts: impl FnOnce(&mut SideBySide),
 ) -> Result<(), String> {
     found.begin_card(card);
+    indexes_beside::hold(found, card);
     crate_side::under(card, |set_up| {
         let mut both = SideBySide {
             card,
             set_up,
             port: Port::of(card),
+            way: Way::Indexed,
             line: Line::under(card),
             shift_total: Length::ZERO,
             found,
@@ -45,17 +51,18 @@ pub fn under_card(
 
 impl SideBySide<'_> {
     /// A text's total, of both; and by the port alone the text part by part and
-    /// added to a shift total.
+    /// added to a shift total, with units looked up the other way.
     pub fn total(&mut self, text: &[u8]) {
         let said = match std::str::from_utf8(text) {
             Ok(text) => self.set_up.total(text),
             Err(_) => not_utf8(),
         };
-        let total = self.port.total(text);
+        let way = self.next_way();
+        let total = self.port.total(way, text);
         self.compare(None, text, said, &total);
         self.found.texts += 1;
-        self.by_parts(text, &total);
-        self.shift(text, &total);
+        self.by_parts(way.other(), text, &total);
+        self.shift(way.other(), text, &total);
     }
 
     /// A part of a text from a place, of both.
@@ -64,8 +71,17 @@ impl SideBySide<'_> {
             Ok(text) => self.set_up.part(text, place),
             Err(_) => not_utf8(),
         };
-        let part = self.port.part(text, place);
+        let way = self.next_way();
+        let part = self.port.part(way, text, place);
         self.compare(Some(place), text, said, &part);
+    }
+
+    /// Every other reading goes through the indexes.
+    fn next_way(&mut self) -> Way {
+        let way = self.way;
+        self.way = way.other();
+        self.found.through_indexes += u64::from(way == Way::Indexed);
+        way
     }
 
     pub fn tell_progress(&mut self) {
@@ -101,10 +117,10 @@ impl SideBySide<'_> {
     /// Reads a text part by part: the first refusal is the total's, or the
     /// clamped sum of the parts is its length. What is read is written, to be
     /// read back.
-    fn by_parts(&mut self, text: &[u8], total: &Answer) {
+    fn by_parts(&mut self, way: Way, text: &[u8], total: &Answer) {
         let (mut place, mut sum) = (0, 0);
         while place < text.len() as u64 || place == 0 {
-            let part = self.port.part(text, place);
+            let part = self.port.part(way, text, place);
             if part.number != 0 {
                 if part != *total {
                     self.differs(text, total, "part by part", part.to_string());
@@ -131,9 +147,9 @@ impl SideBySide<'_> {
 
     /// Adds a text to the shift total, to which its total is added clamped, or
     /// which a refusal leaves as it is.
-    fn shift(&mut self, text: &[u8], total: &Answer) {
+    fn shift(&mut self, way: Way, text: &[u8], total: &Answer) {
         let before = self.shift_total;
-        let added = self.port.add_total(&mut self.shift_total, text);
+        let added = self.port.add_total(way, &mut self.shift_total, text);
         let after = self.shift_total;
         let right = if total.number == 0 {
             let sum = clamped_sum(nanoseconds(before), nanoseconds(total.length));

@@ -2,12 +2,16 @@
 
 use crate::nanoseconds::{clamped_sum, nanoseconds};
 use crate::plain::MOST_TEXT_BYTES;
-use crate::port_side::{Port, write};
+use crate::port_side::{Port, Way, write};
 use crate::request::{Answer, Card, Length, Request};
 
 /// What the buffer holds where nothing is written; the writer writes no such
 /// byte.
 const BLANK: u8 = b'?';
+
+/// The parts of a line are read through indexes, and its total without.
+const PARTS: Way = Way::Indexed;
+const TOTAL: Way = Way::RowByRow;
 
 /// A line of written lengths, as long as a text may be, under a card that reads
 /// them back: seconds without a unit, negatives and fractions allowed.
@@ -80,13 +84,13 @@ impl Line {
             let request = Request::reading(None, self.card.clone(), self.buffer.clone());
             return Err(Wrong {
                 request,
-                port: self.port.total(text),
+                port: self.port.total(TOTAL, text),
                 wanted: "every byte written, and no other".to_string(),
             });
         }
         let (mut place, mut sum) = (0, 0);
         for length in &self.lengths {
-            let part = self.port.part(text, place);
+            let part = self.port.part(PARTS, text, place);
             sum = clamped_sum(sum, nanoseconds(part.length));
             if part.number != 0 || part.length != *length {
                 return Err(self.wrong_reading(Some(place), part, length.to_string()));
@@ -95,10 +99,11 @@ impl Line {
         }
         if place != text.len() as u64 {
             let wanted = "the text to end with the last length".to_string();
-            return Err(self.wrong_reading(Some(place), self.port.part(text, place), wanted));
+            let part = self.port.part(PARTS, text, place);
+            return Err(self.wrong_reading(Some(place), part, wanted));
         }
         if !self.lengths.is_empty() {
-            let total = self.port.total(text);
+            let total = self.port.total(TOTAL, text);
             if total.number != 0
                 || total.position != Some(place)
                 || sum != nanoseconds(total.length)

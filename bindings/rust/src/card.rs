@@ -2,8 +2,9 @@
 //! texts are read.
 
 use crate::length::Length;
+use crate::lookup::LookedUp;
 use crate::parts::{Part, Parts};
-use crate::raw::{self, Settings};
+use crate::raw::{self, Answer, Settings};
 use crate::refusal::Refusal;
 
 /// How many conjunctions the settings have room for.
@@ -34,15 +35,20 @@ pub enum Kind {
 }
 
 /// Settings, the hall's unit table, the line's and a numeral table that the port
-/// accepts. A card is checked when it is made, and cannot be changed afterwards.
+/// accepts. A card is checked when it is made. Afterwards only its units can be
+/// changed, one at a time, and into a card that is accepted too.
 ///
 /// A unit is looked up in the line's table first and then in the hall's, so
-/// where both have a name the line's unit is read.
+/// where both have a name the line's unit is read. Beside each of the two the card
+/// keeps an index, the numbers of its rows in the order of their names, through
+/// which no more than 7 names of a table are compared.
 #[derive(Clone, PartialEq, Eq, Hash, Debug)]
 pub struct Card {
     settings: Settings,
     hall: Vec<u8>,
+    hall_index: Vec<u8>,
     line: Vec<u8>,
+    line_index: Vec<u8>,
     numerals: Vec<u8>,
 }
 
@@ -89,15 +95,17 @@ impl Card {
         // The card is checked before anything else, so an empty text, of which
         // nothing can be read, tells whether it is accepted.
         let answer = raw::read_total(&settings, &hall, &line, &numerals, b"");
-        match answer.number {
-            7 => Err(Refusal::of(&answer)),
-            _ => Ok(Self {
-                settings,
-                hall,
-                line,
-                numerals,
-            }),
+        if answer.number == 7 {
+            return Err(Refusal::of(&answer));
         }
+        Ok(Self {
+            hall_index: index_of(&settings, &hall)?,
+            line_index: index_of(&settings, &line)?,
+            settings,
+            hall,
+            line,
+            numerals,
+        })
     }
 
     /// The words of the settings, as [`raw`] takes them.
@@ -110,9 +118,19 @@ impl Card {
         &self.hall
     }
 
+    /// The index of the hall's unit table, as [`raw`] takes it.
+    pub fn hall_index(&self) -> &[u8] {
+        &self.hall_index
+    }
+
     /// The bytes of the line's unit table, as [`raw`] takes them.
     pub fn line(&self) -> &[u8] {
         &self.line
+    }
+
+    /// The index of the line's unit table, as [`raw`] takes it.
+    pub fn line_index(&self) -> &[u8] {
+        &self.line_index
     }
 
     /// The bytes of the numeral table, as [`raw`] takes them.
@@ -123,10 +141,12 @@ impl Card {
     /// The sum of a text's parts, clamped at each part between [`Length::MIN`]
     /// and [`Length::MAX`].
     pub fn read_total(&self, text: impl AsRef<[u8]>) -> Result<Length, Refusal> {
-        let answer = raw::read_total(
+        let answer = raw::read_total_indexed(
             &self.settings,
             &self.hall,
+            &self.hall_index,
             &self.line,
+            &self.line_index,
             &self.numerals,
             text.as_ref(),
         );
@@ -135,10 +155,12 @@ impl Card {
 
     /// The part of a text at a place, and the place at which the next begins.
     pub fn read_part(&self, text: impl AsRef<[u8]>, place: usize) -> Result<Part, Refusal> {
-        let answer = raw::read_part(
+        let answer = raw::read_part_indexed(
             &self.settings,
             &self.hall,
+            &self.hall_index,
             &self.line,
+            &self.line_index,
             &self.numerals,
             text.as_ref(),
             place,
@@ -159,17 +181,123 @@ impl Card {
     /// the text is refused the shift total stays as it was.
     pub fn add_total(&self, total: &mut Length, text: impl AsRef<[u8]>) -> Result<Length, Refusal> {
         let mut record = total.record();
-        let added = raw::add_total(
+        let added = raw::add_total_indexed(
             &mut record,
             &self.settings,
             &self.hall,
+            &self.hall_index,
             &self.line,
+            &self.line_index,
             &self.numerals,
             text.as_ref(),
         );
         // After a refusal the record is as it was.
         *total = Length::of(record);
         Length::of_answer(&added)
+    }
+
+    /// Where a name stands in the unit tables, looked up through their indexes as
+    /// the units of a text are. Any bytes may be looked up, none at all too.
+    ///
+    /// ```
+    /// use herovinga::{Card, LookedUp, Table};
+    ///
+    /// let card = Card::a();
+    /// let seconds = LookedUp { at: Some((Table::Hall, 2)), compared: 3 };
+    /// assert_eq!(card.look_up("s"), seconds);
+    /// assert_eq!(card.look_up("hour").at, None);
+    /// ```
+    pub fn look_up(&self, name: impl AsRef<[u8]>) -> LookedUp {
+        LookedUp::of(&raw::look_up_indexed(
+            &self.settings,
+            &self.hall,
+            &self.hall_index,
+            &self.line,
+            &self.line_index,
+            name.as_ref(),
+        ))
+    }
+
+    /// The same without the indexes: each table row by row, up to the one that has
+    /// the name. What is found is what [`Card::look_up`] finds; what differs is
+    /// how many names are compared.
+    pub fn look_up_row_by_row(&self, name: impl AsRef<[u8]>) -> LookedUp {
+        LookedUp::of(&raw::look_up(
+            &self.settings,
+            &self.hall,
+            &self.line,
+            name.as_ref(),
+        ))
+    }
+
+    /// Puts another unit in the place of one of the hall's, by the number of its
+    /// row, the first being 0. Name, kind, coefficient and power are as in
+    /// [`CardBuilder::unit`].
+    ///
+    /// Refused (10) at a row past the last, and (7) at the row if the table with
+    /// the new unit in it is not accepted, as when another row has its name. The
+    /// card is then as it was.
+    ///
+    /// ```
+    /// use herovinga::{Card, Kind, Refusal};
+    ///
+    /// let mut card = Card::a();
+    /// card.replace_unit(4, "stroke", Kind::Millisecond, 40, 0)?;
+    /// assert_eq!(card.read_total("2stroke")?.to_string(), "+0.08");
+    /// assert_eq!(card.read_total("1turn"), Err(Refusal { number: 6, position: 1 }));
+    /// assert_eq!(card.replace_unit(4, "min", Kind::Minute, 1, 0), Err(Refusal { number: 7, position: 4 }));
+    /// # Ok::<(), Refusal>(())
+    /// ```
+    pub fn replace_unit(
+        &mut self,
+        number: usize,
+        name: impl AsRef<[u8]>,
+        kind: Kind,
+        coefficient: i64,
+        power: i16,
+    ) -> Result<(), Refusal> {
+        done(&raw::replace_row(
+            &self.settings,
+            &mut self.hall,
+            &mut self.hall_index,
+            number,
+            &row(name.as_ref(), kind, coefficient, power),
+        ))
+    }
+
+    /// The same of the line's units; 7 has 128 more than the number of the row.
+    pub fn replace_line_unit(
+        &mut self,
+        number: usize,
+        name: impl AsRef<[u8]>,
+        kind: Kind,
+        coefficient: i64,
+        power: i16,
+    ) -> Result<(), Refusal> {
+        let replaced = done(&raw::replace_row(
+            &self.settings,
+            &mut self.line,
+            &mut self.line_index,
+            number,
+            &row(name.as_ref(), kind, coefficient, power),
+        ));
+        // The entry is not told whose table it is.
+        replaced.map_err(Refusal::of_the_line)
+    }
+}
+
+/// The index of a unit table, or what is wrong with settings or table (7).
+fn index_of(settings: &Settings, table: &[u8]) -> Result<Vec<u8>, Refusal> {
+    let mut index = vec![0; table.len() / ROW_SIZE];
+    done(&raw::make_index(settings, table, &mut index))?;
+    Ok(index)
+}
+
+/// Nothing, or the answer's refusal.
+fn done(answer: &Answer) -> Result<(), Refusal> {
+    match answer.number {
+        0 => Ok(()),
+        _ => Err(Refusal::of(answer)),
     }
 }
 

@@ -7,9 +7,9 @@
 //! proved to meet its contract; this crate lends it words and bytes.
 //!
 //! ```
-//! use herovinga::{Card, Kind, Length, Refusal};
+//! use herovinga::{Card, Kind, Length, Refusal, Table};
 //!
-//! let card = Card::builder()
+//! let mut card = Card::builder()
 //!     .negatives(true)
 //!     .fractions(true)
 //!     .ago(true)
@@ -51,6 +51,12 @@
 //! card.add_total(&mut total, "10s and then").unwrap_err();
 //! assert_eq!(std::time::Duration::try_from(total)?.as_secs(), 90);
 //!
+//! // A unit is looked up through an index, and can be replaced.
+//! assert_eq!(card.look_up("turn").at, Some((Table::Hall, 2)));
+//! card.replace_unit(2, "stroke", Kind::Millisecond, 15, 0)?;
+//! assert_eq!(card.look_up("turn").at, None);
+//! assert_eq!(card.read_total("2stroke")?.to_string(), "+0.03");
+//!
 //! // ISO 8601 texts need no card.
 //! assert_eq!(Length::from_iso("PT1M30S")?, total);
 //! assert_eq!(total.to_iso()?, "PT1M30S");
@@ -61,11 +67,13 @@
 
 mod card;
 mod length;
+mod lookup;
 mod parts;
 pub mod raw;
 mod refusal;
 
 pub use card::{Card, CardBuilder, Kind};
 pub use length::{Length, MOST_WRITTEN, MOST_WRITTEN_ISO, NegativeLength};
+pub use lookup::{LookedUp, Table};
 pub use parts::{Part, Parts};
 pub use refusal::Refusal;

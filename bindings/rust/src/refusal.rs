@@ -10,19 +10,21 @@ use crate::raw::Answer;
 /// number; `Display` says it in a sentence.
 #[derive(Clone, Copy, PartialEq, Eq, Hash, Debug)]
 pub struct Refusal {
-    /// 1 to 22. 2 is no longer given: 17 to 22 tell apart what it was for.
+    /// 1 to 23. 2 is no longer given: 17 to 22 tell apart what it was for.
     pub number: u8,
-    /// A place of the text or buffer, 0, or for 7 what is wrong: 65 the
-    /// delimiters, 66 the conjunctions, 67 the default kind; 64 the size of the
-    /// hall's unit table, any lower number its first bad row; 192 the size of the
-    /// line's, 128 to 191 its first bad row, counted from 128; 100 the size of
-    /// the numeral table, 68 to 99 its first bad row, counted from 68. It is the
-    /// first of them in this order.
+    /// A place of the text or buffer, the number of a row that is not there, 0, or
+    /// for 7 what is wrong: 65 the delimiters, 66 the conjunctions, 67 the default
+    /// kind; 64 the size of the hall's unit table, any lower number its first bad
+    /// row; 192 the size of the line's, 128 to 191 its first bad row, counted from
+    /// 128; 100 the size of the numeral table, 68 to 99 its first bad row, counted
+    /// from 68. It is the first of them in this order. For 23 it is the first wrong
+    /// entry of an index, or the number of rows if it has another length; for the
+    /// line's index counted from 128.
     pub position: usize,
 }
 
-/// What the position of a bad numeral counts from, and that of a bad row of the
-/// line's.
+/// What the position of a bad numeral counts from, and that of a bad row or a wrong
+/// index of the line's.
 const FIRST_NUMERAL: usize = 68;
 const FIRST_OF_THE_LINE: usize = 128;
 
@@ -31,6 +33,18 @@ impl Refusal {
         Self {
             number: answer.number,
             position: answer.position as usize,
+        }
+    }
+
+    /// The refusal of the line's table where it was handed over by itself, so that
+    /// a bad row of it was counted as one of the hall's.
+    pub(crate) fn of_the_line(self) -> Self {
+        match self.number {
+            7 => Self {
+                position: FIRST_OF_THE_LINE + self.position,
+                ..self
+            },
+            _ => self,
         }
     }
 
@@ -59,6 +73,19 @@ impl Refusal {
                 )
             }
         }
+    }
+
+    /// What is wrong with an index. Whether the position is an entry or the number
+    /// of rows, the table alone could tell.
+    fn describe_index(self, out: &mut fmt::Formatter<'_>) -> fmt::Result {
+        let (entry, table) = match self.position {
+            FIRST_OF_THE_LINE.. => (self.position - FIRST_OF_THE_LINE, "line's"),
+            position => (position, "hall's"),
+        };
+        write!(
+            out,
+            "the index of the {table} unit table is wrong at entry {entry}, or in its length if the table has {entry} rows: make it anew"
+        )
     }
 
     /// What is wrong with how a text is typed, and what to mend.
@@ -107,7 +134,10 @@ impl fmt::Display for Refusal {
             7 => self.describe_card(out),
             8 => write!(out, "the text has more than {position} bytes"),
             9 => write!(out, "the buffer has too few bytes left at place {position}"),
-            10 => write!(out, "place {position} is beyond the text or buffer"),
+            10 => write!(
+                out,
+                "place {position} is beyond the text or buffer, or row {position} past the table's last"
+            ),
             11 => out.write_str(
                 "the length record is malformed: a second or more of nanoseconds, or minus zero",
             ),
@@ -128,6 +158,7 @@ impl fmt::Display for Refusal {
                 "a numeral times its unit has a coefficient or a power of ten that is out of range",
             ),
             17..=22 => self.describe_slip(out),
+            23 => self.describe_index(out),
             number => write!(out, "refusal {number} at {position}"),
         }
     }

@@ -274,7 +274,10 @@ fn sentences() {
         ),
         ((8, 4096), "the text has more than 4096 bytes"),
         ((9, 4), "the buffer has too few bytes left at place 4"),
-        ((10, 9), "place 9 is beyond the text or buffer"),
+        (
+            (10, 9),
+            "place 9 is beyond the text or buffer, or row 9 past the table's last",
+        ),
         (
             (11, 0),
             "the length record is malformed: a second or more of nanoseconds, or minus zero",
@@ -320,7 +323,23 @@ fn sentences() {
             (22, 8),
             "infinity is not whole or not alone at place 8: type `inf` or `infinity`, and a delimiter before what follows",
         ),
-        ((23, 1), "refusal 23 at 1"),
+        (
+            (23, 0),
+            "the index of the hall's unit table is wrong at entry 0, or in its length if the table has 0 rows: make it anew",
+        ),
+        (
+            (23, 64),
+            "the index of the hall's unit table is wrong at entry 64, or in its length if the table has 64 rows: make it anew",
+        ),
+        (
+            (23, 128),
+            "the index of the line's unit table is wrong at entry 0, or in its length if the table has 0 rows: make it anew",
+        ),
+        (
+            (23, 130),
+            "the index of the line's unit table is wrong at entry 2, or in its length if the table has 2 rows: make it anew",
+        ),
+        ((24, 1), "refusal 24 at 1"),
     ];
     for ((number, position), sentence) in sentences {
         let error: Box<dyn std::error::Error> = Box::new(refusal(number, position));

@@ -4,16 +4,16 @@ use libc::STDOUT_FILENO;
 // More of anything than a list has.
 pub const MOST: u64 = 1_000_000_000_000;
 
-// What a program counts: answers by their number, which is 0 to 22, and behind these what differs, the entries of its list and the cards.
-pub const NUMBERS: usize = 23;
+// What a program counts: answers by their number, which is 0 to 23, and behind these what differs, the entries of its list and the cards.
+pub const NUMBERS: usize = 24;
 
-pub const DIFFERENCE: usize = 23;
+pub const DIFFERENCE: usize = 24;
 
-pub const ENTRY: usize = 24;
+pub const ENTRY: usize = 25;
 
-pub const CARD: usize = 25;
+pub const CARD: usize = 26;
 
-pub const COUNTS: usize = 26;
+pub const COUNTS: usize = 27;
 
 pub fn one_more(count: u64) -> u64 {
     if count < MOST { count + 1 } else { count }

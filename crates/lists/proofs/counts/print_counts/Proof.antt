@@ -8,7 +8,7 @@ abbrev Inv-loop : tie.InvT-loop
 Inv-loop name counts end number₀ number = Unit {0}
 
 abbrev μ-loop : tie.MeasureT-loop
-μ-loop name counts end number₀ number = 23 - number
+μ-loop name counts end number₀ number = 24 - number
 
 pub print-counts-spec : {M : Type 1} → statement M
 print-counts-spec =
