@@ -6,7 +6,6 @@ use Prim.Native.Nat.{ℕ, _^_}
 use Prim.Native.String.{String}
 use lib.Dec.{T, eqb}
 use lib.ListN.{take, replicate}
-use Rattle.rules.specs.declared.Settings.{Settings}
 use Rattle.rules.specs.declared.Answer.{Answer}
 use Rattle.rules.specs.declared.Length.{Length}
 use Rattle.rules.specs.declared.Found.{Found}

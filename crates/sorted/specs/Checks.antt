@@ -1,12 +1,12 @@
 -- The checks one after another, as the code makes them. Assumes nothing.
-use mathlib.Core.Path.{_≡_, refl, sym, ap, _∙_}
+use mathlib.Core.Path.{_≡_, sym, _∙_}
 use mathlib.Core.List.{List}
 use Prim.Native.Nat.{ℕ, _≤_}
 use Rattle.rules.specs.declared.Settings.{Settings}
 use Rattle.rules.specs.declared.Refusal.{Refusal}
 use Rattle.rules.specs.declared.Refusal.the-variants.{TableSize, BadRow, LineSize, BadLineRow, WrongIndex, WrongLineIndex}
 use Rattle.rules.specs.NumbersHandedBack.{Outcome, got, refused, _>>_}
-use Rattle.rules.specs.SettingsAndUnitTable.{settings-check, most-rows, rows, units-check, table-check, line-check, numerals-check, Card, card-check}
+use Rattle.rules.specs.SettingsAndUnitTable.{settings-check, most-rows, rows, units-check, table-check, line-check, numerals-check, card-check}
 use Rattle.card.specs.Laws.Accepted.{UnitsGood, units-good, units-accepted, card-hall, card-line}
 use Rattle.index.specs.TheSortedIndex.{index-check, table-right, checking, Indexed, indexed-check}
 use Rattle.index.specs.Laws.Right.{Right, index-accepts}

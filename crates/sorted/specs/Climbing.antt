@@ -1,6 +1,6 @@
 -- Names that rise from entry to entry rise along the index; and what a table and an index told right are. Assumes nothing.
-use mathlib.Core.Path.{_≡_, refl, sym, ap, _∙_}
-use mathlib.Core.Bool.{Bool, true, false, not, _&&_}
+use mathlib.Core.Path.{_≡_, refl, sym, _∙_}
+use mathlib.Core.Bool.{Bool, true, false, not}
 use mathlib.Core.List.{List}
 use Prim.Native.Nat.{ℕ, zero, suc, _+_, _-_, _%_, _/_, _≤_, _<_}
 use native.Mathlib.Omega.{arith}
@@ -11,8 +11,7 @@ use borrow.Author.Tests.{eqb-true, eqb-false}
 use Rattle.rules.specs.declared.Settings.{Settings}
 use Rattle.rules.specs.declared.Found.the-variants.{Row}
 use Rattle.rules.specs.Common.{same}
-use Rattle.rules.specs.SettingsAndUnitTable.{most-rows, row-size, rows, row, name, named, row-accepted, lookup}
-use Rattle.rules.specs.Laws.Tests.{and-true}
+use Rattle.rules.specs.SettingsAndUnitTable.{most-rows, row-size, rows, row, name, named, row-accepted}
 use Rattle.rows.specs.Laws.Lookup.{not-same}
 use Rattle.card.specs.declared.table.RowRule.{RowRule}
 use Rattle.card.specs.Fields.{alone, ruled}

@@ -1,10 +1,9 @@
 -- A row replaced: the table's other rows stay, the new one may come in or not, and the index is changed with it. Assumes nothing.
 use mathlib.Core.Path.{_≡_, refl, sym, ap, _∙_}
-use mathlib.Core.Bool.{Bool, true, false, not, _&&_, false≢true}
-use mathlib.Core.List.{List, [], _∷_, _++_}
-use mathlib.Core.Logic.{_≢_, _⊎_, ⊎-elim, inl, inr}
-use Prim.Native.Nat.{ℕ, zero, suc, _+_, _*_, _-_, _/_, _%_, _≤_, _<_}
-use native.Mathlib.Nat.{mul-suc}
+use mathlib.Core.Bool.{Bool, true, false, false≢true}
+use mathlib.Core.List.{List, _++_}
+use mathlib.Core.Logic.{_≢_, _⊎_, ⊎-elim}
+use Prim.Native.Nat.{ℕ, suc, _+_, _*_, _-_, _/_, _%_, _≤_, _<_}
 use native.Mathlib.Numerals.{add-one}
 use native.Mathlib.Omega.{arith}
 use lib.Dec.{eqb, ltb}
@@ -12,11 +11,10 @@ use lib.ListN.{length, getD, take, drop, set, length-set, length-take, length-dr
 use lib.Seq.{getD-take, getD-drop, getD-set-same, getD-set-other, getD-append-add, ext-getD}
 use borrow.Author.Tests.{eqb-true, eqb-false, eq-eqb, ltb-true, ltb-false}
 use Rattle.rules.specs.declared.Settings.{Settings}
-use Rattle.rules.specs.declared.Refusal.{Refusal}
 use Rattle.rules.specs.declared.Refusal.the-variants.{TableSize, BadRow}
 use Rattle.rules.specs.declared.Found.the-variants.{Row}
 use Rattle.rules.specs.NumbersHandedBack.{Outcome, got, refused}
-use Rattle.rules.specs.SettingsAndUnitTable.{most-rows, row-size, rows, row, name, row-accepted, table-check, lookup}
+use Rattle.rules.specs.SettingsAndUnitTable.{row-size, rows, row, name, row-accepted, table-check}
 use Rattle.rows.specs.Laws.Rows.{length-row}
 use Rattle.card.specs.declared.table.RowRule.{RowRule}
 use Rattle.card.specs.Fields.{padded, alone, ruled}
@@ -128,7 +126,7 @@ module _ (table : List ℕ) (i : ℕ) (new : List ℕ) (below : i < rows table) 
 
 -- ---- whether the new row may come in
 
-passes-got : {m : Outcome (Unit {0})} → passes m ≡ true → m ≡ got tt
+pub passes-got : {m : Outcome (Unit {0})} → passes m ≡ true → m ≡ got tt
 unfolding passes
 passes-got {m = got tt} e = refl
 passes-got {m = refused cause} e = absurd (false≢true e)

@@ -1,20 +1,20 @@
 -- An entry that sinks to its place: all other names rise, and those behind it come after its own. Assumes nothing.
 use mathlib.Core.Path.{_≡_, refl, sym, ap, _∙_}
 use mathlib.Core.Bool.{Bool, true, false, false≢true}
-use mathlib.Core.List.{List, [], _++_}
+use mathlib.Core.List.{List}
 use mathlib.Core.Logic.{_≢_}
-use Prim.Native.Nat.{ℕ, zero, suc, _+_, _-_, _≤_, _<_}
+use Prim.Native.Nat.{ℕ, _+_, _-_, _≤_, _<_}
 use native.Mathlib.Omega.{arith}
-use lib.Dec.{eqb, ltb}
-use lib.ListN.{length, getD, take, drop, set, length-set, length-take, length-append}
-use lib.Seq.{getD-set-same, getD-set-other, getD-take, take-append-le, take-all}
-use borrow.Author.Tests.{eqb-true, eqb-false, ltb-true, ltb-false}
+use lib.Dec.{eqb}
+use lib.ListN.{length, getD, set, length-set}
+use lib.Seq.{getD-set-same, getD-set-other}
+use borrow.Author.Tests.{eqb-true, eqb-false}
 use Rattle.rules.specs.SettingsAndUnitTable.{rows, row, name}
 use Rattle.index.specs.declared.Order.{Order}
 use Rattle.index.specs.declared.Order.the-variants.{Before, Same, After}
-use Rattle.index.specs.TheSortedIndex.{order, is-before, before, index-of}
+use Rattle.index.specs.TheSortedIndex.{order, is-before, before}
 use Rattle.index.specs.Laws.Order.{Compared, comes-before, is-same, comes-after, compared, before-trans}
-use Rattle.index.specs.Laws.Right.{entry, entry-name, Rising, Own, different, rising-right, right-only}
+use Rattle.index.specs.Laws.Right.{entry, entry-name, Rising, Own, different}
 
 pub record Sifting (table index : List ℕ) (at : ℕ) : Type 0 where
   pub short : length index ≤ rows table

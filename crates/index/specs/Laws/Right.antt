@@ -1,8 +1,8 @@
 -- An index is right exactly if its entries are rows whose names rise; then no two rows have one name, and every row stands at an entry. Of a table
 -- without two equal names exactly one index is right. Assumes nothing.
 use mathlib.Core.Path.{_≡_, refl, sym, ap, _∙_}
-use mathlib.Core.Bool.{Bool, true, false, not, _&&_, false≢true}
-use mathlib.Core.List.{List, [], _∷_}
+use mathlib.Core.Bool.{Bool, true, false, not, false≢true}
+use mathlib.Core.List.{List}
 use mathlib.Core.Logic.{_↔_}
 use Prim.Native.Nat.{ℕ, zero, suc, _+_, _-_, _≤_, _<_}
 use native.Mathlib.Nat.{add-zero, zero-add, add-suc, suc-add}
@@ -10,11 +10,10 @@ use native.Mathlib.Omega.{arith}
 use lib.Dec.{ltb, eqb}
 use lib.ListN.{length, getD}
 use lib.Seq.{ext-getD}
-use borrow.Author.Tests.{ltb-true, ltb-false, lt-ltb, eqb-true, eq-eqb}
+use borrow.Author.Tests.{ltb-true, lt-ltb, eqb-true, eq-eqb}
 use Rattle.rules.specs.declared.Found.{Found}
 use Rattle.rules.specs.declared.Found.the-variants.{Row, Nowhere}
 use Rattle.rules.specs.declared.Refusal.{Refusal}
-use Rattle.rules.specs.Common.{if_then_else_}
 use Rattle.rules.specs.NumbersHandedBack.{got, _>>_, unless}
 use Rattle.rules.specs.SettingsAndUnitTable.{rows, row, name, lookup}
 use Rattle.rules.specs.Laws.Choices.{and-left, and-right, and-both, if-either}

@@ -1,7 +1,7 @@
 -- What is found in both tables, by what is found in each. Assumes nothing.
 use mathlib.Core.Path.{_≡_, refl, sym, ap, _∙_}
 use mathlib.Core.List.{List, [], _∷_}
-use mathlib.Core.Logic.{_⊎_, inl, inr}
+use mathlib.Core.Logic.{inl, inr}
 use Prim.Native.Nat.{ℕ, _+_, _*_, _≤_}
 use native.Mathlib.Nat.{add-zero}
 use native.Mathlib.Omega.{arith}
@@ -13,7 +13,6 @@ use Rattle.rows.specs.Named.{found-row, row-named}
 use Rattle.rows.specs.Laws.Lookup.{hall-behind}
 use Rattle.index.specs.declared.Searched.{Searched}
 use Rattle.index.specs.TheSortedIndex.{row-search, index-search, behind, compared-in-both}
-use Rattle.index.specs.Laws.Right.{Right}
 use Rattle.index.specs.Laws.Searches.{row-search-finds, row-search-most, index-search-finds, index-search-most}
 use Rattle.lookup.specs.Searching.{Beside, searched}
 

@@ -12,10 +12,10 @@ use Rattle.rules.specs.declared.Found.the-variants.{Row, Nowhere}
 use Rattle.rules.specs.Common.{if_then_else_, same}
 use Rattle.rules.specs.SettingsAndUnitTable.{row-size, rows, row, name}
 use Rattle.rows.specs.Named.{found-row, row-named}
-use Rattle.rows.specs.Laws.Rows.{length-row, row-within}
+use Rattle.rows.specs.Laws.Rows.{length-row}
 use Rattle.index.specs.declared.Searched.{Searched}
 use Rattle.index.specs.declared.Order.the-variants.{Before, Same, After}
-use Rattle.index.specs.TheSortedIndex.{order, no-more, here, and-then, row-search-from, row-search, by-order, index-search}
+use Rattle.index.specs.TheSortedIndex.{order, here, row-search-from, row-search, by-order, index-search}
 use Rattle.index.specs.Laws.Right.{entry, entry-name}
 use Rattle.index.specs.Laws.Searches.{row-search-finds, probes, probes-all, probes-none, probes-more}
 

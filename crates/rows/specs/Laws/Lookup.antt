@@ -3,13 +3,13 @@ use mathlib.Core.Path.{_≡_, refl, sym, ap, _∙_}
 use mathlib.Core.Bool.{Bool, true, false, _&&_, false≢true}
 use mathlib.Core.List.{List, [], _∷_}
 use mathlib.Core.Logic.{_⊎_, ⊎-elim, inl, inr}
-use Prim.Native.Nat.{ℕ, zero, suc, _+_, _*_, _-_, _≤_, _<_}
-use native.Mathlib.Nat.{sub-zero, sub-eq-zero-of-le}
+use Prim.Native.Nat.{ℕ, zero, suc, _+_, _-_, _≤_, _<_}
+use native.Mathlib.Nat.{sub-zero}
 use native.Mathlib.Numerals.{add-one}
 use native.Mathlib.Omega.{arith}
 use lib.Dec.{eqb}
-use lib.ListN.{length, getD, take, drop, length-drop, drop-of-length-le}
-use lib.Seq.{drop-cons, drop-drop, take-all}
+use lib.ListN.{length, getD, drop, drop-of-length-le}
+use lib.Seq.{drop-cons}
 use borrow.Author.Tests.{eq-eqb, eqb-true, eqb-false}
 use Rattle.rules.specs.declared.Found.{Found}
 use Rattle.rules.specs.declared.Found.the-variants.{Row, Nowhere}
@@ -17,7 +17,7 @@ use Rattle.rules.specs.Common.{if_then_else_, same}
 use Rattle.rules.specs.SettingsAndUnitTable.{row-size, rows, row, name, named, lookup-from, lookup, line-first, stands, held-row, find-row}
 use Rattle.rules.specs.Laws.Choices.{if-either, and-left, and-right, or-neither}
 use Rattle.rows.specs.Named.{found-row, row-named}
-use Rattle.rows.specs.Laws.Rows.{length-row, row-within}
+use Rattle.rows.specs.Laws.Rows.{length-row}
 
 pub same-refl : (a : List ℕ) → same a a ≡ true
 unfolding same
@@ -59,10 +59,6 @@ module _ (table wanted : List ℕ) where
   unfolding lookup rest-of-lookup
   lookup-start = rw sub-zero
 
-  pub lookup-end : (i : ℕ) → rows table ≤ i → rest-of-lookup table wanted i ≡ Nowhere
-  unfolding rest-of-lookup lookup-from
-  lookup-end i h = rw (sub-eq-zero-of-le h)
-
   pub lookup-here : (i : ℕ) → i < rows table → same (name (row table i)) wanted ≡ true → rest-of-lookup table wanted i ≡ Row i
   unfolding rest-of-lookup lookup-from if_then_else_
   lookup-here i h e =
@@ -78,58 +74,6 @@ module _ (table wanted : List ℕ) where
 -- names of other sizes differ
 pub other-size : (a b : List ℕ) → (length a ≡ length b → ⊥) → same a b ≡ false
 other-size a b h = not-same a b (λ e. h (ap length e))
-
--- ---- a search: so many rows are left, they are the rest of the table, and what they give is what all of them do
-
-pub record Searching (table wanted : List ℕ) (left : ℕ) (rest : List ℕ) : Type 0 where
-  pub few : left ≤ rows table
-  pub further : rest ≡ drop (row-size * (rows table - left)) table
-  pub decides : rest-of-lookup table wanted (rows table - left) ≡ lookup table wanted
-
-pub search-starts : (table wanted : List ℕ) → Searching table wanted (rows table) table
-search-starts table wanted =
-    let none : rows table - rows table ≡ 0 = omega arith in
-    record { few = omega arith; further = rw none; decides = rw none (lookup-start table wanted) }
-
-module _ {table wanted : List ℕ} {left : ℕ} {rest : List ℕ} (s : Searching table wanted left rest) where
-  -- none is left
-  pub search-ends : left ≤ 0 → lookup table wanted ≡ Nowhere
-  search-ends h = sym (s .decides) ∙ lookup-end table wanted (rows table - left) (omega arith)
-
-  module _ (more : 0 < left) where
-    -- the row that is asked, the first of the rest
-    abbrev at : ℕ
-    at = rows table - left
-
-    pub search-below : at < rows table
-    search-below = omega (arith, s .few)
-
-    pub search-row : take row-size rest ≡ row table at
-    unfolding row
-    search-row = ap (take row-size) (s .further)
-
-    pub search-long : length (take row-size rest) ≡ row-size
-    search-long = ap length search-row ∙ length-row table at search-below
-
-    pub search-within : row-size ≤ length rest
-    search-within = rw (s .further, length-drop) (omega (arith, row-within table at search-below))
-
-    pub search-finds : same (name (row table at)) wanted ≡ true → Row at ≡ lookup table wanted
-    search-finds e = sym (lookup-here table wanted at search-below e) ∙ s .decides
-
-    pub search-goes-on : same (name (row table at)) wanted ≡ false → Searching table wanted (left - 1) (take (length rest - row-size) (drop row-size rest))
-    search-goes-on e =
-        let next : rows table - (left - 1) ≡ at + 1 = omega (arith, s .few) in
-        let places : row-size * (rows table - (left - 1)) ≡ row-size * at + row-size = omega (arith, next) in
-        record {
-          few = omega (arith, s .few);
-          further =
-              take-all (length rest - row-size) (drop row-size rest) (simp length-drop (omega arith))
-              ∙ ap (drop row-size) (s .further)
-              ∙ drop-drop row-size (row-size * at) table
-              ∙ ap (λ n. drop n table) (sym places);
-          decides = ap (rest-of-lookup table wanted) next ∙ sym (lookup-next table wanted at search-below e) ∙ s .decides;
-        }
 
 -- ---- what is found
 

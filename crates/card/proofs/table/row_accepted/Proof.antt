@@ -7,7 +7,6 @@ use borrow.Author.Count.{below-more}
 use borrow.Author.Tests.{not-true, not-false}
 use borrow.Author.Needs.{needs}
 use Rattle.rules.specs.SettingsAndUnitTable.{row}
-use Rattle.rules.specs.Laws.Choices.{and-left}
 use Rattle.rows.specs.Laws.Rows.{length-row}
 use Rattle.card.specs.Fields.{padded, alone}
 use Rattle.card.specs.Laws.Table.{ruled-alone, alone-padded}

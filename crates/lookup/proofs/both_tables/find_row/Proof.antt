@@ -1,5 +1,5 @@
 -- `lookup::both_tables::find_row` meets its contract: without indexes the old search of both tables. Assumes nothing.
-use mathlib.Core.Path.{_≡_, _∙_, ap₂}
+use mathlib.Core.Path.{_∙_, ap₂}
 use borrow.Author.Needs.{needs}
 use Rattle.index.specs.TheSortedIndex.{compared-in-both}
 use Rattle.lookup.specs.Laws.BothTables.{searched-rows}

@@ -1,5 +1,5 @@
 -- `lookup::both_tables::search` meets its contract: which search is made. Assumes nothing.
-use mathlib.Core.Path.{_≡_, _∙_}
+use mathlib.Core.Path.{_∙_}
 use mathlib.Core.Logic.{⊎-elim}
 use borrow.Author.Needs.{needs}
 use Rattle.lookup.specs.Laws.BothTables.{searched-rows, searched-index}

@@ -1,7 +1,6 @@
 -- `lookup::names::before` meets its contract: what the order says. Assumes nothing.
-use mathlib.Core.Path.{_≡_, sym, ap, _∙_}
+use mathlib.Core.Path.{sym, ap, _∙_}
 use borrow.Author.Needs.{needs}
-use Rattle.index.specs.declared.Order.{Order}
 use Rattle.index.specs.TheSortedIndex.{order, is-before, before}
 use Rattle.lookup.proofs.names.before.Statement.{statement}
 use Rattle.lookup.proofs.names.before.Tie as tie

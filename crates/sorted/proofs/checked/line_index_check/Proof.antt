@@ -1,5 +1,5 @@
 -- `sorted::checked::line_index_check` meets its contract: what was found, said of the line's index. Assumes nothing.
-use mathlib.Core.Path.{_≡_, sym, ap, _∙_}
+use mathlib.Core.Path.{sym, ap, _∙_}
 use borrow.Author.Needs.{needs}
 use Rattle.rules.specs.declared.Refusal.the-variants.{WrongLineIndex}
 use Rattle.settings.specs.Outcomes.{outcome}

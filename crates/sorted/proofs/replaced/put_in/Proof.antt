@@ -1,10 +1,7 @@
 -- `sorted::replaced::put_in` meets its contract: the row is put, its entry moved to the end, and sunk. Assumes nothing.
-use mathlib.Core.Path.{_≡_, sym, ap, _∙_}
 use Prim.Native.Nat.{_-_}
-use native.Mathlib.Omega.{arith}
 use borrow.Author.Needs.{needs}
 use lib.ListN.{length}
-use Rattle.index.specs.Laws.Right.{Own}
 use Rattle.index.specs.TheSortedIndex.{with-row}
 use Rattle.sorted.specs.Sifting.{Sifting}
 use Rattle.sorted.specs.Replacing.{stands, moved-sifting, sunk}

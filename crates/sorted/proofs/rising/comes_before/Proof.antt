@@ -1,9 +1,8 @@
 -- `sorted::rising::comes_before` meets its contract: the rooms are the same up to `at`. The measure is what is left of them. Assumes nothing.
-use mathlib.Core.Path.{_≡_, sym, _∙_}
+use mathlib.Core.Path.{sym, _∙_}
 use mathlib.Core.Logic.{⊎-elim}
 use Prim.Native.Nat.{_≤_, _-_}
 use native.Mathlib.Omega.{arith}
-use borrow.Author.Needs.{needs}
 use borrow.Author.Tests.{ltb-true}
 use Rattle.rules.specs.SettingsAndUnitTable.{name-size}
 use Rattle.sorted.specs.Rooms.{Alike, alike-none, alike-next, alike-word, byte-decides, size-decides}

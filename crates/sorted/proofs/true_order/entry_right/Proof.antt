@@ -1,9 +1,8 @@
 -- `sorted::true_order::entry_right` meets its contract: a row, and as many names before its own as its entry says. Assumes nothing.
-use mathlib.Core.Path.{_≡_, sym, ap, _∙_}
+use mathlib.Core.Path.{ap, _∙_}
 use native.Mathlib.Omega.{arith}
 use borrow.Author.Needs.{needs}
 use borrow.Author.Tests.{lt-ltb, le-ltb}
-use lib.Dec.{eqb}
 use lib.ListN.{length}
 use Rattle.rules.specs.SettingsAndUnitTable.{rows, row, name}
 use Rattle.rows.specs.Laws.Rows.{length-row}

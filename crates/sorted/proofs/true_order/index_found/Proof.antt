@@ -1,7 +1,5 @@
 -- `sorted::true_order::index_found` meets its contract: the length, then the first wrong entry. Assumes nothing.
-use mathlib.Core.Path.{_≡_, sym}
 use native.Mathlib.Omega.{arith}
-use borrow.Author.Needs.{needs}
 use Rattle.rules.specs.SettingsAndUnitTable.{rows}
 use Rattle.sorted.specs.Found.{wrong-length, wrong-entry, no-wrong-entry}
 use Rattle.sorted.proofs.true_order.index_found.Statement.{statement}

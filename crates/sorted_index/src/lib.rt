@@ -1,0 +1,1 @@
+// A sorted index beside the unit table: only theorems, which stand in specs/.
