@@ -79,15 +79,9 @@ pub fn read_total_indexed<'a>(
 {
     match indexed_check(settings, hall, hall_index, line, line_index, numerals) {
         Checked::Refused(cause) => refusal(cause),
-        Checked::Accepted => read_total_checked(
-            settings,
-            hall,
-            hall_index,
-            line,
-            line_index,
-            numerals,
-            text,
-        ),
+        Checked::Accepted => {
+            read_total_checked(settings, hall, hall_index, line, line_index, numerals, text)
+        }
     }
 }
 
