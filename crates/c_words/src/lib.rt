@@ -1,7 +1,8 @@
-// Lengths and answers as the 64-bit words that C passes and gets back. Settings are lent as words throughout (settings::fields).
+// Lengths, answers and what a lookup found as the 64-bit words that C passes and gets back. Settings are lent as words throughout (settings::fields).
 ghost use mathlib.Core.Path.{_≡_};
 ghost use Rattle.rules.specs.SettingsAsWords.{held-to};
-ghost use Rattle.c_words.specs.Words.{most-of-a-half, length-of, length-words, answer-words};
+ghost use Rattle.c_words.specs.Words.{most-of-a-half, length-of, length-words, answer-words, found-words};
+use index::LookedUp;
 use rules::Answer;
 use rules::Length;
 use settings::fields::bit;
@@ -47,4 +48,17 @@ pub fn put_answer(answer: Answer, words: &mut [u64; 4]) -> u8
         length.nanoseconds as u64,
     ];
     answer.number
+}
+
+// The words of what a lookup found; its number is the entry's result.
+pub fn put_found(found: LookedUp, words: &mut [u64; 4]) -> u8
+    ensures { λ r. ⌜ (r ≡ found .number) × (now (words .exit) ≡ found-words found) ⌝ }
+{
+    *words = [
+        found.position as u64,
+        found.table as u64,
+        found.row as u64,
+        found.compared as u64,
+    ];
+    found.number
 }

@@ -1,0 +1,3 @@
+-- Laws of the entries that take an index, and of the lookups.
+pub mod Answers
+pub mod Lookups
