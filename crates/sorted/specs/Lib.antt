@@ -7,3 +7,4 @@ pub mod Sifting
 pub mod Making
 pub mod Replacing
 pub mod PuttingRows
+pub mod Allowed

@@ -1,4 +1,5 @@
 // The index beside a unit table: checked, made, and changed with a row.
+pub mod allowed;
 pub mod checked;
 pub mod made;
 pub mod replaced;
