@@ -7,7 +7,7 @@ ghost use Rattle.rules.specs.NumbersHandedBack.{got, refused, done};
 ghost use Rattle.rules.specs.SettingsAndUnitTable.{rows};
 ghost use Rattle.rules.specs.SettingsAsWords.{settings-of};
 ghost use Rattle.index.specs.declared.Searched.{Searched};
-ghost use Rattle.index.specs.TheSortedIndex.{indexed-of, indexed-part-answer, indexed-total-answer, indexed-shift-answer, indexed-shifted-record, check-answer, looked-up, units-of, lookup-answer, indexed-lookup-answer};
+ghost use Rattle.index.specs.TheSortedIndex.{indexed-of, indexed-part-answer, indexed-total-answer, indexed-shift-answer, indexed-shifted-record, make-answer, made-index, check-answer, replace-answer, replaced-table, replaced-index, looked-up, units-of, lookup-answer, indexed-lookup-answer};
 ghost use Rattle.lookup.specs.Searching.{Searchable, searched};
 ghost use Rattle.index_entries.specs.Lookups.{held-at};
 use answers::done;
@@ -27,8 +27,12 @@ use rules::Length;
 use rules::Refusal;
 use rules::ShiftedTotal;
 use settings::Checked;
+use sorted::allowed::may_make;
+use sorted::allowed::may_replace;
 use sorted::checked::indexed_check;
 use sorted::checked::table_and_index_check;
+use sorted::made::make;
+use sorted::replaced::put_in;
 
 // The table that holds a name, as a lookup numbers it.
 const NEITHER: u8 = 0;
@@ -118,6 +122,20 @@ pub fn rows_done(table: &[u8]) -> Answer
     ensures { λ r. ⌜ r ≡ done (rows (now (table .entry))) zero-length ⌝ }
 {
     done(table.len() / ROW_SIZE, zero())
+}
+
+// The index of a table, made into a lent one of its length: written whole, or not at all.
+pub fn make_index(settings: &[u64; 25], table: &[u8], index: &mut [u8]) -> Answer
+    ensures { λ r. ⌜ r ≡ make-answer (settings-of (now (settings .entry))) (now (table .entry)) (now (index .entry)) ⌝ }
+    ensures { λ r. ⌜ now (index .exit) ≡ made-index (settings-of (now (settings .entry))) (now (table .entry)) (now (index .entry)) ⌝ }
+{
+    match may_make(settings, table, index) {
+        Checked::Refused(cause) => refusal(cause),
+        Checked::Accepted => {
+            make(table, index);
+            rows_done(table)
+        }
+    }
 }
 
 // One table and its index, checked.
@@ -210,5 +228,26 @@ pub fn look_up_indexed(
     match indexed_check(settings, hall, hall_index, line, line_index, none) {
         Checked::Refused(cause) => not_looked_up(cause),
         Checked::Accepted => looked_up(hall, hall_index, line, line_index, name),
+    }
+}
+
+// A row of a table replaced, and the index changed with it: both, or neither.
+pub fn replace_row(
+    settings: &[u64; 25],
+    table: &mut [u8],
+    index: &mut [u8],
+    row: usize,
+    new: &[u8],
+) -> Answer
+    ensures { λ r. ⌜ r ≡ replace-answer (settings-of (now (settings .entry))) (now (table .entry)) (now (index .entry)) row (now (new .entry)) ⌝ }
+    ensures { λ r. ⌜ now (table .exit) ≡ replaced-table (settings-of (now (settings .entry))) (now (table .entry)) (now (index .entry)) row (now (new .entry)) ⌝ }
+    ensures { λ r. ⌜ now (index .exit) ≡ replaced-index (settings-of (now (settings .entry))) (now (table .entry)) (now (index .entry)) row (now (new .entry)) ⌝ }
+{
+    match may_replace(settings, table, index, row, new) {
+        Checked::Refused(cause) => refusal(cause),
+        Checked::Accepted => {
+            put_in(table, index, row, new);
+            rows_done(table)
+        }
     }
 }
