@@ -1,9 +1,9 @@
-// The entries that take an index beside each unit table: the three readers, the check of one table's index, and the lookups. C passes an index as it
+// The entries that take an index beside each unit table: the three readers; an index made, checked, and changed with a row; and the lookups. C passes an index as it
 // passes a table, and gets a lookup's four numbers back where other entries hand back a position and a length.
 ghost use mathlib.Core.Path.{_≡_};
 ghost use mathlib.Core.List.{[]};
 ghost use Rattle.rules.specs.SettingsAsWords.{settings-of};
-ghost use Rattle.index.specs.TheSortedIndex.{indexed-of, indexed-part-answer, indexed-total-answer, indexed-shift-answer, check-answer, units-of, lookup-answer, indexed-lookup-answer};
+ghost use Rattle.index.specs.TheSortedIndex.{indexed-of, indexed-part-answer, indexed-total-answer, indexed-shift-answer, make-answer, made-index, check-answer, replace-answer, replaced-table, replaced-index, units-of, lookup-answer, indexed-lookup-answer};
 ghost use Rattle.c_words.specs.Words.{length-of, answer-words, indexed-shifted-words, found-words};
 use c_words::length_of;
 use c_words::put_answer;
@@ -12,8 +12,10 @@ use c_words::put_total;
 use index_entries::check_index;
 use index_entries::look_up;
 use index_entries::look_up_indexed;
+use index_entries::make_index;
 use index_entries::read_part_indexed;
 use index_entries::read_total_indexed;
+use index_entries::replace_row;
 use index_entries::shifted_total_indexed;
 
 #[no_mangle]
@@ -94,6 +96,39 @@ pub extern "C" fn herovinga_add_total_indexed<'a>(
         put_total(shifted.total, total);
     }
     put_answer(shifted.answer, answer)
+}
+
+#[no_mangle]
+pub extern "C" fn herovinga_make_index(
+    settings: &[u64; 25],
+    table: &[u8],
+    index: &mut [u8],
+    answer: &mut [u64; 4],
+) -> u8
+    ensures { λ r. ⌜ r ≡ make-answer (settings-of (now (settings .entry))) (now (table .entry)) (now (index .entry)) .number ⌝ }
+    ensures { λ r. ⌜ now (answer .exit) ≡ answer-words (make-answer (settings-of (now (settings .entry))) (now (table .entry)) (now (index .entry))) ⌝ }
+    ensures { λ r. ⌜ now (index .exit) ≡ made-index (settings-of (now (settings .entry))) (now (table .entry)) (now (index .entry)) ⌝ }
+{
+    let made = make_index(settings, table, index);
+    put_answer(made, answer)
+}
+
+#[no_mangle]
+pub extern "C" fn herovinga_replace_row(
+    settings: &[u64; 25],
+    table: &mut [u8],
+    index: &mut [u8],
+    row: usize,
+    new: &[u8],
+    answer: &mut [u64; 4],
+) -> u8
+    ensures { λ r. ⌜ r ≡ replace-answer (settings-of (now (settings .entry))) (now (table .entry)) (now (index .entry)) row (now (new .entry)) .number ⌝ }
+    ensures { λ r. ⌜ now (answer .exit) ≡ answer-words (replace-answer (settings-of (now (settings .entry))) (now (table .entry)) (now (index .entry)) row (now (new .entry))) ⌝ }
+    ensures { λ r. ⌜ now (table .exit) ≡ replaced-table (settings-of (now (settings .entry))) (now (table .entry)) (now (index .entry)) row (now (new .entry)) ⌝ }
+    ensures { λ r. ⌜ now (index .exit) ≡ replaced-index (settings-of (now (settings .entry))) (now (table .entry)) (now (index .entry)) row (now (new .entry)) ⌝ }
+{
+    let replaced = replace_row(settings, table, index, row, new);
+    put_answer(replaced, answer)
 }
 
 #[no_mangle]
