@@ -8,7 +8,7 @@ mod lookups;
 mod replaced;
 mod sums;
 
-use entries::read_total_indexed;
+use index_entries::read_total_indexed;
 use indexes::INDEX;
 use indexes::ROW;
 use indexes::TWICE;
