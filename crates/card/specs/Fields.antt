@@ -56,6 +56,11 @@ unfoldable pub ruled : RowRule → List ℕ → ℕ → Bool
 ruled rule table i =
     row-formed (between 0 last-kind) (passes (bytes-of (rule .set)) false) table i && asked-further (rule .further) (row table i)
 
+-- with the names before a row, or without
+abbrev pub tested : RowRule → Bool → List ℕ → ℕ → Bool
+tested rule true table i = ruled rule table i
+tested rule false table i = alone rule (row table i)
+
 -- what was found, said of a table
 abbrev pub said : Refusal → (ℕ → Refusal) → RowsFound → Outcome (Unit {0})
 said size bad Good = got tt

@@ -13,7 +13,7 @@ ghost use Rattle.rules.specs.SettingsAndUnitTable.{last-kind, settings-check, r
 ghost use Rattle.settings.specs.Outcomes.{outcome};
 ghost use Rattle.rules.specs.Laws.Lists.{Bytes};
 ghost use Rattle.settings.specs.Sets.{bytes-of, passes};
-ghost use Rattle.card.specs.Fields.{padded, unnameable, asked-further, alone, ruled, said, tabled};
+ghost use Rattle.card.specs.Fields.{padded, unnameable, asked-further, alone, ruled, tested, said, tabled};
 ghost use Rattle.card.specs.Laws.Table.{first-bad};
 use rows::fields::KIND_AT;
 use rows::fields::NAME_AT;
@@ -36,7 +36,7 @@ use settings::sets::outer_delimiters;
 use words::half_at;
 use words::word_at;
 
-const MOST_ROWS: usize = 64;
+pub const MOST_ROWS: usize = 64;
 
 const MOST_NUMERALS: usize = 32;
 
@@ -236,25 +236,30 @@ pub fn row_alone(rule: RowRule, row: &[u8]) -> bool
     }
 }
 
-fn row_accepted(rule: RowRule, table: &[u8], i: usize) -> bool
+// A row by itself and, where its name is to be held against those before it, among them. Whoever knows otherwise that all names are different
+// leaves that out, and the code that tests a row is one piece for both.
+fn row_accepted(rule: RowRule, against: bool, table: &[u8], i: usize) -> bool
     requires { ⌜ i < rows (now table) ⌝ }
     requires { ⌜ ((j : ℕ) → j < i → padded (row (now table) j) ≡ true) ⌝ }
-    ensures { λ r. ⌜ r ≡ ruled rule (now (table .entry)) i ⌝ }
+    ensures { λ r. ⌜ r ≡ tested rule against (now (table .entry)) i ⌝ }
 {
     if !row_alone(rule, row_at(table, i)) {
         return false;
     }
-    !named_before(table, i)
+    if against {
+        return !named_before(table, i);
+    }
+    true
 }
 
 // The first row that is not accepted, or how many rows there are.
-fn first_bad(rule: RowRule, table: &[u8]) -> usize
-    ensures { λ r. ⌜ r ≡ first-bad (ruled rule (now (table .entry))) 0 (rows (now (table .entry))) ⌝ }
+fn first_bad(rule: RowRule, against: bool, table: &[u8]) -> usize
+    ensures { λ r. ⌜ r ≡ first-bad (tested rule against (now (table .entry))) 0 (rows (now (table .entry))) ⌝ }
 {
     let count = table.len() / ROW_SIZE;
     let mut i = 0;
     while i < count {
-        if !row_accepted(rule, table, i) {
+        if !row_accepted(rule, against, table, i) {
             return i;
         }
         i += 1;
@@ -269,10 +274,10 @@ pub enum RowsFound {
     Bad(u8),
 }
 
-// At most so many rows, all of them whole, and each by the rule. A byte counts the rows.
-fn rows_found(most: usize, rule: RowRule, table: &[u8]) -> RowsFound
+// At most so many rows, all of them whole, and each by the rule, held against the names before it or not. A byte counts the rows.
+pub fn rows_found(most: usize, rule: RowRule, against: bool, table: &[u8]) -> RowsFound
     requires { ⌜ most ≤ most-rows ⌝ }
-    ensures { λ r. ⌜ ((size : Refusal) (bad : ℕ → Refusal) → said size bad r ≡ tabled size most (ruled rule (now (table .entry))) bad (now (table .entry))) ⌝ }
+    ensures { λ r. ⌜ ((size : Refusal) (bad : ℕ → Refusal) → said size bad r ≡ tabled size most (tested rule against (now (table .entry))) bad (now (table .entry))) ⌝ }
 {
     if table.len() % ROW_SIZE != 0 {
         return RowsFound::WrongSize;
@@ -281,7 +286,7 @@ fn rows_found(most: usize, rule: RowRule, table: &[u8]) -> RowsFound
     if count > most {
         return RowsFound::WrongSize;
     }
-    let bad = first_bad(rule, table);
+    let bad = first_bad(rule, against, table);
     if bad < count {
         return RowsFound::Bad(bad as u8);
     }
@@ -308,7 +313,7 @@ pub fn table_check(settings: &[u64; 25], hall: &[u8]) -> Checked
     requires { ⌜ settings-check (settings-of (now settings)) ≡ got tt ⌝ }
     ensures { λ r. ⌜ outcome r ≡ table-check (settings-of (now (settings .entry))) (now (hall .entry)) ⌝ }
 {
-    match rows_found(MOST_ROWS, unit_rule(settings), hall) {
+    match rows_found(MOST_ROWS, unit_rule(settings), true, hall) {
         RowsFound::Good => Checked::Accepted,
         RowsFound::WrongSize => Checked::Refused(Refusal::TableSize),
         RowsFound::Bad(row) => Checked::Refused(Refusal::BadRow(row as usize)),
@@ -323,7 +328,7 @@ fn line_check(settings: &[u64; 25], line: &[u8]) -> Checked
     if line.len() == 0 {
         return Checked::Accepted;
     }
-    match rows_found(MOST_ROWS, unit_rule(settings), line) {
+    match rows_found(MOST_ROWS, unit_rule(settings), true, line) {
         RowsFound::Good => Checked::Accepted,
         RowsFound::WrongSize => Checked::Refused(Refusal::LineSize),
         RowsFound::Bad(row) => Checked::Refused(Refusal::BadLineRow(row)),
@@ -350,7 +355,7 @@ pub fn numerals_check(numerals: &[u8]) -> Checked
     if numerals.len() == 0 {
         return Checked::Accepted;
     }
-    match rows_found(MOST_NUMERALS, numeral_rule(), numerals) {
+    match rows_found(MOST_NUMERALS, numeral_rule(), true, numerals) {
         RowsFound::Good => Checked::Accepted,
         RowsFound::WrongSize => Checked::Refused(Refusal::NumeralsSize),
         RowsFound::Bad(row) => Checked::Refused(Refusal::BadNumeral(row)),

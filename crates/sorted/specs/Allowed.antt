@@ -1,6 +1,6 @@
 -- Which refusal comes first before an index is made and before a row is replaced; and what holds where none comes. Assumes nothing.
-use mathlib.Core.Path.{_≡_, refl, sym, ap, _∙_}
-use mathlib.Core.Bool.{Bool, true, false}
+use mathlib.Core.Path.{_≡_}
+use mathlib.Core.Bool.{Bool, true}
 use mathlib.Core.List.{List}
 use Prim.Native.Nat.{ℕ, _≤_, _<_}
 use lib.Dec.{eqb, ltb}
@@ -9,12 +9,12 @@ use borrow.Author.Tests.{eq-eqb, ne-eqb, eqb-true, lt-ltb, le-ltb, ltb-true}
 use Rattle.rules.specs.declared.Settings.{Settings}
 use Rattle.rules.specs.declared.Refusal.{Refusal}
 use Rattle.rules.specs.declared.Refusal.the-variants.{TableSize, BadRow, WrongIndex, Beyond}
-use Rattle.rules.specs.NumbersHandedBack.{Outcome, got, refused, _>>_, unless}
+use Rattle.rules.specs.NumbersHandedBack.{got, refused, _>>_, unless}
 use Rattle.rules.specs.SettingsAndUnitTable.{settings-check, row-size, rows, table-check}
 use Rattle.rules.specs.Laws.Choices.{and-left, and-right}
 use Rattle.settings.specs.Laws.Accepted.{passed, passed-both, passed-last}
 use Rattle.card.specs.Laws.Accepted.{units-good}
-use Rattle.index.specs.TheSortedIndex.{index-check, table-right, making, checking, with-row, may-replace, replacing}
+use Rattle.index.specs.TheSortedIndex.{table-right, making, checking, with-row, may-replace, replacing}
 use Rattle.index.specs.Laws.Right.{Own, Right, index-accepts}
 use Rattle.sorted.specs.Replacing.{passes-got, units-own}
 
@@ -80,8 +80,7 @@ module _ (s : Settings) (table index : List ℕ) (i : ℕ) (new : List ℕ) wher
   replacing-holds e =
       let (first, rest) = passed-both (checking s table index) _ e in
       let (within, row) = passed (Beyond i) (ltb i (rows table)) _ rest in
-      let fits = passed-last (BadRow i) _ row in
-      (
+      let fits = passed-last (BadRow i) _ row in (
         ltb-true i (rows table) within,
         eqb-true (length new) row-size (and-left (eqb (length new) row-size) _ fits),
         index-accepts WrongIndex table index .0 (passed-both (table-right s table) _ first .1),

@@ -2,21 +2,27 @@
 use mathlib.Core.Path.{_≡_, refl, sym, _∙_}
 use mathlib.Core.Bool.{Bool, true, false, not}
 use mathlib.Core.List.{List}
-use Prim.Native.Nat.{ℕ, zero, suc, _+_, _-_, _%_, _/_, _≤_, _<_}
+use Prim.Native.Nat.{ℕ, zero, suc, _+_, _-_, _%_, _≤_, _<_}
+use native.Mathlib.Nat.{zero-add}
 use native.Mathlib.Omega.{arith}
-use lib.Dec.{eqb}
+use lib.Dec.{eqb, leb}
 use lib.ListN.{length}
 use borrow.Author.Count.{below-more}
-use borrow.Author.Tests.{eqb-true, eqb-false}
+use borrow.Author.Tests.{eqb-true, eqb-false, leb-true}
 use Rattle.rules.specs.declared.Settings.{Settings}
+use Rattle.rules.specs.declared.Refusal.{Refusal}
+use Rattle.rules.specs.declared.Refusal.the-variants.{TableSize, BadRow}
+use Rattle.rules.specs.NumbersHandedBack.{got}
+use Rattle.rules.specs.Laws.Choices.{and-left, and-right}
 use Rattle.rules.specs.declared.Found.the-variants.{Row}
 use Rattle.rules.specs.Common.{same}
-use Rattle.rules.specs.SettingsAndUnitTable.{most-rows, row-size, rows, row, name, named, row-accepted}
+use Rattle.rules.specs.SettingsAndUnitTable.{most-rows, row-size, rows, row, name, named, whole-rows, row-accepted}
 use Rattle.rows.specs.Laws.Lookup.{not-same}
 use Rattle.card.specs.declared.table.RowRule.{RowRule}
-use Rattle.card.specs.Fields.{alone, ruled}
+use Rattle.card.specs.Fields.{alone, ruled, tested, tabled}
 use Rattle.card.specs.Laws.Table.{ruled-alone}
-use Rattle.card.specs.Laws.Accepted.{UnitsGood}
+use Rattle.settings.specs.Laws.Accepted.{passed}
+use Rattle.card.specs.Laws.Accepted.{UnitsGood, rows-good}
 use Rattle.index.specs.TheSortedIndex.{before}
 use Rattle.index.specs.Laws.Order.{before-trans}
 use Rattle.index.specs.Laws.Right.{entry, entry-name, Right, Rising, Own, rising-own, rising-right, different}
@@ -78,24 +84,29 @@ own-ruled rule table own i below good =
       unnamed-below table (name (row table i)) i (λ j less e. omega (arith, different table own j i (omega arith) below e)),
     )
 
+-- what the rows by themselves were found to be
+pub each-alone :
+    (rule : RowRule) (table : List ℕ)
+    → ((size : Refusal) (bad : ℕ → Refusal) → got tt ≡ tabled size most-rows (tested rule false table) bad table)
+    → (length table % row-size ≡ 0) × (rows table ≤ most-rows) × ((i : ℕ) → i < rows table → alone rule (row table i) ≡ true)
+unfolding whole-rows
+each-alone rule table found =
+    let (sized, each) = passed TableSize _ _ (sym (found TableSize BadRow)) in
+    let whole : Bool = eqb (length table % row-size) 0 in (
+      eqb-true (length table % row-size) 0 (and-left whole (leb (rows table) most-rows) sized),
+      leb-true (rows table) most-rows (and-right whole (leb (rows table) most-rows) sized),
+      λ i below. rw (zero-add i) at (rows-good _ _ (rows table) 0 i each below),
+    )
+
 -- each row by itself, and names that rise along an index as long as the table
 pub told-good :
     (rule : RowRule) (s : Settings) (table index : List ℕ)
     → ((i : ℕ) → ruled rule table i ≡ row-accepted s table i)
-    → length table % row-size ≡ 0 → length table / row-size ≤ most-rows → length index ≡ length table / row-size
-    → ((i : ℕ) → i < rows table → alone rule (row table i) ≡ true)
+    → (length table % row-size ≡ 0) × (rows table ≤ most-rows) × ((i : ℕ) → i < rows table → alone rule (row table i) ≡ true)
+    → length index ≡ rows table
     → Rising table index
     → UnitsGood s table × Right table index
-unfolding rows
-told-good rule s table index ruling whole few long each rising = (
+told-good rule s table index ruling (whole, few, each) long rising = (
   record { whole = whole; most = few; each = λ i below. sym (ruling i) ∙ own-ruled rule table (rising-own table index long rising) i below (each i below) },
   rising-right table index long rising,
-)
-
--- no rows, and no entries
-pub told-empty : (s : Settings) (table index : List ℕ) → length table % row-size ≡ 0 → length table / row-size ≡ 0 → length index ≡ length table / row-size → UnitsGood s table × Right table index
-unfolding rows
-told-empty s table index whole none long = (
-  record { whole = whole; most = omega arith; each = λ i below. absurd (omega arith) },
-  record { long = long; each = λ k below. absurd (omega arith) },
 )

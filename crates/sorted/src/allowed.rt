@@ -31,7 +31,13 @@ pub fn may_make(settings: &[u64; 25], table: &[u8], index: &[u8]) -> Checked
 }
 
 // The table and its index, then the row's number, then the new row.
-pub fn may_replace(settings: &[u64; 25], table: &[u8], index: &[u8], row: usize, new: &[u8]) -> Checked
+pub fn may_replace(
+    settings: &[u64; 25],
+    table: &[u8],
+    index: &[u8],
+    row: usize,
+    new: &[u8],
+) -> Checked
     ensures { λ r. ⌜ outcome r ≡ replacing (settings-of (now (settings .entry))) (now (table .entry)) (now (index .entry)) row (now (new .entry)) ⌝ }
 {
     let checked = table_and_index_check(settings, table, index);

@@ -7,12 +7,13 @@ ghost use Prim.Native.Nat.{ℕ, _<_};
 ghost use Rattle.rules.specs.NumbersHandedBack.{got};
 ghost use Rattle.rules.specs.SettingsAsWords.{settings-of};
 ghost use Rattle.rules.specs.SettingsAndUnitTable.{settings-check, row-size, rows, row, name};
-ghost use Rattle.card.specs.Fields.{padded, alone};
+ghost use Rattle.card.specs.Fields.{padded};
 ghost use Rattle.card.specs.Laws.Accepted.{UnitsGood};
 ghost use Rattle.index.specs.TheSortedIndex.{before};
 ghost use Rattle.index.specs.Laws.Right.{Right, Rising};
-use card::table::RowRule;
-use card::table::row_alone;
+use card::table::MOST_ROWS;
+use card::table::RowsFound;
+use card::table::rows_found;
 use card::table::unit_rule;
 use rows::fields::KIND_AT;
 use rows::fields::NAME_AT;
@@ -20,25 +21,8 @@ use rows::fields::ROW_SIZE;
 use rows::fields::row_at;
 use words::word_at;
 
-const MOST_ROWS: usize = 64;
-
 // Where the second of the two words of a name's room stands.
 const SECOND_WORD_AT: usize = 9;
-
-// Whether each row passes by itself.
-fn each_alone(rule: RowRule, table: &[u8]) -> bool
-    ensures { λ r. ⌜ (r ≡ true → (i : ℕ) → i < rows (now (table .entry)) → alone rule (row (now (table .entry)) i) ≡ true) ⌝ }
-{
-    let count = table.len() / ROW_SIZE;
-    let mut i = 0;
-    while i < count {
-        if !row_alone(rule, row_at(table, i)) {
-            return false;
-        }
-        i += 1;
-    }
-    true
-}
 
 // Whether one row's name comes before another's. Both have zeros after it, so that the name's whole room decides, and where it is the same the
 // sizes do. Names that begin alike are told by a word at once.
@@ -94,20 +78,11 @@ pub fn told_right(settings: &[u64; 25], table: &[u8], index: &[u8]) -> bool
     requires { ⌜ settings-check (settings-of (now settings)) ≡ got tt ⌝ }
     ensures { λ r. ⌜ (r ≡ true → UnitsGood (settings-of (now (settings .entry))) (now (table .entry)) × Right (now (table .entry)) (now (index .entry))) ⌝ }
 {
-    if table.len() % ROW_SIZE != 0 {
+    let RowsFound::Good = rows_found(MOST_ROWS, unit_rule(settings), false, table) else {
         return false;
-    }
+    };
     let count = table.len() / ROW_SIZE;
-    if count > MOST_ROWS {
-        return false;
-    }
     if index.len() != count {
-        return false;
-    }
-    if count == 0 {
-        return true;
-    }
-    if !each_alone(unit_rule(settings), table) {
         return false;
     }
     names_rise(table, index)

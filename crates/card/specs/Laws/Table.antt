@@ -22,7 +22,7 @@ use Rattle.words.specs.LowFirst.{bytes-part}
 use Rattle.settings.specs.Sets.{bytes-of, passes}
 use Rattle.card.specs.declared.table.Further.the-variants.{Nothing, NotLedByE, AsciiSeconds}
 use Rattle.card.specs.declared.table.RowRule.{RowRule}
-use Rattle.card.specs.Fields.{padded, unnameable, no-letters, asked-further, alone, ruled, tabled}
+use Rattle.card.specs.Fields.{padded, unnameable, no-letters, asked-further, alone, ruled, tested, tabled}
 use Rattle.card.specs.Laws.Names.{names-alike}
 use Rattle.card.specs.Laws.Unnameable.{outside-names, outside-letters}
 
@@ -263,6 +263,15 @@ alone-padded rule r good = and-left _ _ good
 pub ruled-padded : (rule : RowRule) (table : List ℕ) (i : ℕ) → ruled rule table i ≡ true → padded (row table i) ≡ true
 unfolding ruled
 ruled-padded rule table i good = formed-padded _ _ table i (and-left _ _ good)
+
+-- a row that fails by itself fails either way
+pub fails-tested : (rule : RowRule) (against : Bool) (table : List ℕ) (i : ℕ) → alone rule (row table i) ≡ false → tested rule against table i ≡ false
+fails-tested rule true table i fails = rw (ruled-alone rule table i, fails)
+fails-tested rule false table i fails = fails
+
+pub tested-padded : (rule : RowRule) (against : Bool) (table : List ℕ) (i : ℕ) → tested rule against table i ≡ true → padded (row table i) ≡ true
+tested-padded rule true table i good = ruled-padded rule table i good
+tested-padded rule false table i good = alone-padded rule (row table i) good
 
 -- names outside the set of bytes that no name holds: a row of units
 pub unit-ruled :

@@ -29,8 +29,7 @@ returns c =
 returns-2 : tie.Need-returns-2
 returns-2 c =
     let put = c .before .before .before .before .before .before in
-    let laws = replaced _ _ _ _ _ (allowed (put .before .before .before)) in
-    (
+    let laws = replaced _ _ _ _ _ (allowed (put .before .before .before)) in (
       c .rows-done .ensures ∙ ap (λ t. done (rows t) zero-length) (put .put-in .ensures .0) ∙ laws .0,
       (put .put-in .ensures .0 ∙ laws .1, put .put-in .ensures .1 ∙ laws .2),
     )

@@ -7,20 +7,20 @@ use native.Mathlib.Omega.{arith}
 use borrow.Author.Tests.{not-true, not-false}
 use borrow.Author.Count.{below-none, below-more}
 use Rattle.rules.specs.SettingsAndUnitTable.{rows, row}
-use Rattle.card.specs.Fields.{padded, ruled}
-use Rattle.card.specs.Laws.Table.{first-bad, bad-from, bad-start, bad-end, bad-here, bad-next, ruled-padded}
+use Rattle.card.specs.Fields.{padded, tested}
+use Rattle.card.specs.Laws.Table.{first-bad, bad-from, bad-start, bad-end, bad-here, bad-next, tested-padded}
 use Rattle.card.proofs.table.first_bad.Statement.{statement}
 use Rattle.card.proofs.table.first_bad.Tie as tie
 
 abbrev Inv-loop : tie.InvT-loop
-Inv-loop rule table count i₀ i =
+Inv-loop rule against table count i₀ i =
     (count ≡ rows table)
     × (i ≤ count)
     × ((j : ℕ) → j < i → padded (row table j) ≡ true)
-    × (bad-from (ruled rule table) (rows table) i ≡ first-bad (ruled rule table) 0 (rows table))
+    × (bad-from (tested rule against table) (rows table) i ≡ first-bad (tested rule against table) 0 (rows table))
 
 abbrev μ-loop : tie.MeasureT-loop
-μ-loop rule table count i₀ i = count - i
+μ-loop rule against table count i₀ i = count - i
 
 loop-holds : tie.Need-loop-holds Inv-loop μ-loop
 unfolding rows
@@ -44,10 +44,10 @@ loop-again : tie.Need-loop-again Inv-loop μ-loop
 loop-again c =
     let args = c .before .before .before .before .before .args in
     let loop = c .before .before .before .loop in
-    let good : ruled (args .rule) (args .table .now) (loop .i) ≡ true = sym (c .before .row-accepted .ensures) ∙ not-false _ (c .if1 .left) in (
+    let good : tested (args .rule) (args .against) (args .table .now) (loop .i) ≡ true = sym (c .before .row-accepted .ensures) ∙ not-false _ (c .if1 .left) in (
       loop .inv .0,
       omega arith,
-      below-more _ (loop .i) (loop .inv .2) (ruled-padded (args .rule) (args .table .now) (loop .i) good),
+      below-more _ (loop .i) (loop .inv .2) (tested-padded (args .rule) (args .against) (args .table .now) (loop .i) good),
       sym (bad-next _ _ (loop .i) (omega arith) good) ∙ loop .inv .3,
     )
 

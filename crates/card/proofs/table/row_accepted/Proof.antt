@@ -9,7 +9,7 @@ use borrow.Author.Needs.{needs}
 use Rattle.rules.specs.SettingsAndUnitTable.{row}
 use Rattle.rows.specs.Laws.Rows.{length-row}
 use Rattle.card.specs.Fields.{padded, alone}
-use Rattle.card.specs.Laws.Table.{ruled-alone, alone-padded}
+use Rattle.card.specs.Laws.Table.{ruled-alone, fails-tested, alone-padded}
 use Rattle.card.proofs.table.row_accepted.Statement.{statement}
 use Rattle.card.proofs.table.row_accepted.Tie as tie
 
@@ -29,17 +29,22 @@ row-alone-requires c κs = ap length (c .row-at .ensures) ∙ length-row _ _ (c 
 returns : tie.Need-returns
 returns c =
     let args = c .before .before .before .before .args in
-    rw (ruled-alone (args .rule) (args .table .now) (args .i), ← (asked (c .before)), not-true (c .before .row-alone .result) (c .if1 .taken))
+    sym (fails-tested (args .rule) (args .against) (args .table .now) (args .i) (sym (asked (c .before)) ∙ not-true (c .before .row-alone .result) (c .if1 .taken)))
 
 named-before-requires : tie.Need-named-before-requires
 named-before-requires c κs =
-    let start = c .before .before .before .before in
-    (start .pre .0, λ j h. below-more _ (start .args .i) (start .pre .1) (alone-padded _ _ (good c)) j (omega arith))
+    let at-row = c .before in
+    let start = at-row .before .before .before .before in
+    (start .pre .0, λ j h. below-more _ (start .args .i) (start .pre .1) (alone-padded _ _ (good at-row)) j (omega arith))
 
 returns-2 : tie.Need-returns-2
 returns-2 c =
-    let args = c .before .before .before .before .before .args in
-    rw (ruled-alone (args .rule) (args .table .now) (args .i), good (c .before), c .named-before .ensures)
+    let at-row = c .before .before in
+    let args = at-row .before .before .before .before .args in
+    rw (c .before .if2 .taken, ruled-alone (args .rule) (args .table .now) (args .i), good at-row, c .named-before .ensures)
+
+returns-3 : tie.Need-returns-3
+returns-3 c = rw (c .if2 .left) (sym (good (c .before)))
 
 pub row-accepted-spec : {M : Type 1} → statement M
-row-accepted-spec = tie.close (tie.spec (λ c κs. search needs) row-alone-requires returns named-before-requires returns-2)
+row-accepted-spec = tie.close (tie.spec (λ c κs. search needs) row-alone-requires returns named-before-requires returns-2 returns-3)
