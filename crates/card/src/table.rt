@@ -209,7 +209,7 @@ fn ascii_seconds(row: &[u8]) -> bool
 }
 
 // All that is asked of a row by itself; what is left is that no earlier row has its name.
-pub fn row_alone(rule: RowRule, row: &[u8]) -> bool
+fn row_alone(rule: RowRule, row: &[u8]) -> bool
     requires { ⌜ length (now row) ≡ row-size ⌝ }
     ensures { λ r. ⌜ r ≡ alone rule (now (row .entry)) ⌝ }
 {

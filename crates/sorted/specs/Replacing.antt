@@ -8,16 +8,17 @@ use native.Mathlib.Numerals.{add-one}
 use native.Mathlib.Omega.{arith}
 use lib.Dec.{eqb, ltb}
 use lib.ListN.{length, getD, take, drop, set, length-set, length-take, length-drop, length-append, List·getD-append}
-use lib.Seq.{getD-take, getD-drop, getD-set-same, getD-set-other, getD-append-add, ext-getD}
+use lib.Seq.{getD-take, getD-drop, getD-set-same, getD-set-other, getD-append-add, ext-getD, take-all}
 use borrow.Author.Tests.{eqb-true, eqb-false, eq-eqb, ltb-true, ltb-false}
 use Rattle.rules.specs.declared.Settings.{Settings}
 use Rattle.rules.specs.declared.Refusal.the-variants.{TableSize, BadRow}
 use Rattle.rules.specs.declared.Found.the-variants.{Row}
-use Rattle.rules.specs.NumbersHandedBack.{Outcome, got, refused}
-use Rattle.rules.specs.SettingsAndUnitTable.{row-size, rows, row, name, row-accepted, table-check}
+use Rattle.rules.specs.Common.{if_then_else_}
+use Rattle.rules.specs.NumbersHandedBack.{Outcome, got, refused, _>>_, unless}
+use Rattle.rules.specs.SettingsAndUnitTable.{row-size, rows, row, name, row-accepted, whole-rows, rows-check, table-check}
 use Rattle.rows.specs.Laws.Rows.{length-row}
 use Rattle.card.specs.declared.table.RowRule.{RowRule}
-use Rattle.card.specs.Fields.{padded, alone, ruled}
+use Rattle.card.specs.Fields.{padded, alone, ruled, tested, tabled}
 use Rattle.card.specs.Laws.Table.{ruled-alone, right-padded}
 use Rattle.card.specs.Laws.Accepted.{UnitsGood, units-good, units-accepted, own-name, rows-right}
 use Rattle.rules.specs.Laws.Choices.{and-left}
@@ -131,6 +132,22 @@ unfolding passes
 passes-got {m = got tt} e = refl
 passes-got {m = refused cause} e = absurd (false≢true e)
 
+-- a row as a table of one row: what is found of it is whether it passes by itself
+module _ (rule : RowRule) (new : List ℕ) (sized : length new ≡ row-size) {m : Outcome (Unit {0})} (found : m ≡ tabled TableSize 1 (tested rule false new) BadRow new) where
+  one-row : m ≡ (if alone rule new then got tt else refused (BadRow 0))
+  unfolding whole-rows rows rows-check unless _>>_ row
+  one-row =
+      let all : take row-size (drop (row-size * 0) new) ≡ new = take-all row-size new (omega arith) in
+      found ∙ rw (sized, all)
+
+  pub one-decides : passes m ≡ alone rule new
+  unfolding passes if_then_else_
+  one-decides = ap passes one-row ∙ go (alone rule new)
+    where
+      go : (t : Bool) → passes (if t then got tt else refused (BadRow 0)) ≡ t
+      go true = refl
+      go false = refl
+
 -- in an accepted table each name finds its own row
 pub units-own : (s : Settings) (table : List ℕ) → UnitsGood s table → Own table
 units-own s table good i below = own-name s table i below (rows-right s table good i below)
@@ -149,31 +166,31 @@ module _
   padded-rows j within = right-padded s table j (rows-right s table units j within)
 
   module _ (sized : length new ≡ row-size) where
-    then : List ℕ
-    then = with-row table i new
+    new-table : List ℕ
+    new-table = with-row table i new
 
-    decides : passes (table-check s then) ≡ may-replace s table i new
-    unfolding may-replace then
+    decides : passes (table-check s new-table) ≡ may-replace s table i new
+    unfolding may-replace new-table
     decides = rw (eq-eqb (length new) row-size sized)
 
     -- each row of an accepted table passes by itself
     by-itself : (t : List ℕ) → Bytes t → UnitsGood s t → (j : ℕ) → j < rows t → alone rule (row t j) ≡ true
     by-itself t its-bytes right j within = and-left _ _ (sym (ruled-alone rule t j) ∙ ruling t its-bytes j ∙ right .each j within)
 
-    would-pass : passes (table-check s then) ≡ true → UnitsGood s then
+    would-pass : passes (table-check s new-table) ≡ true → UnitsGood s new-table
     unfolding table-check
-    would-pass e = units-good TableSize BadRow s then (passes-got e)
+    would-pass e = units-good TableSize BadRow s new-table (passes-got e)
 
     -- refused for itself, and for its name
-    refused-if : ((UnitsGood s then) → ⊥) → false ≡ may-replace s table i new
-    refused-if never = go (passes (table-check s then)) refl
+    refused-if : ((UnitsGood s new-table) → ⊥) → false ≡ may-replace s table i new
+    refused-if never = go (passes (table-check s new-table)) refl
       where
-        go : (t : Bool) → passes (table-check s then) ≡ t → false ≡ may-replace s table i new
+        go : (t : Bool) → passes (table-check s new-table) ≡ t → false ≡ may-replace s table i new
         go true e = absurd (never (would-pass e))
         go false e = sym e ∙ decides
 
     pub fails-alone : alone rule new ≡ false → false ≡ may-replace s table i new
-    unfolding then
+    unfolding new-table
     fails-alone fails =
         refused-if
         (λ right.
@@ -183,7 +200,7 @@ module _
         ∙ by-itself (with-row table i new) (with-bytes table i new below sized bytes others) right i (rw (with-rows table i new below sized) below)))
 
     pub fails-elsewhere : Elsewhere table i new → false ≡ may-replace s table i new
-    unfolding then
+    unfolding new-table
     fails-elsewhere (j, within, other, e) =
         refused-if
         (λ right.
@@ -193,7 +210,7 @@ module _
 
     -- else it may come in
     pub comes-in : alone rule new ≡ true → NotElsewhere table i new → true ≡ may-replace s table i new
-    unfolding then table-check passes
+    unfolding new-table table-check passes
     comes-in passes-alone nowhere = ap passes (sym (units-accepted TableSize BadRow s (with-row table i new) right)) ∙ decides
       where
         own : Own table

@@ -11,11 +11,15 @@ ghost use Rattle.index.specs.TheSortedIndex.{with-row, may-replace, index-of};
 ghost use Rattle.index.specs.Laws.Right.{Own, Right};
 ghost use Rattle.sorted.specs.Replacing.{Elsewhere, NotElsewhere, Stands, Moved};
 use crate::made::sift_down;
-use card::table::row_alone;
+use card::table::RowsFound;
+use card::table::rows_found;
 use card::table::same_name;
 use card::table::unit_rule;
 use rows::fields::ROW_SIZE;
 use rows::fields::row_at;
+
+// The new row by itself is tested as a table of one row.
+const ONE_ROW: usize = 1;
 
 // Whether another row than this one has the new row's name.
 fn named_elsewhere(table: &[u8], i: usize, new: &[u8]) -> bool
@@ -46,10 +50,11 @@ pub fn row_fits(settings: &[u64; 25], table: &[u8], i: usize, new: &[u8]) -> boo
     if new.len() != ROW_SIZE {
         return false;
     }
-    if !row_alone(unit_rule(settings), new) {
-        return false;
+    match rows_found(ONE_ROW, unit_rule(settings), false, new) {
+        RowsFound::Good => !named_elsewhere(table, i, new),
+        RowsFound::WrongSize => false,
+        RowsFound::Bad(_) => false,
     }
-    !named_elsewhere(table, i, new)
 }
 
 // The new row's bytes, in the place of the old one's.
