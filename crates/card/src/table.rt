@@ -309,7 +309,7 @@ pub fn unit_rule(settings: &[u64; 25]) -> RowRule
 }
 
 // The hall's table, under accepted settings.
-pub fn table_check(settings: &[u64; 25], hall: &[u8]) -> Checked
+fn table_check(settings: &[u64; 25], hall: &[u8]) -> Checked
     requires { ⌜ settings-check (settings-of (now settings)) ≡ got tt ⌝ }
     ensures { λ r. ⌜ outcome r ≡ table-check (settings-of (now (settings .entry))) (now (hall .entry)) ⌝ }
 {
@@ -349,7 +349,7 @@ fn numeral_rule() -> RowRule
 }
 
 // The numeral table, which most cards are without too.
-pub fn numerals_check(numerals: &[u8]) -> Checked
+fn numerals_check(numerals: &[u8]) -> Checked
     ensures { λ r. ⌜ outcome r ≡ numerals-check (now (numerals .entry)) ⌝ }
 {
     if numerals.len() == 0 {

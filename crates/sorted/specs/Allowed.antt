@@ -26,23 +26,18 @@ table-own s table good = units-own s table (units-good TableSize BadRow s table 
 -- ---- an index made
 
 module _ (s : Settings) (table index : List ℕ) where
-  pub make-settings : {cause : Refusal} → settings-check s ≡ refused cause → refused cause ≡ making s table index
-  unfolding making table-right _>>_
-  make-settings e = rw e
+  pub make-refused : {cause : Refusal} → table-right s table ≡ refused cause → refused cause ≡ making s table index
+  unfolding making _>>_
+  make-refused e = rw e
 
-  module _ (settings : settings-check s ≡ got tt) where
-    pub make-table : {cause : Refusal} → table-check s table ≡ refused cause → refused cause ≡ making s table index
-    unfolding making table-right _>>_
-    make-table e = rw (settings, e)
+  module _ (good : table-right s table ≡ got tt) where
+    pub make-long : (length index ≡ rows table → ⊥) → refused (WrongIndex (rows table)) ≡ making s table index
+    unfolding making unless _>>_
+    make-long h = rw (good, ne-eqb _ _ h)
 
-    module _ (good : table-check s table ≡ got tt) where
-      pub make-long : (length index ≡ rows table → ⊥) → refused (WrongIndex (rows table)) ≡ making s table index
-      unfolding making table-right unless _>>_
-      make-long h = rw (settings, good, ne-eqb _ _ h)
-
-      pub make-allowed : length index ≡ rows table → got tt ≡ making s table index
-      unfolding making table-right unless _>>_
-      make-allowed h = rw (settings, good, eq-eqb _ _ h)
+    pub make-allowed : length index ≡ rows table → got tt ≡ making s table index
+    unfolding making unless _>>_
+    make-allowed h = rw (good, eq-eqb _ _ h)
 
   -- what then holds
   pub making-holds : making s table index ≡ got tt → (table-check s table ≡ got tt) × (length index ≡ rows table)

@@ -5,23 +5,19 @@ ghost use Rattle.settings.specs.Outcomes.{outcome};
 ghost use Rattle.index.specs.TheSortedIndex.{making, replacing};
 use crate::checked::table_and_index_check;
 use crate::replaced::row_fits;
-use card::table::table_check;
+use card::table::card_check;
 use rows::fields::ROW_SIZE;
 use rules::Refusal;
 use settings::Checked;
-use settings::check::settings_check;
 
 // The settings, the table, and a lent index of its length. The table is held against itself: no index says yet that its names are different.
 pub fn may_make(settings: &[u64; 25], table: &[u8], index: &[u8]) -> Checked
     ensures { λ r. ⌜ outcome r ≡ making (settings-of (now (settings .entry))) (now (table .entry)) (now (index .entry)) ⌝ }
 {
-    let checked = settings_check(settings);
+    let none = &table[..0];
+    let checked = card_check(settings, table, none, none);
     let Checked::Accepted = checked else {
         return checked;
-    };
-    let of_the_table = table_check(settings, table);
-    let Checked::Accepted = of_the_table else {
-        return of_the_table;
     };
     let count = table.len() / ROW_SIZE;
     if index.len() != count {

@@ -10,11 +10,8 @@ use crate::rising::told_right;
 use crate::true_order::IndexFound;
 use crate::true_order::index_found;
 use card::table::card_check;
-use card::table::numerals_check;
-use card::table::table_check;
 use rules::Refusal;
 use settings::Checked;
-use settings::check::settings_check;
 
 // The hall's index, or that of one table by itself.
 fn index_check(table: &[u8], index: &[u8]) -> Checked
@@ -38,18 +35,20 @@ fn line_index_check(line: &[u8], index: &[u8]) -> Checked
     }
 }
 
-// One table with its index. Most are right, and told so in one pass; where anything is wrong, the whole of 7 decides, and then the index.
+// One table with its index. Most are right, and told so in one pass once the settings are accepted; where anything is wrong, the whole of 7 decides,
+// and then the index. The settings, and the table with them, are checked as a card without the rest, so that a card's check is one piece of code.
 pub fn table_and_index_check(settings: &[u64; 25], table: &[u8], index: &[u8]) -> Checked
     ensures { λ r. ⌜ outcome r ≡ checking (settings-of (now (settings .entry))) (now (table .entry)) (now (index .entry)) ⌝ }
 {
-    let checked = settings_check(settings);
-    let Checked::Accepted = checked else {
-        return checked;
+    let none = &table[..0];
+    let of_the_settings = card_check(settings, none, none, none);
+    let Checked::Accepted = of_the_settings else {
+        return of_the_settings;
     };
     if told_right(settings, table, index) {
         return Checked::Accepted;
     }
-    let of_the_table = table_check(settings, table);
+    let of_the_table = card_check(settings, table, none, none);
     let Checked::Accepted = of_the_table else {
         return of_the_table;
     };
@@ -78,7 +77,7 @@ fn checked_apart(
     line_index_check(line, line_index)
 }
 
-// The same, with both tables told right in one pass each where they are.
+// The same, with both tables told right in one pass each where they are: then settings and numerals are all that is left of the card.
 pub fn indexed_check(
     settings: &[u64; 25],
     hall: &[u8],
@@ -89,13 +88,12 @@ pub fn indexed_check(
 ) -> Checked
     ensures { λ r. ⌜ outcome r ≡ indexed-check (indexed-of (now (settings .entry)) (now (hall .entry)) (now («hall_index» .entry)) (now (line .entry)) (now («line_index» .entry)) (now (numerals .entry))) ⌝ }
 {
-    let checked = settings_check(settings);
-    let Checked::Accepted = checked else {
-        return checked;
-    };
-    if told_right(settings, hall, hall_index) {
-        if told_right(settings, line, line_index) {
-            return numerals_check(numerals);
+    let none = &hall[..0];
+    if let Checked::Accepted = card_check(settings, none, none, numerals) {
+        if told_right(settings, hall, hall_index) {
+            if told_right(settings, line, line_index) {
+                return Checked::Accepted;
+            }
         }
     }
     checked_apart(settings, hall, hall_index, line, line_index, numerals)

@@ -1,5 +1,5 @@
 -- `index_entries::make_index` meets its contract: what stands before it, and then the index. Assumes nothing.
-use mathlib.Core.Path.{_≡_, refl, sym, ap, _∙_}
+use mathlib.Core.Path.{_≡_, sym, ap, _∙_}
 use borrow.Author.Needs.{needs}
 use Rattle.rules.specs.NumbersHandedBack.{got, refused}
 use Rattle.rules.specs.SettingsAsWords.{settings-of}
