@@ -3,9 +3,9 @@
  *
  *     c_indexes ROUNDS CALL ROWS [NAME]
  *
- * CALL is make, check, replace, lookup, indexed-lookup, total or indexed-total; a total is that of `1` and the name. The table's names have sixteen
- * bytes that differ in the last, as those of bench/full_table.cards have, but for the last row's, which is `s`: rows are counted upward, so that
- * `s` is the last to be looked at and the last in order. */
+ * CALL is make, make-down, check, replace, lookup, indexed-lookup, total or indexed-total; a total is that of `1` and the name. The table's names have
+ * sixteen bytes that differ in the last, as those of bench/full_table.cards have, but for the last row's, which is `s`: rows are counted upward, so
+ * that `s` is the last to be looked at and the last in order. For make-down they stand the other way round, so that each sinks below all before it. */
 #include <inttypes.h>
 #include <stdio.h>
 #include <stdlib.h>
@@ -58,7 +58,7 @@ int main(int argc, char **argv)
     make_card_a(&a);
     settings = lent(&a).settings;
     for (row = 0; row < rows; row++) {
-        size = name_of(name, row, rows);
+        size = name_of(name, strcmp(argv[2], "make-down") == 0 ? rows - 1 - row : row, rows);
         put_named(table + row * HEROVINGA_ROW_SIZE, name, size);
     }
     table_size = rows * HEROVINGA_ROW_SIZE;
@@ -75,7 +75,7 @@ int main(int argc, char **argv)
     put_named(fresh, "a", 1);
     for (left = strtoull(argv[1], NULL, 10); left > 0; left--) {
         const char *call = argv[2];
-        if (strcmp(call, "make") == 0)
+        if (strncmp(call, "make", 4) == 0)
             number = herovinga_make_index(&settings, table, table_size, index, rows, &answer);
         else if (strcmp(call, "check") == 0)
             number = herovinga_check_index(&settings, table, table_size, index, rows, &answer);
