@@ -1,4 +1,2 @@
--- Laws of the entries that take an index, and of the lookups.
+-- Laws of the readers that take an index beside each table.
 pub mod Answers
-pub mod Lookups
-pub mod Changes

@@ -2,8 +2,8 @@
 use crate::sums::BEGIN;
 use crate::sums::mixed_answer;
 use crate::sums::mixed_bytes;
-use index_entries::check_index;
-use index_entries::make_index;
+use table_entries::check_index;
+use table_entries::make_index;
 
 // Bytes of a row, of the longest index, and of one that stands there twice.
 pub const ROW: usize = 32;

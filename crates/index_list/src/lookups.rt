@@ -6,8 +6,8 @@ use crate::indexes::part;
 use crate::indexes::row_at;
 use crate::sums::BEGIN;
 use crate::sums::mixed_found;
-use index_entries::look_up;
-use index_entries::look_up_indexed;
+use table_entries::look_up;
+use table_entries::look_up_indexed;
 
 // Where a row's name begins, behind its size.
 const NAME: usize = 1;

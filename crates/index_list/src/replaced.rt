@@ -8,7 +8,7 @@ use crate::sums::BEGIN;
 use crate::sums::mixed;
 use crate::sums::mixed_answer;
 use crate::sums::mixed_bytes;
-use index_entries::replace_row;
+use table_entries::replace_row;
 
 // One row replaced: what is handed back, the index then, and the index of the table then.
 fn replace_one(

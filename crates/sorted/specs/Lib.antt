@@ -8,3 +8,4 @@ pub mod Making
 pub mod Replacing
 pub mod PuttingRows
 pub mod Allowed
+pub mod Indexed

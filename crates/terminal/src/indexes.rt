@@ -9,14 +9,14 @@ use c_words::length_of;
 use c_words::put_answer;
 use c_words::put_found;
 use c_words::put_total;
-use index_entries::check_index;
-use index_entries::look_up;
-use index_entries::look_up_indexed;
-use index_entries::make_index;
 use index_entries::read_part_indexed;
 use index_entries::read_total_indexed;
-use index_entries::replace_row;
 use index_entries::shifted_total_indexed;
+use table_entries::check_index;
+use table_entries::look_up;
+use table_entries::look_up_indexed;
+use table_entries::make_index;
+use table_entries::replace_row;
 
 #[no_mangle]
 pub extern "C" fn herovinga_read_part_indexed<'a>(

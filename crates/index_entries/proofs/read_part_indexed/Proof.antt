@@ -4,7 +4,8 @@ use borrow.Author.Needs.{needs}
 use Rattle.rules.specs.NumbersHandedBack.{got}
 use Rattle.settings.specs.Outcomes.{outcome}
 use Rattle.index.specs.TheSortedIndex.{Indexed, indexed-of, indexed-check}
-use Rattle.index_entries.specs.Answers.{card-good, both-beside, part-refused, part-passed}
+use Rattle.sorted.specs.Indexed.{card-good, both-beside}
+use Rattle.index_entries.specs.Answers.{part-refused, part-passed}
 use Rattle.index_entries.proofs.read_part_indexed.Statement.{statement}
 use Rattle.index_entries.proofs.read_part_indexed.Tie as tie
 

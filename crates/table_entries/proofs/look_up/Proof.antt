@@ -1,13 +1,13 @@
--- `index_entries::look_up` meets its contract: 7, and then both searches. Assumes nothing.
+-- `table_entries::look_up` meets its contract: 7, and then both searches. Assumes nothing.
 use mathlib.Core.Path.{_≡_, sym, ap, _∙_}
 use borrow.Author.Needs.{needs}
 use Rattle.rules.specs.NumbersHandedBack.{got}
 use Rattle.rules.specs.SettingsAndUnitTable.{Card, card-check}
 use Rattle.settings.specs.Outcomes.{outcome}
 use Rattle.index.specs.TheSortedIndex.{units-of}
-use Rattle.index_entries.specs.Lookups.{rows-searchable, lookup-refused, lookup-passed}
-use Rattle.index_entries.proofs.look_up.Statement.{statement}
-use Rattle.index_entries.proofs.look_up.Tie as tie
+use Rattle.table_entries.specs.Lookups.{rows-searchable, lookup-refused, lookup-passed}
+use Rattle.table_entries.proofs.look_up.Statement.{statement}
+use Rattle.table_entries.proofs.look_up.Tie as tie
 
 abbrev card : tie.Start → Card
 card c = units-of (c .args .settings .now) (c .args .hall .now) (c .args .line .now)

@@ -1,4 +1,4 @@
--- Laws of what is handed back and left behind when an index is made and when a row is replaced. Assumes nothing.
+-- Laws of what is handed back and left behind when an index is made, checked, and changed with a row. Assumes nothing.
 use mathlib.Core.Path.{_≡_, ap, _∙_}
 use mathlib.Core.List.{List}
 use Prim.Native.Nat.{ℕ, _≤_, _<_}
@@ -6,13 +6,35 @@ use lib.ListN.{length}
 use Rattle.rules.specs.declared.Settings.{Settings}
 use Rattle.rules.specs.declared.Refusal.{Refusal}
 use Rattle.rules.specs.ThePartOfTheCrateWeTake.{zero-length}
-use Rattle.rules.specs.NumbersHandedBack.{got, refused, done, refusal, answered}
+use Rattle.rules.specs.NumbersHandedBack.{Outcome, got, refused, done, refusal, answered}
 use Rattle.rules.specs.SettingsAndUnitTable.{most-rows, row-size, rows}
-use Rattle.index.specs.TheSortedIndex.{index-of, rows-answer, lent-after, making, make-answer, made-index, with-row, replacing, replace-answer, replaced-table, replaced-index}
+use Rattle.index.specs.TheSortedIndex.{index-of, rows-answer, lent-after, checking, check-answer, making, make-answer, made-index, with-row, replacing, replace-answer, replaced-table, replaced-index}
 use Rattle.index.specs.Laws.Right.{Own, Right}
 use Rattle.sorted.specs.Checks.{table-few}
 use Rattle.sorted.specs.Replacing.{with-rows}
 use Rattle.sorted.specs.Allowed.{table-own, making-holds, replacing-holds}
+
+-- ---- one table by itself: an answer is the refusal, or ends at the number of rows
+
+module _ (table : List ℕ) {m : Outcome (Unit {0})} where
+  pub rows-refused : {cause : Refusal} → m ≡ refused cause → refusal cause ≡ rows-answer table m
+  unfolding rows-answer answered
+  rows-refused e = rw e
+
+  pub rows-passed : m ≡ got tt → done (rows table) zero-length ≡ rows-answer table m
+  unfolding rows-answer answered
+  rows-passed e = rw e
+
+module _ (s : Settings) (table index : List ℕ) where
+  pub check-refused : {cause : Refusal} → checking s table index ≡ refused cause → refusal cause ≡ check-answer s table index
+  unfolding check-answer
+  check-refused e = rows-refused table e
+
+  pub check-passed : checking s table index ≡ got tt → done (rows table) zero-length ≡ check-answer s table index
+  unfolding check-answer
+  check-passed e = rows-passed table e
+
+-- ---- made, and changed with a row
 
 module _ (s : Settings) (table index : List ℕ) where
   pub make-refused : {cause : Refusal} → making s table index ≡ refused cause → (refusal cause ≡ make-answer s table index) × (index ≡ made-index s table index)

@@ -1,9 +1,9 @@
--- `index_entries::not_looked_up` meets its contract: number and position of the cause, and zeros. Assumes nothing.
+-- `table_entries::not_looked_up` meets its contract: number and position of the cause, and zeros. Assumes nothing.
 use borrow.Author.Needs.{needs}
 use Rattle.rules.specs.NumbersHandedBack.{refusal}
 use Rattle.index.specs.TheSortedIndex.{looked-up}
-use Rattle.index_entries.proofs.not_looked_up.Statement.{statement}
-use Rattle.index_entries.proofs.not_looked_up.Tie as tie
+use Rattle.table_entries.proofs.not_looked_up.Statement.{statement}
+use Rattle.table_entries.proofs.not_looked_up.Tie as tie
 
 returns : tie.Need-returns
 unfolding looked-up refusal

@@ -1,10 +1,10 @@
--- `index_entries::check_index` meets its contract: 7 and 23, and then the number of rows. Assumes nothing.
+-- `table_entries::check_index` meets its contract: 7 and 23, and then the number of rows. Assumes nothing.
 use mathlib.Core.Path.{sym, ap, _∙_}
 use borrow.Author.Needs.{needs}
 use Rattle.settings.specs.Outcomes.{outcome}
-use Rattle.index_entries.specs.Answers.{check-refused, check-passed}
-use Rattle.index_entries.proofs.check_index.Statement.{statement}
-use Rattle.index_entries.proofs.check_index.Tie as tie
+use Rattle.table_entries.specs.Changes.{check-refused, check-passed}
+use Rattle.table_entries.proofs.check_index.Statement.{statement}
+use Rattle.table_entries.proofs.check_index.Tie as tie
 
 returns : tie.Need-returns
 unfolding outcome

@@ -15,7 +15,7 @@ use Rattle.index.specs.TheSortedIndex.{row-search, row-search-from, index-searc
 use Rattle.index.specs.Laws.Right.{Right}
 use Rattle.lookup.specs.Searching.{Searchable, searched}
 use Rattle.lookup.specs.Laws.BothTables.{compared-line, compared-both}
-use Rattle.index_entries.specs.Answers.{card-good, hall-right, line-right}
+use Rattle.sorted.specs.Indexed.{card-good, hall-right, line-right}
 
 -- what a lookup that was made hands back
 abbrev pub held-at : ℕ → ℕ → ℕ → LookedUp

@@ -1,4 +1,4 @@
--- `index_entries::replace_row` meets its contract: what stands before it, and then both the table and the index. Assumes nothing.
+-- `table_entries::replace_row` meets its contract: what stands before it, and then both the table and the index. Assumes nothing.
 use mathlib.Core.Path.{_≡_, sym, ap, _∙_}
 use borrow.Author.Needs.{needs}
 use Rattle.rules.specs.ThePartOfTheCrateWeTake.{zero-length}
@@ -7,9 +7,9 @@ use Rattle.rules.specs.SettingsAndUnitTable.{rows}
 use Rattle.rules.specs.SettingsAsWords.{settings-of}
 use Rattle.settings.specs.Outcomes.{outcome}
 use Rattle.index.specs.TheSortedIndex.{replacing}
-use Rattle.index_entries.specs.Changes.{replace-kept, replace-asks, replaced}
-use Rattle.index_entries.proofs.replace_row.Statement.{statement}
-use Rattle.index_entries.proofs.replace_row.Tie as tie
+use Rattle.table_entries.specs.Changes.{replace-kept, replace-asks, replaced}
+use Rattle.table_entries.proofs.replace_row.Statement.{statement}
+use Rattle.table_entries.proofs.replace_row.Tie as tie
 
 -- nothing stands before it
 allowed :

@@ -1,13 +1,13 @@
--- `index_entries::look_up_indexed` meets its contract: 7 and 23, and then both searches. Assumes nothing.
+-- `table_entries::look_up_indexed` meets its contract: 7 and 23, and then both searches. Assumes nothing.
 use mathlib.Core.Path.{_≡_, sym, ap, _∙_}
 use borrow.Author.Needs.{needs}
 use mathlib.Core.List.{[]}
 use Rattle.rules.specs.NumbersHandedBack.{got}
 use Rattle.settings.specs.Outcomes.{outcome}
 use Rattle.index.specs.TheSortedIndex.{Indexed, indexed-of, indexed-check}
-use Rattle.index_entries.specs.Lookups.{both-searchable, indexed-lookup-refused, indexed-lookup-passed}
-use Rattle.index_entries.proofs.look_up_indexed.Statement.{statement}
-use Rattle.index_entries.proofs.look_up_indexed.Tie as tie
+use Rattle.table_entries.specs.Lookups.{both-searchable, indexed-lookup-refused, indexed-lookup-passed}
+use Rattle.table_entries.proofs.look_up_indexed.Statement.{statement}
+use Rattle.table_entries.proofs.look_up_indexed.Tie as tie
 
 abbrev card : tie.Start → Indexed
 card c = indexed-of (c .args .settings .now) (c .args .hall .now) (c .args .hall-index .now) (c .args .line .now) (c .args .line-index .now) []

@@ -1,10 +1,10 @@
--- `index_entries::rows_done` meets its contract. Assumes nothing.
+-- `table_entries::rows_done` meets its contract. Assumes nothing.
 use mathlib.Core.Path.{ap, _∙_}
 use borrow.Author.Needs.{needs}
 use Rattle.rules.specs.NumbersHandedBack.{done}
 use Rattle.rules.specs.SettingsAndUnitTable.{rows}
-use Rattle.index_entries.proofs.rows_done.Statement.{statement}
-use Rattle.index_entries.proofs.rows_done.Tie as tie
+use Rattle.table_entries.proofs.rows_done.Statement.{statement}
+use Rattle.table_entries.proofs.rows_done.Tie as tie
 
 returns : tie.Need-returns
 unfolding rows

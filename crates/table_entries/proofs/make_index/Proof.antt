@@ -1,13 +1,13 @@
--- `index_entries::make_index` meets its contract: what stands before it, and then the index. Assumes nothing.
+-- `table_entries::make_index` meets its contract: what stands before it, and then the index. Assumes nothing.
 use mathlib.Core.Path.{_≡_, sym, ap, _∙_}
 use borrow.Author.Needs.{needs}
 use Rattle.rules.specs.NumbersHandedBack.{got, refused}
 use Rattle.rules.specs.SettingsAsWords.{settings-of}
 use Rattle.settings.specs.Outcomes.{outcome}
 use Rattle.index.specs.TheSortedIndex.{making}
-use Rattle.index_entries.specs.Changes.{make-refused, made, make-asks}
-use Rattle.index_entries.proofs.make_index.Statement.{statement}
-use Rattle.index_entries.proofs.make_index.Tie as tie
+use Rattle.table_entries.specs.Changes.{make-refused, made, make-asks}
+use Rattle.table_entries.proofs.make_index.Statement.{statement}
+use Rattle.table_entries.proofs.make_index.Tie as tie
 
 -- nothing stands before it
 allowed :
