@@ -45,6 +45,10 @@ pub rows-few : (table : List ℕ) {n : ℕ} → n ≤ rows table → row-size * 
 unfolding rows
 rows-few table h = omega arith
 
+-- so that the counts of two searches can be added
+pub searched-few : (table index wanted : List ℕ) {s : Searched} → s ≡ searched table index wanted → row-size * s .compared ≤ length table
+searched-few table index wanted e = omega (arith, rows-few table (searched-most table index wanted), ap (λ (s : Searched). s .compared) e)
+
 -- the hall's row, where the line's table has none
 pub hall-row :
     (hall line wanted : List ℕ) {f : Found} → lookup line wanted ≡ Nowhere → lookup hall wanted ≡ f → found-row hall f ≡ find-row hall line wanted

@@ -1,6 +1,6 @@
 -- A search on its way: so many names have been compared, and what is left decides. Row by row, and through an index. Assumes nothing.
 use mathlib.Core.Path.{_≡_, refl, sym, ap, _∙_}
-use mathlib.Core.Bool.{true, false}
+use mathlib.Core.Bool.{Bool, true, false}
 use mathlib.Core.List.{List}
 use Prim.Native.Nat.{ℕ, suc, _+_, _*_, _-_, _/_, _≤_, _<_}
 use native.Mathlib.Nat.{sub-zero, zero-add}
@@ -10,8 +10,8 @@ use lib.ListN.{length, take, drop, length-drop}
 use lib.Seq.{drop-drop, take-all}
 use Rattle.rules.specs.declared.Found.the-variants.{Row, Nowhere}
 use Rattle.rules.specs.Common.{if_then_else_, same}
-use Rattle.rules.specs.SettingsAndUnitTable.{row-size, rows, row, name}
-use Rattle.rows.specs.Named.{found-row, row-named}
+use Rattle.rules.specs.SettingsAndUnitTable.{row-size, name-room, rows, row, name-size, name}
+use Rattle.rows.specs.Named.{Sized, found-row, row-named}
 use Rattle.rows.specs.Laws.Rows.{length-row}
 use Rattle.index.specs.declared.Searched.{Searched}
 use Rattle.index.specs.declared.Order.the-variants.{Before, Same, After}
@@ -69,11 +69,19 @@ module _ {table wanted : List ℕ} {at : ℕ} {rest : List ℕ} (w : Walking tab
     left : rows table - at ≡ suc (rows table - (at + 1))
     left = omega (arith, walk-below)
 
-    pub walk-finds : same (name (row table at)) wanted ≡ true → record { found = Row at; compared = at + 1 } ≡ row-search table wanted
-    unfolding row-search-from if_then_else_
-    walk-finds e = rw (left, e) at (w .decides)
+    -- what is asked of it is whether it has the name
+    walk-asks : {b : Bool} → same (name (take row-size rest)) wanted ≡ b → same (name (row table at)) wanted ≡ b
+    walk-asks e = ap (λ r. same (name r) wanted) (sym walk-row) ∙ e
 
-    pub walk-goes-on : same (name (row table at)) wanted ≡ false → Walking table wanted (at + 1) (take (length rest - row-size) (drop row-size rest))
+    -- which it may be asked: it is a row, and has room for its name
+    pub walk-sized : Sized table → (length (take row-size rest) ≡ row-size) × (name-size (take row-size rest) ≤ name-room)
+    walk-sized sizes = (walk-long, rw walk-row (sizes at walk-below))
+
+    pub walk-finds : same (name (take row-size rest)) wanted ≡ true → record { found = Row at; compared = at + 1 } ≡ row-search table wanted
+    unfolding row-search-from if_then_else_
+    walk-finds e = rw (left, walk-asks e) at (w .decides)
+
+    pub walk-goes-on : same (name (take row-size rest)) wanted ≡ false → Walking table wanted (at + 1) (take (length rest - row-size) (drop row-size rest))
     unfolding row-search-from if_then_else_
     walk-goes-on e =
         let places : row-size * (at + 1) ≡ row-size * at + row-size = omega arith in
@@ -85,7 +93,7 @@ module _ {table wanted : List ℕ} {at : ℕ} {rest : List ℕ} (w : Walking tab
               ∙ ap (drop row-size) (w .further)
               ∙ drop-drop row-size (row-size * at) table
               ∙ ap (λ n. drop n table) (sym places);
-          decides = counted (passed (at + 1) more) (omega arith) ∙ rw (left, e, ← (add-one at)) at (w .decides);
+          decides = counted (passed (at + 1) more) (omega arith) ∙ rw (left, walk-asks e, ← (add-one at)) at (w .decides);
         }
 
 -- the row that a search found, as a part of its table

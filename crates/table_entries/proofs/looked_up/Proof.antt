@@ -6,7 +6,7 @@ use borrow.Author.Needs.{needs}
 use Rattle.rules.specs.declared.Found.the-variants.{Nowhere}
 use Rattle.index.specs.declared.Searched.{Searched}
 use Rattle.lookup.specs.Searching.{searched}
-use Rattle.lookup.specs.Laws.BothTables.{searched-most, rows-few}
+use Rattle.lookup.specs.Laws.BothTables.{searched-few}
 use Rattle.table_entries.specs.Lookups.{held-at, held-by-line, held-by-hall, held-by-neither}
 use Rattle.table_entries.proofs.looked_up.Statement.{statement}
 use Rattle.table_entries.proofs.looked_up.Tie as tie
@@ -34,15 +34,12 @@ add-compared : tie.Need-add-compared
 add-compared c =
     let at-hall = c .before .before in
     let start = at-hall .before .before .before .before .before .before .before .before .before in
-    let args = start .args in
     omega (
       arith,
       start .good .0,
       start .good .1 .1 .0,
-      ap (λ (s : Searched). s .compared) (at-hall .before .before .before .search .ensures),
-      ap (λ (s : Searched). s .compared) (at-hall .search2 .ensures),
-      rows-few _ (searched-most (args .line .now) (args .line-index .now) (args .name .now)),
-      rows-few _ (searched-most (args .hall .now) (args .hall-index .now) (args .name .now)),
+      searched-few _ _ _ (at-hall .before .before .before .search .ensures),
+      searched-few _ _ _ (at-hall .search2 .ensures),
     )
 
 returns : tie.Need-returns

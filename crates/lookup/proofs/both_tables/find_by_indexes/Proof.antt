@@ -10,7 +10,7 @@ use Rattle.rows.specs.Laws.Lookup.{lookup-found, line-wins}
 use Rattle.index.specs.declared.Searched.{Searched}
 use Rattle.index.specs.TheSortedIndex.{compared-in-both}
 use Rattle.lookup.specs.Searching.{searched}
-use Rattle.lookup.specs.Laws.BothTables.{searched-finds, searched-most, rows-few, hall-row, compared-line, compared-both}
+use Rattle.lookup.specs.Laws.BothTables.{searched-finds, searched-few, hall-row, compared-line, compared-both}
 use Rattle.lookup.proofs.both_tables.find_by_indexes.Statement.{statement}
 use Rattle.lookup.proofs.both_tables.find_by_indexes.Tie as tie
 
@@ -53,15 +53,12 @@ add-compared : tie.Need-add-compared
 add-compared c =
     let at-hall = c .before .before in
     let start = at-hall .before .before .before .before .before .before .before .before .before in
-    let args = start .args in
     omega (
       arith,
       start .good .0,
       start .good .1 .1 .0,
-      ap (λ (s : Searched). s .compared) (at-hall .before .before .before .search .ensures),
-      ap (λ (s : Searched). s .compared) (at-hall .search2 .ensures),
-      rows-few _ (searched-most (args .line .now) (args .line-index .now) (args .name .now)),
-      rows-few _ (searched-most (args .hall .now) (args .hall-index .now) (args .name .now)),
+      searched-few _ _ _ (at-hall .before .before .before .search .ensures),
+      searched-few _ _ _ (at-hall .search2 .ensures),
     )
 
 row-at-requires-2 : tie.Need-row-at-requires-2

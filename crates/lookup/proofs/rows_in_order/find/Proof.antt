@@ -1,10 +1,9 @@
 -- `lookup::rows_in_order::find` meets its contract: the rows that are left decide, and their number is the measure. Assumes nothing.
-use mathlib.Core.Path.{_≡_, sym, ap, _∙_}
+use mathlib.Core.Path.{sym, _∙_}
 use Prim.Native.Nat.{_-_}
 use native.Mathlib.Omega.{arith}
-use Rattle.rules.specs.Common.{same}
-use Rattle.rules.specs.SettingsAndUnitTable.{rows, row, name}
-use Rattle.lookup.specs.Laws.Walks.{Walking, walk-starts, walk-ends, walk-below, walk-row, walk-long, walk-finds, walk-goes-on, walk-fits}
+use Rattle.rules.specs.SettingsAndUnitTable.{rows}
+use Rattle.lookup.specs.Laws.Walks.{Walking, walk-starts, walk-ends, walk-below, walk-long, walk-sized, walk-finds, walk-goes-on, walk-fits}
 use Rattle.lookup.proofs.rows_in_order.find.Statement.{statement}
 use Rattle.lookup.proofs.rows_in_order.find.Tie as tie
 
@@ -14,32 +13,18 @@ Inv-loop table wanted at₀ rest₀ at rest = Walking table wanted at rest
 abbrev μ-loop : tie.MeasureT-loop
 μ-loop table wanted at₀ rest₀ at rest = rows table - at
 
--- what was asked is whether the row has the name
-asked :
-    (c : tie.After-has-name Inv-loop μ-loop)
-    → let inside = c .before .before in
-    let args = inside .before .before .before .before .args in
-    c .has-name .result ≡ same (name (row (args .table .now) (inside .before .loop .at))) (args .wanted .now)
-asked c =
-    let inside = c .before .before in
-    c .has-name .ensures ∙ ap (λ r. same (name r) (inside .before .before .before .before .args .wanted .now)) (walk-row (inside .before .loop .inv) (inside .loop-test .taken))
-
 has-name-requires : tie.Need-has-name-requires Inv-loop μ-loop
-has-name-requires c κs =
-    let inside = c .before in
-    let w = inside .before .loop .inv in
-    let more = inside .loop-test .taken in
-    (walk-long w more, rw (walk-row w more) (inside .before .before .before .before .pre _ (walk-below w more)))
+has-name-requires c κs = let inside = c .before in walk-sized (inside .before .loop .inv) (inside .loop-test .taken) (inside .before .before .before .before .pre)
 
 returns : tie.Need-returns Inv-loop μ-loop
 returns c =
     let inside = c .before .before .before in
-    walk-finds (inside .before .loop .inv) (inside .loop-test .taken) (sym (asked (c .before)) ∙ c .if1 .taken)
+    walk-finds (inside .before .loop .inv) (inside .loop-test .taken) (sym (c .before .has-name .ensures) ∙ c .if1 .taken)
 
 loop-again : tie.Need-loop-again Inv-loop μ-loop
 loop-again c =
     let inside = c .before .before .before .before in
-    walk-goes-on (inside .before .loop .inv) (inside .loop-test .taken) (sym (asked (c .before .before)) ∙ c .before .if1 .left)
+    walk-goes-on (inside .before .loop .inv) (inside .loop-test .taken) (sym (c .before .before .has-name .ensures) ∙ c .before .if1 .left)
 
 pub find-spec : {M : Type 1} → statement M
 find-spec =

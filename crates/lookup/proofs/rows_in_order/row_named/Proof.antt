@@ -1,12 +1,11 @@
 -- `lookup::rows_in_order::row_named` meets its contract: the rows that are left decide, and their number is the measure. Assumes nothing.
-use mathlib.Core.Path.{_≡_, refl, sym, ap, _∙_}
+use mathlib.Core.Path.{refl, sym, ap, _∙_}
 use Prim.Native.Nat.{_-_}
 use native.Mathlib.Omega.{arith}
-use Rattle.rules.specs.Common.{same}
-use Rattle.rules.specs.SettingsAndUnitTable.{rows, row, name}
+use Rattle.rules.specs.SettingsAndUnitTable.{rows}
 use Rattle.rows.specs.Named.{found-row}
 use Rattle.index.specs.declared.Searched.{Searched}
-use Rattle.lookup.specs.Laws.Walks.{named-found, Walking, walk-starts, walk-ends, walk-below, walk-row, walk-long, walk-finds, walk-goes-on, walk-fits}
+use Rattle.lookup.specs.Laws.Walks.{named-found, Walking, walk-starts, walk-ends, walk-below, walk-row, walk-long, walk-sized, walk-finds, walk-goes-on, walk-fits}
 use Rattle.lookup.proofs.rows_in_order.row_named.Statement.{statement}
 use Rattle.lookup.proofs.rows_in_order.row_named.Tie as tie
 
@@ -16,22 +15,8 @@ Inv-loop table wanted compared₀ at₀ rest₀ compared at rest = Walking table
 abbrev μ-loop : tie.MeasureT-loop
 μ-loop table wanted compared₀ at₀ rest₀ compared at rest = rows table - at
 
--- what was asked is whether the row has the name
-asked :
-    (c : tie.After-has-name Inv-loop μ-loop)
-    → let inside = c .before .before in
-    let args = inside .before .before .before .before .args in
-    c .has-name .result ≡ same (name (row (args .table .now) (inside .before .loop .at))) (args .wanted .now)
-asked c =
-    let inside = c .before .before in
-    c .has-name .ensures ∙ ap (λ r. same (name r) (inside .before .before .before .before .args .wanted .now)) (walk-row (inside .before .loop .inv) (inside .loop-test .taken))
-
 has-name-requires : tie.Need-has-name-requires Inv-loop μ-loop
-has-name-requires c κs =
-    let inside = c .before in
-    let w = inside .before .loop .inv in
-    let more = inside .loop-test .taken in
-    (walk-long w more, rw (walk-row w more) (inside .before .before .before .before .pre _ (walk-below w more)))
+has-name-requires c κs = let inside = c .before in walk-sized (inside .before .loop .inv) (inside .loop-test .taken) (inside .before .before .before .before .pre)
 
 returns : tie.Need-returns Inv-loop μ-loop
 unfolding found-row
@@ -39,13 +24,13 @@ returns c =
     let inside = c .before .before .before in
     let w = inside .before .loop .inv in
     let more = inside .loop-test .taken in
-    let found = walk-finds w more (sym (asked (c .before)) ∙ c .if1 .taken) in
+    let found = walk-finds w more (sym (c .before .has-name .ensures) ∙ c .if1 .taken) in
     (walk-row w more ∙ named-found _ _ found, ap (λ (s : Searched). s .compared) found)
 
 loop-again : tie.Need-loop-again Inv-loop μ-loop
 loop-again c =
     let inside = c .before .before .before .before in
-    walk-goes-on (inside .before .loop .inv) (inside .loop-test .taken) (sym (asked (c .before .before)) ∙ c .before .if1 .left)
+    walk-goes-on (inside .before .loop .inv) (inside .loop-test .taken) (sym (c .before .before .has-name .ensures) ∙ c .before .if1 .left)
 
 returns-2 : tie.Need-returns-2 Inv-loop μ-loop
 unfolding found-row
