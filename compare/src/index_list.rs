@@ -24,9 +24,6 @@ const ROOM: usize = 16_384;
 const BELOW: u64 = 4_294_967_291;
 const FACTOR: u64 = 65_599;
 
-/// How many pairs of entries are exchanged.
-const PAIRS: usize = 100;
-
 /// What keeps the program from dividing by no rows; no table has so many.
 const MORE_THAN_ROWS: usize = 128;
 
@@ -271,24 +268,17 @@ impl Tried {
         Ok(sum)
     }
 
-    /// With two entries exchanged. Where one of them lies behind the last, or both are
-    /// the same, nothing is.
+    /// With two entries exchanged, every two of them.
     fn exchange(&mut self, card: &Card) -> Result<Sum, String> {
         let right = plain_index::index_of(&card.hall);
-        let rows = right.len();
-        let span = rows % MORE_THAN_ROWS + 1;
         let mut sum = Sum::begin();
-        for pair in 0..PAIRS {
-            let (first, second) = (pair % span, (pair * 7 + 3) % span);
-            let mut index = right.clone();
-            let wanted = if first < rows && second < rows && first != second {
-                self.exchanged += 1;
+        for second in 0..right.len() {
+            for first in 0..second {
+                let mut index = right.clone();
                 index.swap(first, second);
-                (23, first.min(second))
-            } else {
-                (0, rows)
-            };
-            sum.answer(&checked(card, index, wanted)?);
+                self.exchanged += 1;
+                sum.answer(&checked(card, index, (23, first))?);
+            }
         }
         Ok(sum)
     }

@@ -12,9 +12,6 @@ pub const INDEX: usize = 64;
 
 pub const TWICE: usize = 128;
 
-// How many pairs of entries are exchanged, one at a time.
-const PAIRS: usize = 100;
-
 // So many bytes from a place on, or none where there are not so many.
 pub fn part(bytes: &[u8], at: usize, size: usize) -> &[u8] {
     if at <= bytes.len() {
@@ -85,16 +82,31 @@ fn check_exchanged(
     mixed_answer(sum, checked)
 }
 
-// Pairs of entries by a fixed rule. Where one of them lies behind the last entry, or both are the same, nothing is exchanged.
-fn exchange_pairs(settings: &[u64; 25], table: &[u8], index: &mut [u8]) -> u64 {
-    let span = index.len() % TWICE + 1;
-    let mut sum = BEGIN;
-    let mut pair = 0;
-    while pair < PAIRS {
-        let first = pair % span;
-        let second = (pair * 7 + 3) % span;
+// An entry exchanged with each one before it.
+fn exchange_with(
+    settings: &[u64; 25],
+    table: &[u8],
+    index: &mut [u8],
+    second: usize,
+    before: u64,
+) -> u64 {
+    let mut sum = before;
+    let mut first = 0;
+    while first < second {
         sum = check_exchanged(settings, table, index, first, second, sum);
-        pair += 1;
+        first += 1;
+    }
+    sum
+}
+
+// Every two entries, one pair after the other.
+fn exchange_pairs(settings: &[u64; 25], table: &[u8], index: &mut [u8]) -> u64 {
+    let count = index.len();
+    let mut sum = BEGIN;
+    let mut second = 0;
+    while second < count {
+        sum = exchange_with(settings, table, index, second, sum);
+        second += 1;
     }
     sum
 }

@@ -1,4 +1,4 @@
--- `index_list::indexes::exchange_pairs` is safe and ends: the index keeps its length, and each turn leaves fewer pairs. Assumes nothing.
+-- `index_list::indexes::exchange_pairs` is safe and ends: the index keeps its length, and each turn leaves fewer entries. Assumes nothing.
 use mathlib.Core.Path.{_≡_}
 use Prim.Native.Nat.{_-_}
 use borrow.Author.Needs.{needs}
@@ -7,10 +7,10 @@ use Rattle.index_list.proofs.indexes.exchange_pairs.Statement.{statemen
 use Rattle.index_list.proofs.indexes.exchange_pairs.Tie as tie
 
 abbrev Inv-loop : tie.InvT-loop
-Inv-loop settings table index₀ span sum₀ pair₀ index sum pair = length index ≡ length index₀
+Inv-loop settings table index₀ count sum₀ second₀ index sum second = length index ≡ length index₀
 
 abbrev μ-loop : tie.MeasureT-loop
-μ-loop settings table index₀ span sum₀ pair₀ index sum pair = 100 - pair
+μ-loop settings table index₀ count sum₀ second₀ index sum second = count - second
 
 pub exchange-pairs-spec : {M : Type 1} → statement M
 exchange-pairs-spec =
@@ -18,11 +18,6 @@ exchange-pairs-spec =
     (tie.spec
     Inv-loop
     μ-loop
-    (λ c. search needs)
-    (λ c. search needs)
-    (λ c. search needs)
-    (λ c. search needs)
-    (λ c. search needs)
     (λ c. search needs)
     (λ c κs. search needs)
     (λ c. search needs)
