@@ -3,7 +3,7 @@
  * Fourteen functions, over numbers and bytes: a part of a text, a text's total, a length written, a shift total added to, an ISO 8601 duration
  * read, and a length written as one; an index beside a unit table made, checked, and kept while a row is replaced; part, total and shift total
  * through such indexes; and a name looked up without them and through them. They keep nothing between calls, so any number of threads may call
- * them. The library is target/staticlib/libterminal.a (rt staticlib terminal), for Linux on x86-64; every function in it is proved to answer
+ * them. The library is target/staticlib/libherovinga.a (./library), for Linux on x86-64; every function in it is proved to answer
  * as document 01 and the requests that followed it say, whatever it is passed. Eight more stand here in C and only call those of the library
  * that read a text or look up a name: they take what it is read under as one card.
  *

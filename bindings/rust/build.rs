@@ -1,11 +1,11 @@
 //! Says where the port's library is: in the folder that the environment
-//! variable HEROVINGA_LIB names, or where `rt staticlib terminal` writes it.
+//! variable HEROVINGA_LIB names, or where `./library` writes it.
 
 use std::env;
 use std::path::{Path, PathBuf};
 use std::process::exit;
 
-const LIBRARY: &str = "libterminal.a";
+const LIBRARY: &str = "libherovinga.a";
 
 fn main() {
     println!("cargo:rerun-if-env-changed=HEROVINGA_LIB");
@@ -16,7 +16,7 @@ fn main() {
     println!("cargo:rerun-if-changed={}", folder.join(LIBRARY).display());
     if !folder.join(LIBRARY).is_file() {
         fail(&format!(
-            "there is no {LIBRARY} in {}: run `rt staticlib terminal`, or set HEROVINGA_LIB to its folder",
+            "there is no {LIBRARY} in {}: run `./library`, or set HEROVINGA_LIB to its folder",
             folder.display()
         ));
     }

@@ -75,7 +75,7 @@ impl Found {
     }
 }
 
-#[link(name = "terminal", kind = "static")]
+#[link(name = "herovinga", kind = "static")]
 unsafe extern "C" {
     fn herovinga_read_part(
         settings: *const u64,

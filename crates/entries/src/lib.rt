@@ -3,7 +3,6 @@
 ghost use mathlib.Core.Path.{_≡_};
 ghost use Rattle.rules.specs.SettingsAsWords.{card-of};
 ghost use Rattle.rules.specs.WhatEveryEntryOwes.{part-answer, total-answer, write-answer, written-buffer, shift-answer, shifted-record};
-ghost use Rattle.iso.specs.IsoTimings.{iso-answer, iso-write-answer, iso-written-buffer};
 use answers::refusal;
 use card::table::card_check;
 use reading::checked::read_part_checked;
@@ -96,19 +95,4 @@ pub fn add_total<'a>(
     let shifted = shifted_total(*total, settings, hall, line, numerals, text);
     *total = shifted.total;
     shifted.answer
-}
-
-// An ISO timing.
-pub fn read_iso(text: &[u8]) -> Answer
-    ensures { λ r. ⌜ r ≡ iso-answer (now (text .entry)) ⌝ }
-{
-    iso_reader::reader::read_iso(text)
-}
-
-// A length, written as an ISO timing at a place of a buffer.
-pub fn write_iso(length: Length, buffer: &mut [u8], place: usize) -> Answer
-    ensures { λ r. ⌜ r ≡ iso-write-answer length (now (buffer .entry)) place ⌝ }
-    ensures { λ r. ⌜ now (buffer .exit) ≡ iso-written-buffer length (now (buffer .entry)) place ⌝ }
-{
-    iso_writer::writer::write_iso(length, buffer, place)
 }

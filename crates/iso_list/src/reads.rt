@@ -1,5 +1,5 @@
 // The stored texts, each a line of hexadecimal digits (run and size) and the line of its bytes.
-use entries::read_iso;
+use iso_entries::read_iso;
 use lists::counts::COUNTS;
 use lists::counts::ENTRY;
 use lists::counts::count;

@@ -2,8 +2,8 @@
 // numbers of four bytes, the lowest first, as hexadecimal digits. Where no line follows the list, nothing is done; where one does, the list
 // has to end with a text for which there is no room.
 use crate::reads::put_next;
-use entries::read_iso;
-use entries::write_iso;
+use iso_entries::read_iso;
+use iso_entries::write_iso;
 use libc::STDOUT_FILENO;
 use lists::fields::further;
 use lists::fields::half_at;

@@ -1,8 +1,8 @@
 // Lengths written and read again, and the edges of a buffer.
 use crate::lengths::LENGTHS;
 use crate::lengths::nth;
-use entries::read_iso;
-use entries::write_iso;
+use iso_entries::read_iso;
+use iso_entries::write_iso;
 use libc::STDOUT_FILENO;
 use lists::counts::COUNTS;
 use lists::counts::DIFFERENCE;
