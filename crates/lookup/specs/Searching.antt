@@ -1,4 +1,4 @@
--- What a search asks of a table and the index beside it, and which search is made. Assumes nothing.
+-- What a search asks of a table and the index beside it, which search is made, and what a lookup hands back. Assumes nothing.
 use mathlib.Core.Path.{_≡_}
 use mathlib.Core.List.{List, [], _∷_}
 use mathlib.Core.Logic.{_⊎_}
@@ -6,6 +6,7 @@ use Prim.Native.Nat.{ℕ}
 use lib.ListN.{length}
 use Rattle.rows.specs.Named.{Sized}
 use Rattle.index.specs.declared.Searched.{Searched}
+use Rattle.index.specs.declared.LookedUp.{LookedUp}
 use Rattle.index.specs.TheSortedIndex.{row-search, index-search}
 use Rattle.index.specs.Laws.Right.{Right}
 
@@ -22,3 +23,7 @@ pub record Searchable (table index : List ℕ) : Type 0 where
 unfoldable pub searched : List ℕ → List ℕ → List ℕ → Searched
 searched table [] wanted = row-search table wanted
 searched table (k ∷ index) wanted = index-search table (k ∷ index) wanted
+
+-- what a lookup that was made hands back
+abbrev pub held-at : ℕ → ℕ → ℕ → LookedUp
+held-at table row compared = record { number = 0; position = 0; table = table; row = row; compared = compared }

@@ -1,18 +1,27 @@
 // Lookup over both unit tables: the line's rows win.
 ghost use mathlib.Core.Path.{_≡_};
+ghost use Rattle.rules.specs.NumbersHandedBack.{got};
 ghost use Rattle.rules.specs.SettingsAndUnitTable.{find-row};
 ghost use Rattle.rows.specs.Named.{Sized};
-ghost use Rattle.index.specs.TheSortedIndex.{row-search, compared-in-both};
-ghost use Rattle.lookup.specs.Searching.{Searchable, searched};
+ghost use Rattle.index.specs.TheSortedIndex.{row-search, compared-in-both, looked-up};
+ghost use Rattle.lookup.specs.Searching.{Searchable, searched, held-at};
 use crate::rows_in_order::find;
 use crate::rows_in_order::row_named;
 use crate::through_index::probe;
+use index::LookedUp;
 use index::Searched;
 use rows::fields::row_at;
 use rules::Found;
 
+// The table that holds a name, as a lookup numbers it.
+pub const NEITHER: u8 = 0;
+
+const HALLS_TABLE: u8 = 1;
+
+const LINES_TABLE: u8 = 2;
+
 // One table searched through the index beside it, or row by row where that is empty.
-pub fn search(table: &[u8], index: &[u8], wanted: &[u8]) -> Searched
+fn search(table: &[u8], index: &[u8], wanted: &[u8]) -> Searched
     requires { ⌜ Searchable (now table) (now index) ⌝ }
     ensures { λ r. ⌜ r ≡ searched (now (table .entry)) (now (index .entry)) (now (wanted .entry)) ⌝ }
 {
@@ -44,33 +53,41 @@ fn find_in_order<'a>(hall: &'a [u8], line: &'a [u8], name: &[u8], compared: &mut
     }
 }
 
-// Each table by its index, if it has one.
-fn find_by_indexes<'a>(
-    hall: &'a [u8],
+// A lookup that was made ends with 0, whether the name was found or not.
+fn held_at(table: u8, row: usize, compared: usize) -> LookedUp
+    ensures { λ r. ⌜ r ≡ held-at table row compared ⌝ }
+{
+    LookedUp {
+        number: 0,
+        position: 0,
+        table,
+        row,
+        compared,
+    }
+}
+
+// Both tables searched, each by its index if it has one: the hall's only where the line's has no such row.
+pub fn looked_up(
+    hall: &[u8],
     hall_index: &[u8],
-    line: &'a [u8],
+    line: &[u8],
     line_index: &[u8],
     name: &[u8],
-    compared: &mut usize,
-) -> &'a [u8]
+) -> LookedUp
     requires { ⌜ Searchable (now hall) (now «hall_index») × Searchable (now line) (now «line_index») ⌝ }
-    ensures { λ r. ⌜ now r ≡ find-row (now (hall .entry)) (now (line .entry)) (now (name .entry)) ⌝ }
-    ensures { λ r. ⌜ now (compared .exit) ≡ compared-in-both (searched (now (line .entry)) (now («line_index» .entry)) (now (name .entry))) (searched (now (hall .entry)) (now («hall_index» .entry)) (now (name .entry))) ⌝ }
+    ensures { λ r. ⌜ r ≡ looked-up (got tt) (searched (now (line .entry)) (now («line_index» .entry)) (now (name .entry))) (searched (now (hall .entry)) (now («hall_index» .entry)) (now (name .entry))) ⌝ }
 {
     let in_line = search(line, line_index, name);
-    let at = in_line.found;
-    match at {
-        Found::Row(i) => {
-            *compared = in_line.compared;
-            row_at(line, i)
-        }
+    let found = in_line.found;
+    match found {
+        Found::Row(i) => held_at(LINES_TABLE, i, in_line.compared),
         Found::Nowhere => {
             let in_hall = search(hall, hall_index, name);
-            *compared = in_line.compared + in_hall.compared;
+            let compared = in_line.compared + in_hall.compared;
             let behind = in_hall.found;
             match behind {
-                Found::Row(i) => row_at(hall, i),
-                Found::Nowhere => &hall[..0],
+                Found::Row(i) => held_at(HALLS_TABLE, i, compared),
+                Found::Nowhere => held_at(NEITHER, 0, compared),
             }
         }
     }
@@ -95,5 +112,13 @@ pub fn find_row<'a>(
             return find_in_order(hall, line, name, compared);
         }
     }
-    find_by_indexes(hall, hall_index, line, line_index, name, compared)
+    let held = looked_up(hall, hall_index, line, line_index, name);
+    *compared = held.compared;
+    if held.table == LINES_TABLE {
+        return row_at(line, held.row);
+    }
+    if held.table == HALLS_TABLE {
+        return row_at(hall, held.row);
+    }
+    &hall[..0]
 }

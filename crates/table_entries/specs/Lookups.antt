@@ -1,25 +1,16 @@
--- Laws of the lookups: what both searches come to, and which search an index that is empty or right leads to. Assumes nothing.
-use mathlib.Core.Path.{_≡_, refl, sym, ap, _∙_}
+-- Laws of the lookups: which search an index that is empty or right leads to, and what is handed back. Assumes nothing.
+use mathlib.Core.Path.{_≡_, refl, sym}
 use mathlib.Core.List.{List, [], _∷_}
 use mathlib.Core.Logic.{inl, inr}
-use Prim.Native.Nat.{ℕ, _+_}
+use Prim.Native.Nat.{ℕ}
 use Rattle.rules.specs.declared.Refusal.{Refusal}
-use Rattle.rules.specs.declared.Found.{Found}
-use Rattle.rules.specs.declared.Found.the-variants.{Row, Nowhere}
 use Rattle.rules.specs.NumbersHandedBack.{got, refused}
-use Rattle.rules.specs.SettingsAndUnitTable.{rows, Card, card-check, line-first}
+use Rattle.rules.specs.SettingsAndUnitTable.{rows, Card, card-check}
 use Rattle.card.specs.Laws.Accepted.{card-hall, card-line, row-sized}
-use Rattle.index.specs.declared.Searched.{Searched}
-use Rattle.index.specs.declared.LookedUp.{LookedUp}
-use Rattle.index.specs.TheSortedIndex.{row-search, row-search-from, index-search, index-search-from, compared-in-both, Indexed, indexed-check, found-in, looked-up, lookup-answer, indexed-lookup-answer}
+use Rattle.index.specs.TheSortedIndex.{row-search, row-search-from, index-search, index-search-from, Indexed, indexed-check, looked-up, lookup-answer, indexed-lookup-answer}
 use Rattle.index.specs.Laws.Right.{Right}
 use Rattle.lookup.specs.Searching.{Searchable, searched}
-use Rattle.lookup.specs.Laws.BothTables.{compared-line, compared-both}
 use Rattle.sorted.specs.Indexed.{card-good, hall-right, line-right}
-
--- what a lookup that was made hands back
-abbrev pub held-at : ℕ → ℕ → ℕ → LookedUp
-held-at table row compared = record { number = 0; position = 0; table = table; row = row; compared = compared }
 
 -- ---- which search is made
 
@@ -32,24 +23,6 @@ pub searched-right : (table index wanted : List ℕ) → Right table index → s
 unfolding searched
 searched-right table [] wanted right = none-compared table wanted (sym (right .long))
 searched-right table (k ∷ index) wanted right = refl
-
--- ---- both tables, by what is found in each
-
-module _ (in-line in-hall : Searched) where
-  pub held-by-line : {i : ℕ} → in-line .found ≡ Row i → held-at 2 i (in-line .compared) ≡ looked-up (got tt) in-line in-hall
-  unfolding looked-up found-in line-first
-  held-by-line e =
-      ap (held-at 2 _) (compared-line in-line in-hall e)
-      ∙ sym (ap (λ (f : Found). found-in (line-first f (in-hall .found)) (compared-in-both in-line in-hall)) e)
-
-  module _ (nowhere : in-line .found ≡ Nowhere) where
-    pub held-by-hall : {i : ℕ} → in-hall .found ≡ Row i → held-at 1 i (in-line .compared + in-hall .compared) ≡ looked-up (got tt) in-line in-hall
-    unfolding looked-up found-in line-first
-    held-by-hall e = rw (compared-both in-line in-hall nowhere, nowhere, e)
-
-    pub held-by-neither : in-hall .found ≡ Nowhere → held-at 0 0 (in-line .compared + in-hall .compared) ≡ looked-up (got tt) in-line in-hall
-    unfolding looked-up found-in line-first
-    held-by-neither e = rw (compared-both in-line in-hall nowhere, nowhere, e)
 
 -- ---- the lookups
 

@@ -3,22 +3,20 @@
 ghost use mathlib.Core.Path.{_≡_};
 ghost use mathlib.Core.List.{[]};
 ghost use Rattle.rules.specs.ThePartOfTheCrateWeTake.{zero-length};
-ghost use Rattle.rules.specs.NumbersHandedBack.{got, refused, done};
+ghost use Rattle.rules.specs.NumbersHandedBack.{refused, done};
 ghost use Rattle.rules.specs.SettingsAndUnitTable.{rows};
 ghost use Rattle.rules.specs.SettingsAsWords.{settings-of};
 ghost use Rattle.index.specs.declared.Searched.{Searched};
 ghost use Rattle.index.specs.TheSortedIndex.{indexed-of, make-answer, made-index, check-answer, replace-answer, replaced-table, replaced-index, looked-up, units-of, lookup-answer, indexed-lookup-answer};
-ghost use Rattle.lookup.specs.Searching.{Searchable, searched};
-ghost use Rattle.table_entries.specs.Lookups.{held-at};
 use answers::done;
 use answers::refusal;
 use card::table::card_check;
 use index::LookedUp;
 use lengths::duration::zero;
-use lookup::both_tables::search;
+use lookup::both_tables::NEITHER;
+use lookup::both_tables::looked_up;
 use rows::fields::ROW_SIZE;
 use rules::Answer;
-use rules::Found;
 use rules::Refusal;
 use settings::Checked;
 use sorted::allowed::may_make;
@@ -27,13 +25,6 @@ use sorted::checked::indexed_check;
 use sorted::checked::table_and_index_check;
 use sorted::made::make;
 use sorted::replaced::put_in;
-
-// The table that holds a name, as a lookup numbers it.
-const NEITHER: u8 = 0;
-
-const HALLS_TABLE: u8 = 1;
-
-const LINES_TABLE: u8 = 2;
 
 // What an entry over one table ends with: the number of its rows.
 pub fn rows_done(table: &[u8]) -> Answer
@@ -98,46 +89,6 @@ fn not_looked_up(cause: Refusal) -> LookedUp
         table: NEITHER,
         row: 0,
         compared: 0,
-    }
-}
-
-// A lookup that was made ends with 0, whether the name was found or not.
-fn held_at(table: u8, row: usize, compared: usize) -> LookedUp
-    ensures { λ r. ⌜ r ≡ held-at table row compared ⌝ }
-{
-    LookedUp {
-        number: 0,
-        position: 0,
-        table,
-        row,
-        compared,
-    }
-}
-
-// Both tables searched, each by its index if it has one: the hall's only where the line's has no such row.
-fn looked_up(
-    hall: &[u8],
-    hall_index: &[u8],
-    line: &[u8],
-    line_index: &[u8],
-    name: &[u8],
-) -> LookedUp
-    requires { ⌜ Searchable (now hall) (now «hall_index») × Searchable (now line) (now «line_index») ⌝ }
-    ensures { λ r. ⌜ r ≡ looked-up (got tt) (searched (now (line .entry)) (now («line_index» .entry)) (now (name .entry))) (searched (now (hall .entry)) (now («hall_index» .entry)) (now (name .entry))) ⌝ }
-{
-    let in_line = search(line, line_index, name);
-    let found = in_line.found;
-    match found {
-        Found::Row(i) => held_at(LINES_TABLE, i, in_line.compared),
-        Found::Nowhere => {
-            let in_hall = search(hall, hall_index, name);
-            let compared = in_line.compared + in_hall.compared;
-            let behind = in_hall.found;
-            match behind {
-                Found::Row(i) => held_at(HALLS_TABLE, i, compared),
-                Found::Nowhere => held_at(NEITHER, 0, compared),
-            }
-        }
     }
 }
 

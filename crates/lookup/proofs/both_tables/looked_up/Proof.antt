@@ -1,15 +1,14 @@
--- `table_entries::looked_up` meets its contract: the line's row if there is one, else the hall's, and the names of both counted. Assumes nothing.
+-- `lookup::both_tables::looked_up` meets its contract: the line's row if there is one, else the hall's, and the names of both counted. Assumes nothing.
 use mathlib.Core.Path.{_≡_, sym, ap, ap₂, _∙_}
 use Prim.Native.Nat.{_+_}
 use native.Mathlib.Omega.{arith}
 use borrow.Author.Needs.{needs}
 use Rattle.rules.specs.declared.Found.the-variants.{Nowhere}
 use Rattle.index.specs.declared.Searched.{Searched}
-use Rattle.lookup.specs.Searching.{searched}
-use Rattle.lookup.specs.Laws.BothTables.{searched-few}
-use Rattle.table_entries.specs.Lookups.{held-at, held-by-line, held-by-hall, held-by-neither}
-use Rattle.table_entries.proofs.looked_up.Statement.{statement}
-use Rattle.table_entries.proofs.looked_up.Tie as tie
+use Rattle.lookup.specs.Searching.{searched, held-at}
+use Rattle.lookup.specs.Laws.BothTables.{searched-few, held-by-line, held-by-hall, held-by-neither}
+use Rattle.lookup.proofs.both_tables.looked_up.Statement.{statement}
+use Rattle.lookup.proofs.both_tables.looked_up.Tie as tie
 
 -- what a search gave, in its parts
 abbrev of-line : tie.After-search → Searched
