@@ -73,6 +73,8 @@ fn number_and_position(cause: Refusal) -> Numbered
         Refusal::NotIso(place) => Numbered(12, place),
         Refusal::YearOrMonth(place) => Numbered(13, place),
         Refusal::TooLarge => Numbered(14, 0),
+        Refusal::NoStoredRow(line) => Numbered(24, line),
+        Refusal::NameTooLong(line) => Numbered(25, line),
     }
 }
 

@@ -1,7 +1,8 @@
 -- Parts of a row that the contracts name. Assumes nothing.
+use mathlib.Core.Path.{_≡_}
 use mathlib.Core.Bool.{Bool, true, false, not, _&&_}
 use mathlib.Core.List.{List}
-use Prim.Native.Nat.{ℕ}
+use Prim.Native.Nat.{ℕ, _<_}
 use lib.Dec.{eqb}
 use lib.ListN.{drop}
 use Rattle.rules.specs.declared.ByteSet.{ByteSet}
@@ -9,17 +10,15 @@ use Rattle.rules.specs.declared.Settings.{Settings}
 use Rattle.rules.specs.declared.Refusal.{Refusal}
 use Rattle.rules.specs.Common.{between, all}
 use Rattle.rules.specs.NumbersHandedBack.{Outcome, got, refused, _>>_, unless}
-use Rattle.rules.specs.SettingsAndUnitTable.{last-kind, second-kind, name-room, zeros-at, row, name-size, name, after-name, kind, product, in-range, led-by-e, row-formed, rows, whole-rows, rows-check}
+use Rattle.rules.specs.SettingsAndUnitTable.{LETTER, is, holds, last-kind, second-kind, zeros-at, row, name, kind, product, in-range, led-by-e, row-formed, rows, whole-rows, rows-check}
 use Rattle.settings.specs.Sets.{bytes-of, either, passes}
-use Rattle.card.specs.declared.table.Further.{Further}
-use Rattle.card.specs.declared.table.Further.the-variants.{Nothing, NotLedByE, AsciiSeconds}
-use Rattle.card.specs.declared.table.RowRule.{RowRule}
+use Rattle.settings.specs.declared.sets.AsciiSet.{AsciiSet}
+use Rattle.rows.specs.Named.{padded}
+use Rattle.card.specs.declared.row.Further.{Further}
+use Rattle.card.specs.declared.row.Further.the-variants.{Nothing, NotLedByE, AsciiSeconds}
+use Rattle.card.specs.declared.row.RowRule.{RowRule}
 use Rattle.card.specs.declared.table.RowsFound.{RowsFound}
 use Rattle.card.specs.declared.table.RowsFound.the-variants.{Good, WrongSize, Bad}
-
--- a name of 1 to 16 bytes, and zeros after it
-unfoldable pub padded : List ℕ → Bool
-padded r = between 1 name-room (name-size r) && all (eqb 0) (after-name r)
 
 -- ---- names
 
@@ -35,7 +34,19 @@ unnameable s = either (either (s .inner) (s .outer)) number-set
 unfoldable pub no-letters : ByteSet
 no-letters = record { word0 = 18446744073709551615; word1 = 17870283329861844993; word2 = 0; word3 = 0 }
 
+-- a set without letters
+abbrev pub Letterless : ByteSet → Type 0
+Letterless set = (b : ℕ) → b < 256 → is LETTER b ≡ true → holds set b ≡ false
+
 -- ---- what a rule asks of a row
+
+-- a name in its room that a set holds no byte of
+unfoldable pub name-right : AsciiSet → List ℕ → Bool
+name-right set r = padded r && all (passes (bytes-of set) false) (name r)
+
+-- the fields behind it
+unfoldable pub fields-right : List ℕ → Bool
+fields-right r = between 0 last-kind (kind r) && (all (eqb 0) (drop zeros-at r) && in-range (product r))
 
 -- after its form
 unfoldable pub asked-further : Further → List ℕ → Bool
@@ -45,11 +56,15 @@ asked-further AsciiSeconds r = eqb (kind r) second-kind && all (between 0 127) (
 
 -- all of it that a row has by itself
 unfoldable pub alone : RowRule → List ℕ → Bool
-alone rule r =
-    padded r
-    && (between 0 last-kind (kind r)
-    && (all (eqb 0) (drop zeros-at r)
-    && (all (passes (bytes-of (rule .set)) false) (name r) && (in-range (product r) && asked-further (rule .further) r))))
+alone rule r = name-right (rule .set) r && (fields-right r && asked-further (rule .further) r)
+
+-- a row as nearly all are: a name of letters in its room, and right fields. What is left is what is asked further
+abbrev pub Simple : List ℕ → Type 0
+Simple r = (padded r ≡ true) × (all (is LETTER) (name r) ≡ true) × (fields-right r ≡ true)
+
+-- each of the first rows of a table
+abbrev pub Each : (List ℕ → Type 0) → List ℕ → ℕ → Type 0
+Each Holds table n = (j : ℕ) → j < n → Holds (row table j)
 
 -- and no earlier row has its name
 unfoldable pub ruled : RowRule → List ℕ → ℕ → Bool

@@ -1,2 +1,3 @@
 // The card: settings and unit table, checked.
+pub mod row;
 pub mod table;

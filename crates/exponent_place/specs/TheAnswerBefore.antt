@@ -10,7 +10,7 @@ use lib.ListN.{length}
 use Rattle.rules.specs.declared.Answer.{Answer}
 use Rattle.rules.specs.declared.Length.{Length}
 use Rattle.rules.specs.declared.Refusal.{Refusal}
-use Rattle.rules.specs.declared.Refusal.the-variants.{Nothing, SignEnds, DelimiterEnds, FractionOff, FractionEmpty, ExponentOff, ExponentByte, ExponentEnds, ExponentAbove, ExponentBelow, InfinityByte, InfinityEnds, InfinityGoesOn, ConjunctionEnds, ConjunctionGoesOn, NegativeForbidden, NoNumber, NoUnit, OutOfRange, Delimiters, Conjunctions, DefaultKind, TableSize, BadRow, LineSize, BadLineRow, NumeralsSize, BadNumeral, WrongIndex, WrongLineIndex, TextTooLong, NoRoom, Beyond, Malformed, NotIso, YearOrMonth, TooLarge}
+use Rattle.rules.specs.declared.Refusal.the-variants.{Nothing, SignEnds, DelimiterEnds, FractionOff, FractionEmpty, ExponentOff, ExponentByte, ExponentEnds, ExponentAbove, ExponentBelow, InfinityByte, InfinityEnds, InfinityGoesOn, ConjunctionEnds, ConjunctionGoesOn, NegativeForbidden, NoNumber, NoUnit, OutOfRange, Delimiters, Conjunctions, DefaultKind, TableSize, BadRow, LineSize, BadLineRow, NumeralsSize, BadNumeral, WrongIndex, WrongLineIndex, TextTooLong, NoRoom, Beyond, Malformed, NotIso, YearOrMonth, TooLarge, NoStoredRow, NameTooLong}
 use Rattle.rules.specs.Common.{if_then_else_, ascii}
 use Rattle.rules.specs.ThePartOfTheCrateWeTake.{longest-text}
 use Rattle.rules.specs.NumbersHandedBack.{number, position, refusal}
@@ -64,6 +64,8 @@ position-before Malformed = 0
 position-before (NotIso p) = p
 position-before (YearOrMonth p) = p
 position-before TooLarge = 0
+position-before (NoStoredRow i) = i
+position-before (NameTooLong i) = i
 
 -- the numbers were as they are
 unfoldable pub before : Table
@@ -116,6 +118,8 @@ position-folded Malformed = refl
 position-folded (NotIso p) = refl
 position-folded (YearOrMonth p) = refl
 position-folded TooLarge = refl
+position-folded (NoStoredRow i) = refl
+position-folded (NameTooLong i) = refl
 
 -- of every refusal, and of nothing else
 folds : Folds before folded

@@ -27,12 +27,12 @@ use Rattle.rules.specs.Laws.Outcomes.{bind-got}
 use Rattle.rules.specs.Laws.Texts.{ends-le, sees-end}
 use Rattle.rules.specs.Laws.Apart.{none as no-length}
 use Rattle.rules.specs.Laws.Layout.{sees-of, run-over, stretch, goes-on, gap-none, exponent-none, connection-none}
-use Rattle.card.specs.Fields.{padded}
+use Rattle.rows.specs.Named.{padded}
 use Rattle.card.specs.Laws.Table.{right-padded, right-name}
 use Rattle.settings.specs.Laws.Accepted.{delimiter-class, inner-delimits}
 use Rattle.card.specs.Laws.Accepted.{own-name}
 use Rattle.rows.specs.Laws.Rows.{length-row}
-use Rattle.card.specs.Laws.Names.{name-some, size-most, name-bytes}
+use Rattle.rows.specs.Laws.Rooms.{name-some, size-most, name-bytes}
 use Rattle.findable.specs.TheTextForARow.{first-held, joint, text-for}
 use Rattle.findable.specs.WhereAPartFindsItsUnit.{unit-stands, number-unit, unsigned-unit, unit-of, counted, units, among, among-got, finds}
 use Rattle.findable.specs.OneOfTheTwoTables.{row-held, Whose, table-of, row-in, held-there, Unhidden, stands-there, holder-same}
@@ -320,13 +320,13 @@ module _ (card : Card) where
         typed-text good (name its-row) (name-some its-row long padded-row) (right-name s (table-of whose card) i right) typed (row-in whose i)
         (stands-there whose card (name its-row) i unhidden (own-name s (table-of whose card) i below right), ap length (held-there whose card i) ∙ long)
 
-    -- at most 19 bytes
-    pub text-short : length (text-for s (name its-row)) ≤ 19
+    -- at most 35 bytes
+    pub text-short : length (text-for s (name its-row)) ≤ 35
     unfolding text-for joint ascii
     text-short =
         let at-most = size-most its-row long padded-row in
-        if-either (λ l. suc (length (l ++ name its-row)) ≤ 19) (not (led-by-e (name its-row))) {x = []} {y = _}
+        if-either (λ l. suc (length (l ++ name its-row)) ≤ 35) (not (led-by-e (name its-row))) {x = []} {y = _}
         (λ _. omega (arith, at-most, name-bytes its-row long padded-row))
         (λ _.
-        if-either (λ l. suc (length (l ++ name its-row)) ≤ 19) (s .exponents) {x = 101 ∷ 48 ∷ []} {y = first-held (s .inner) 0 256 ∷ []}
+        if-either (λ l. suc (length (l ++ name its-row)) ≤ 35) (s .exponents) {x = 101 ∷ 48 ∷ []} {y = first-held (s .inner) 0 256 ∷ []}
         (λ _. omega (arith, at-most, name-bytes its-row long padded-row)) (λ _. omega (arith, at-most, name-bytes its-row long padded-row)))

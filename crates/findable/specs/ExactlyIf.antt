@@ -18,7 +18,7 @@ use Rattle.rules.specs.declared.Refusal.{Refusal}
 use Rattle.rules.specs.declared.Refusal.the-variants.{TableSize, BadRow, LineSize, BadLineRow, NumeralsSize, BadNumeral}
 use Rattle.rules.specs.ThePartOfTheCrateWeTake.{zero-length, longest-text}
 use Rattle.rules.specs.NumbersHandedBack.{_>>_, Outcome, got, refused, unless}
-use Rattle.rules.specs.SettingsAndUnitTable.{settings-check, most-rows, most-numerals, rows, row, name, can-be-typed, row-right, row-accepted, numeral-accepted, whole-rows, rows-check, units-check, table-check, line-check, numerals-check, Card, card-check, lookup, Holder, Hall}
+use Rattle.rules.specs.SettingsAndUnitTable.{settings-check, most-rows, most-numerals, rows, rows-in, row, name, can-be-typed, row-right, row-accepted, row-accepted-in, numeral-accepted, whole-rows, whole-rows-in, rows-check, units-check, units-check-in, table-check, line-check, numerals-check, numerals-check-in, Card, card-check, lookup, Holder, Hall}
 use Rattle.rules.specs.Evaluation.{total}
 use Rattle.rules.specs.WhatEveryEntryOwes.{read-total}
 use Rattle.rules.specs.Laws.Choices.{if-either, and-both}
@@ -120,7 +120,7 @@ module _ (numerals : List ℕ) where
   numeral-rows (suc n) i = refused-if (λ _. numeral-rows n (suc i)) (λ _. refused-by (numeral-of-none i))
 
   numerals-other : Refused OfNoRow (numerals-check numerals)
-  unfolding numerals-check unless
+  unfolding numerals-check-in unless
   numerals-other = refused-then (unless NumeralsSize (whole-rows most-numerals numerals)) (size (whole-rows most-numerals numerals)) (numeral-rows (rows numerals) 0)
     where
       size : (test : Bool) → Refused OfNoRow (unless NumeralsSize test)
@@ -137,14 +137,14 @@ module _ (card : Card) where
     abbrev table : List ℕ
     table = table-of whose card
 
-    -- an accepted row by `text-for`, which has at most 19 bytes, can be read and comes to zero, unless the line hides it
+    -- an accepted row by `text-for`, which has at most 35 bytes, can be read and comes to zero, unless the line hides it
     its-text :
         settings-check s ≡ got tt
         → (i : ℕ)
         → i < rows table
         → row-accepted s table i ≡ true
         → Unhidden whose card (name (row table i))
-        → (length (text-for s (name (row table i))) ≤ 19) × Reads card (row-in whose i) (text-for s (name (row table i)))
+        → (length (text-for s (name (row table i))) ≤ 35) × Reads card (row-in whose i) (text-for s (name (row table i)))
     its-text good i below accepted unhidden =
         let (right, typed) = row-both s table i accepted in
         (text-short card whose i below right, row-typed card whose i below right good typed unhidden)
@@ -163,7 +163,7 @@ module _ (card : Card) where
         → (i : ℕ)
         → i < rows table
         → Unhidden whose card (name (row table i))
-        → (length (text-for s (name (row table i))) ≤ 19)
+        → (length (text-for s (name (row table i))) ≤ 35)
         × (read-total card (text-for s (name (row table i))) ≡ got zero-length)
         × (finds card (text-for s (name (row table i))) (row-in whose i) ≡ true)
     unfolding read-total unless _>>_
@@ -177,7 +177,7 @@ module _ (card : Card) where
     abbrev pub Findable : ℕ → Type 0
     Findable i = (text : List ℕ) × (length text ≤ longest-text) × (l : Length) × (total card text ≡ got l) × (finds card text (row-in whose i) ≡ true)
 
-    -- 0 to 64 rows of 32 bytes
+    -- 0 to 64 rows of 48 bytes
     abbrev pub Sized : Type 0
     Sized = whole-rows most-rows table ≡ true
 
@@ -206,21 +206,21 @@ module _ (card : Card) where
 
   -- an empty table has nothing to refuse
   nothing-bad : (size : Refusal) (bad : ℕ → Refusal) → units-check size bad s [] ≡ got tt
-  unfolding units-check whole-rows rows rows-check unless _>>_
+  unfolding units-check-in whole-rows-in rows-in rows-check unless _>>_
   nothing-bad size bad = refl
 
   -- so of a table by itself the check comes to its rows, and then the numerals
   checked-alone :
       (whose : Whose) → Alone whose card → settings-check s ≡ got tt → Sized whose
       → card-check card ≡ (rows-check (row-accepted s (table whose)) (bad-row whose) 0 (rows (table whose)) >> numerals-check (card .numerals))
-  unfolding card-check table-check line-check units-check unless _>>_
+  unfolding card-check table-check line-check units-check-in unless _>>_
   checked-alone OfHall none good sized = rw (good, sized, none, nothing-bad LineSize BadLineRow)
   checked-alone OfLine none good sized = rw (good, none, nothing-bad TableSize BadRow, sized)
 
   module _ (whose : Whose) (alone : Alone whose card) where
     module _ (good : settings-check s ≡ got tt) (i : ℕ) (below : i < rows (table whose)) (right : row-right s (table whose) i ≡ true) where
       pub row-accepted-exactly : (row-accepted s (table whose) i ≡ true) ↔ Findable whose i
-      unfolding row-accepted
+      unfolding row-accepted-in
       row-accepted-exactly = (found, typed)
         where
           its-name : List ℕ

@@ -7,7 +7,7 @@ use lib.ListN.{length}
 use borrow.Author.Tests.{eq-eqb, eqb-true}
 use Rattle.rules.specs.declared.Found.{Found}
 use Rattle.rules.specs.declared.Found.the-variants.{Row, Nowhere}
-use Rattle.rules.specs.SettingsAndUnitTable.{row-size, rows, row, name, Card, lookup-from, lookup, Holder, Line, Hall, Neither, line-first, stands, held-row}
+use Rattle.rules.specs.SettingsAndUnitTable.{row-size, rows-in, row, name, Card, lookup-from-in, lookup, lookup-in, Holder, Line, Hall, Neither, line-first, stands, held-row}
 use Rattle.rows.specs.Laws.Rows.{length-row}
 use Rattle.rows.specs.Laws.Lookup.{lookup-found}
 use Rattle.findable.specs.WhereAPartFindsItsUnit.{same-holder}
@@ -53,7 +53,7 @@ Alone OfHall card = card .line ≡ []
 Alone OfLine card = card .hall ≡ []
 
 pub alone-unhidden : (whose : Whose) (card : Card) → Alone whose card → (wanted : List ℕ) → Unhidden whose card wanted
-unfolding lookup lookup-from rows
+unfolding lookup-in lookup-from-in rows-in
 alone-unhidden OfHall card empty wanted = rw empty
 alone-unhidden OfLine card empty wanted = tt
 

@@ -162,11 +162,11 @@ left-alone table index i new n p = replaces table index i new (refuses n p) tabl
 -- `s` becomes `apart`, the first; `block` becomes `zone`, the last; and `ms` keeps its name
 pub replaced-so :
     T (replaces table-A index-A 2 (row-of "apart" 3 1 0) (done 6 zero-length) (with-row table-A 2 (row-of "apart" 3 1 0)) (2 ∷ 5 ∷ 3 ∷ 1 ∷ 0 ∷ 4 ∷ []))
-    × T (replaces table-A index-A 5 (row-of "zone" 3 1 0) (done 6 zero-length) (take 160 table-A ++ row-of "zone" 3 1 0) (3 ∷ 1 ∷ 0 ∷ 2 ∷ 4 ∷ 5 ∷ []))
+    × T (replaces table-A index-A 5 (row-of "zone" 3 1 0) (done 6 zero-length) (take 240 table-A ++ row-of "zone" 3 1 0) (3 ∷ 1 ∷ 0 ∷ 2 ∷ 4 ∷ 5 ∷ []))
     × T (replaces table-A index-A 1 (row-of "ms" 2 2 0) (done 6 zero-length) (row-of "ns" 0 1 0 ++ row-of "ms" 2 2 0 ++ row-of "s" 3 1 0 ++ row-of "min" 4 1 0 ++ row-of "turn" 2 123 65535 ++ row-of "block" 3 10000000000 0) index-A)
     × T (left-alone table-A index-A 6 jaw 10 6 && left-alone [] [] 0 jaw 10 0 && left-alone table-A index-A 1000 [] 10 1000)
     × T (left-alone table-A index-A 0 (row-of "s" 3 1 0) 7 0 && left-alone table-A index-A 4 (row-of "s" 3 1 0) 7 4 && left-alone table-A index-A 3 (row-of "1" 3 1 0) 7 3)
-    × T (left-alone table-A index-A 0 (take 31 jaw) 7 0 && left-alone table-A index-A 5 (jaw ++ 0 ∷ []) 7 5 && left-alone table-A index-A 1 (jaw ++ row-of "y" 3 1 0) 7 1)
+    × T (left-alone table-A index-A 0 (take 47 jaw) 7 0 && left-alone table-A index-A 5 (jaw ++ 0 ∷ []) 7 5 && left-alone table-A index-A 1 (jaw ++ row-of "y" 3 1 0) 7 1)
     × T (left-alone table-A [] 6 jaw 23 6 && left-alone (jaw ++ jaw) [] 2 jaw 7 1)
 unfolding computing-index space conjunction settings settings-A row-of table-A jaw index-A same-length same-answer refuses replaces left-alone
 replaced-so = (tt, tt, tt, tt, tt, tt, tt)

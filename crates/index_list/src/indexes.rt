@@ -1,26 +1,17 @@
 // Indexes made, turned and with entries exchanged.
-use crate::sums::BEGIN;
-use crate::sums::mixed_answer;
-use crate::sums::mixed_bytes;
+use lists::lines::part;
+use lists::sums::BEGIN;
+use lists::sums::mixed_answer;
+use lists::sums::mixed_bytes;
 use table_entries::check_index;
 use table_entries::make_index;
 
 // Bytes of a row, of the longest index, and of one that stands there twice.
-pub const ROW: usize = 32;
+pub const ROW: usize = 48;
 
 pub const INDEX: usize = 64;
 
 pub const TWICE: usize = 128;
-
-// So many bytes from a place on, or none where there are not so many.
-pub fn part(bytes: &[u8], at: usize, size: usize) -> &[u8] {
-    if at <= bytes.len() {
-        if size <= bytes.len() - at {
-            return &bytes[at..at + size];
-        }
-    }
-    &bytes[..0]
-}
 
 // A row of a table by its number, or nothing where it has not so many.
 pub fn row_at(table: &[u8], number: usize) -> &[u8] {

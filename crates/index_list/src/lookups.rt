@@ -2,15 +2,22 @@
 ghost use Prim.Native.Nat.{_<_};
 use crate::indexes::INDEX;
 use crate::indexes::ROW;
-use crate::indexes::part;
 use crate::indexes::row_at;
-use crate::sums::BEGIN;
-use crate::sums::mixed_found;
+use index::LookedUp;
+use lists::lines::part;
+use lists::sums::BEGIN;
+use lists::sums::mixed;
 use table_entries::look_up;
 use table_entries::look_up_indexed;
 
 // Where a row's name begins, behind its size.
 const NAME: usize = 1;
+
+fn mixed_found(sum: u64, found: LookedUp) -> u64 {
+    let at = mixed(mixed(sum, found.number as u64), found.position as u64);
+    let row = mixed(mixed(at, found.table as u64), found.row as u64);
+    mixed(row, found.compared as u64)
+}
 
 fn look_up_name<'a>(
     settings: &[u64; 25],
@@ -28,7 +35,7 @@ fn look_up_name<'a>(
 
 // How many bytes the name of a row has, which are never as many as the row.
 fn name_size(size: u8) -> usize
-    ensures { λ r. ⌜ r < 32 ⌝ }
+    ensures { λ r. ⌜ r < 48 ⌝ }
 {
     size as usize % ROW
 }

@@ -6,7 +6,6 @@
 mod indexes;
 mod lookups;
 mod replaced;
-mod sums;
 
 use index_entries::read_total_indexed;
 use indexes::INDEX;
@@ -14,13 +13,13 @@ use indexes::ROW;
 use indexes::TWICE;
 use indexes::exchanged;
 use indexes::make_twice;
-use indexes::part;
 use indexes::turned;
 use libc::STDOUT_FILENO;
 use lists::cards::MOST_BYTES;
 use lists::cards::Next;
 use lists::cards::next_card;
 use lists::lines::first_bytes;
+use lists::lines::part;
 use lists::printed::print_answer;
 use lists::texts::ROOM;
 use lists::texts::TEXT;

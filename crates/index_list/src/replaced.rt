@@ -4,10 +4,10 @@ use crate::indexes::ROW;
 use crate::indexes::TWICE;
 use crate::indexes::make;
 use crate::indexes::row_at;
-use crate::sums::BEGIN;
-use crate::sums::mixed;
-use crate::sums::mixed_answer;
-use crate::sums::mixed_bytes;
+use lists::sums::BEGIN;
+use lists::sums::mixed;
+use lists::sums::mixed_answer;
+use lists::sums::mixed_bytes;
 use table_entries::replace_row;
 
 // One row replaced: what is handed back, the index then, and the index of the table then.

@@ -10,7 +10,7 @@ use Rattle.rules.specs.declared.Refusal.the-variants.{TableSize, BadRow}
 use Rattle.rules.specs.declared.Settings.{Settings}
 use Rattle.rules.specs.Common.{same}
 use Rattle.rules.specs.NumbersHandedBack.{got, _>>_, unless}
-use Rattle.rules.specs.SettingsAndUnitTable.{most-rows, rows, row, name, named, row-formed, row-right, row-accepted, whole-rows, rows-check, units-check, table-check, line-check, card-check}
+use Rattle.rules.specs.SettingsAndUnitTable.{most-rows, rows, rows-in, row, name, named, named-in, row-formed-in, row-right-in, row-accepted, row-accepted-in, whole-rows-in, rows-check, units-check-in, table-check, line-check, card-check}
 use Rattle.rules.specs.WhatEveryEntryOwes.{part-answer, total-answer, shift-answer, shifted-record}
 use Rattle.rules.specs.Laws.Choices.{if-either}
 use Rattle.rules.specs.Laws.Tests.{or-false}
@@ -31,7 +31,7 @@ module _ (s : Settings) where
   accepted-alike :
       (t u : List ℕ) (i j : ℕ) → row t i ≡ row u j → named t (name (row u j)) i ≡ named u (name (row u j)) j
       → row-accepted s t i ≡ row-accepted s u j
-  unfolding row-accepted row-right row-formed
+  unfolding row-accepted-in row-right-in row-formed-in
   accepted-alike t u i j rows names = rw (rows, names)
 
   -- a table behind another that has none of its names
@@ -56,7 +56,7 @@ module _ (s : Settings) where
 
     -- a row of it is accepted as a table
     row-alone : (i : ℕ) → i < rows hall → Each (row hall i)
-    unfolding named
+    unfolding named-in
     row-alone i below k first =
         let sized = length-row hall i below in
         let is-first : k ≡ 0 = omega (arith, one-row (row hall i) sized) in
@@ -66,7 +66,7 @@ module _ (s : Settings) where
     none-behind :
         (line : List ℕ) (n i : ℕ) → suc i + n ≤ rows hall
         → (j : ℕ) → j < rows (others hall line (suc i) n) → named (row hall i) (name (row (others hall line (suc i) n) j)) (rows (row hall i)) ≡ false
-    unfolding named
+    unfolding named-in
     none-behind line n i within j below =
         let kept = each-other hall line n (suc i) within j below in
         let sized = length-row hall i (omega arith) in
@@ -74,7 +74,7 @@ module _ (s : Settings) where
         (other-name i (kept .k) (omega (arith, kept .from)) (omega (arith, kept .to)))
 
     others-accepted : (line : List ℕ) (n i : ℕ) → i + n ≤ rows hall → Each (others hall line i n)
-    unfolding others rows
+    unfolding others rows-in
     others-accepted line zero i within = λ k below. absurd (omega arith)
     others-accepted line (suc n) i within =
         let r = row hall i in
@@ -98,7 +98,7 @@ module _ (s : Settings) where
 -- ---- the card, and the entries
 
 no-line : (s : Settings) → line-check s [] ≡ got tt
-unfolding line-check units-check whole-rows rows rows-check unless _>>_
+unfolding line-check units-check-in whole-rows-in rows-in rows-check unless _>>_
 no-line s = refl
 
 module _

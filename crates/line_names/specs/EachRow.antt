@@ -9,7 +9,7 @@ use native.Mathlib.Omega.{arith}
 use lib.ListN.{length, take, drop}
 use lib.Seq.{take-all, take-add, drop-drop}
 use Rattle.rules.specs.Common.{if_then_else_}
-use Rattle.rules.specs.SettingsAndUnitTable.{row-size, rows, row, name, named}
+use Rattle.rules.specs.SettingsAndUnitTable.{row-size, rows, rows-in, row, row-in, name, named, named-in}
 use Rattle.rules.specs.Laws.Choices.{if-either}
 use Rattle.rows.specs.Laws.Rows.{length-row}
 use Rattle.line_names.specs.TheMergedTable.{others, merged}
@@ -43,7 +43,7 @@ module _ (hall line : List ℕ) where
       (λ _. whole-both (row hall i) (others hall line (suc i) n) (row-whole (row hall i) (length-row hall i (omega arith))) more)
 
   pub each-other : (n i : ℕ) → i + n ≤ rows hall → (j : ℕ) → j < rows (others hall line i n) → Kept hall line i n (row (others hall line i n) j)
-  unfolding others rows
+  unfolding others rows-in
   each-other zero i within = λ j below. absurd (omega arith)
   each-other (suc n) i within =
       let r = row hall i in
@@ -74,7 +74,7 @@ module _ (hall line : List ℕ) (whole : Whole line) where
 
 -- a line without names has none of the hall's
 all-rows : (hall : List ℕ) (n i : ℕ) → others hall [] i n ≡ take (row-size * n) (drop (row-size * i) hall)
-unfolding others named rows row if_then_else_
+unfolding others named-in rows-in row-in if_then_else_
 all-rows hall zero i = refl
 all-rows hall (suc n) i =
     let first : row-size * suc n ≡ row-size + row-size * n = omega arith in
@@ -82,5 +82,5 @@ all-rows hall (suc n) i =
     rw (all-rows hall n (suc i), first, next, take-add row-size (row-size * n), drop-drop row-size (row-size * i))
 
 pub nothing-merged : (hall : List ℕ) → Whole hall → merged hall [] ≡ hall
-unfolding merged rows
+unfolding merged rows-in
 nothing-merged hall whole = all-rows hall (rows hall) 0 ∙ take-all (row-size * rows hall) hall (omega arith)

@@ -43,7 +43,7 @@ pub merged-tables :
     × T (comes-to (halls-turn ++ second) [] (halls-turn ++ second) && comes-to [] (jaw ++ lines-turn) (jaw ++ lines-turn) && comes-to [] [] [])
     × T (comes-to halls-turn lines-turn lines-turn && comes-to (halls-turn ++ halls-turn) lines-turn lines-turn)
     × T (comes-to (second ++ second) jaw (jaw ++ second ++ second))
-    × T (comes-to (second ++ 3 ∷ 106 ∷ []) jaw (jaw ++ second) && comes-to (blank 31) jaw jaw)
+    × T (comes-to (second ++ 3 ∷ 106 ∷ []) jaw (jaw ++ second) && comes-to (blank 47) jaw jaw)
 unfolding computing row-of jaw others merged halls-turn lines-turn second blank comes-to
 merged-tables = (tt, tt, tt, tt, tt, tt, tt)
 
@@ -80,7 +80,7 @@ elsewhere-alike = (tt, tt, tt, tt)
 -- so many rows of a second times a coefficient, with names of one byte each
 unfoldable pub lettered : ℕ → ℕ → ℕ → List ℕ
 lettered first coefficient zero = []
-lettered first coefficient (suc n) = 1 ∷ (first + n) ∷ replicate 15 0 ++ 3 ∷ coefficient ∷ replicate 13 0 ++ lettered first coefficient n
+lettered first coefficient (suc n) = 1 ∷ (first + n) ∷ replicate 31 0 ++ 3 ∷ coefficient ∷ replicate 13 0 ++ lettered first coefficient n
 
 -- the line's names are the bytes from 160 on, the hall's those from 161 on: 63 are shared
 unfoldable pub full : Card
@@ -140,7 +140,7 @@ pub readings-before :
     ∷ reads "2s ago" (minus 2 0)
     ∷ reads "inf" (largest false)
     ∷ []))
-    × T (was (blank 31) (blank 31) (fails "1s" 7 64) && was (table-A ++ blank 32) (blank 31) (fails "1s" 7 6))
-    × T (was table-A (blank 31) (fails "1s" 7 100) && was table-A (five ++ blank 32) (fails "1s" 7 69))
+    × T (was (blank 47) (blank 47) (fails "1s" 7 64) && was (table-A ++ blank 48) (blank 47) (fails "1s" 7 6))
+    × T (was table-A (blank 47) (fails "1s" 7 100) && was table-A (five ++ blank 48) (fails "1s" 7 69))
 unfolding computing space conjunction settings settings-A row-of table-A same-length same-answer reads plus minus fails five blank was before.table-check before.card-check before.find-unit before.unit-found before.unit-step before.numeral-found before.numeral-step before.spoken-unit-found before.spoken-unit-step before.finite-part before.spoken-part before.unsigned-part before.part before.part-reading before.parts before.total before.read-total before.total-answer
 readings-before = (tt, tt, tt)

@@ -7,7 +7,7 @@ use native.Mathlib.Omega.{arith}
 use Rattle.rules.specs.declared.Found.{Found}
 use Rattle.rules.specs.declared.Found.the-variants.{Row, Nowhere}
 use Rattle.rules.specs.Common.{same}
-use Rattle.rules.specs.SettingsAndUnitTable.{rows, row, name, named, lookup-from, lookup, line-first, stands, held-row, find-row}
+use Rattle.rules.specs.SettingsAndUnitTable.{rows, rows-in, row, name, named, named-in, lookup-from, lookup-from-in, lookup, lookup-in, line-first, stands, held-row, find-row}
 use Rattle.rules.specs.Laws.Choices.{if-either, if-else}
 use Rattle.rows.specs.Named.{found-row, row-named}
 use Rattle.rows.specs.Laws.Lookup.{not-same, lookup-nowhere}
@@ -17,7 +17,7 @@ use Rattle.line_names.specs.OneBehindAnother.{Whole, if-alike, none-befo
 
 -- a name that none of the first n rows has
 not-named : (table wanted : List ℕ) (n : ℕ) → ((i : ℕ) → i < n → name (row table i) ≡ wanted → ⊥) → named table wanted n ≡ false
-unfolding named
+unfolding named-in
 not-named table wanted zero none = refl
 not-named table wanted (suc n) none =
     rw (not-same (name (row table n)) wanted (none n (omega arith)))
@@ -31,7 +31,7 @@ module _ (hall line wanted : List ℕ) (none : lookup line wanted ≡ Nowhere) w
       (λ e. false≢true (sym (not-named line wanted (rows line) (lookup-nowhere line wanted none)) ∙ rw e at has))
 
   found-in-others : (n i : ℕ) → i + n ≤ rows hall → row-named (others hall line i n) wanted ≡ found-row hall (lookup-from hall wanted i n)
-  unfolding others lookup-from row-named lookup rows found-row
+  unfolding others lookup-from-in row-named lookup-in rows-in found-row
   found-in-others zero i within = refl
   found-in-others (suc n) i within =
       let r = row hall i in
@@ -42,7 +42,7 @@ module _ (hall line wanted : List ℕ) (none : lookup line wanted ≡ Nowhere) w
       (λ _. row-found-first r (length-row hall i (omega arith)) more wanted ∙ if-alike (λ found. found) (found-row hall) (same (name r) wanted) refl behind)
 
   in-the-others : row-named (others hall line 0 (rows hall)) wanted ≡ row-named hall wanted
-  unfolding row-named lookup
+  unfolding row-named lookup-in
   in-the-others = found-in-others (rows hall) 0 (omega arith)
 
 -- a table that finds what the hall's does wherever the line has no such name may stand for the hall's

@@ -9,7 +9,7 @@ use Rattle.rules.specs.declared.Found.{Found}
 use Rattle.rules.specs.declared.Found.the-variants.{Row, Nowhere}
 use Rattle.rules.specs.declared.Length.{Length}
 use Rattle.rules.specs.NumbersHandedBack.{_>>_, unless}
-use Rattle.rules.specs.SettingsAndUnitTable.{row-size, rows, row, whole-rows, rows-check, units-check, table-check, line-check, Card, card-check, lookup-from, lookup, line-first, stands, held-row, find-row}
+use Rattle.rules.specs.SettingsAndUnitTable.{row-size, rows-in, row, whole-rows-in, rows-check, units-check-in, table-check, line-check, Card, card-check, lookup-from-in, lookup, lookup-in, line-first, stands, held-row, find-row}
 use Rattle.rules.specs.ReadingOnePart.{find-unit, unit-found, unit-step, numeral-found, numeral-step, spoken-unit-found, spoken-unit-step, finite-part, spoken-part, unsigned-part, part}
 use Rattle.rules.specs.Evaluation.{part-reading, parts, total}
 use Rattle.rules.specs.WhatEveryEntryOwes.{read-part, part-answer, read-total, total-answer, add-total, shift-answer, shifted-record}
@@ -34,7 +34,7 @@ by-its-number :
     → ((i size : ℕ) (more : List ℕ) → row table i ≡ size ∷ more → made (row table i) ≡ made-before (Row i))
     → made [] ≡ made-before Nowhere
     → made (find-row table [] wanted) ≡ made-before (lookup table wanted)
-unfolding find-row stands line-first held-row lookup lookup-from rows
+unfolding find-row stands line-first held-row lookup-in lookup-from-in rows-in
 by-its-number made made-before table wanted some none = go (lookup table wanted) refl
   where
     go : (f : Found) → lookup table wanted ≡ f → made (held-row table [] (line-first Nowhere f)) ≡ made-before f
@@ -47,7 +47,7 @@ module _ (card : before.Card) where
   -- ---- the card
 
   pub card-as-before : card-check (now card) ≡ before.card-check card
-  unfolding card-check table-check line-check units-check whole-rows rows rows-check unless _>>_ before.card-check before.table-check
+  unfolding card-check table-check line-check units-check-in whole-rows-in rows-in rows-check unless _>>_ before.card-check before.table-check
   card-as-before = refl
 
   module _ (text : List ℕ) where

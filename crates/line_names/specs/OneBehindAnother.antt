@@ -12,7 +12,7 @@ use borrow.Author.Tests.{leb-true, leb-false}
 use Rattle.rules.specs.declared.Found.{Found}
 use Rattle.rules.specs.declared.Found.the-variants.{Row, Nowhere}
 use Rattle.rules.specs.Common.{if_then_else_, same}
-use Rattle.rules.specs.SettingsAndUnitTable.{row-size, rows, row, name, named, lookup-from, lookup, line-first, stands, held-row, find-row}
+use Rattle.rules.specs.SettingsAndUnitTable.{row-size, rows, rows-in, row, row-in, name, named, named-in, lookup-from, lookup-from-in, lookup, lookup-in, line-first, stands, held-row, find-row}
 use Rattle.rows.specs.Named.{found-row, row-named}
 use Rattle.rows.specs.Laws.Rows.{row-within}
 
@@ -23,7 +23,7 @@ Whole table = length table % row-size ≡ 0
 module _ (a b : List ℕ) where
   -- the rows of the first stand where they stood
   pub row-before : (i : ℕ) → i < rows a → row (a ++ b) i ≡ row a i
-  unfolding row
+  unfolding row-in
   row-before i below =
       let within = row-within a i below in
       rw (drop-append-le (row-size * i) a b (omega arith)) (take-append-le row-size (drop (row-size * i) a) b (simp length-drop (omega arith)))
@@ -31,18 +31,18 @@ module _ (a b : List ℕ) where
   module _ (whole : Whole a) where
     -- so many bytes
     sized : length a ≡ row-size * rows a
-    unfolding rows
+    unfolding rows-in
     sized = omega arith
 
     pub whole-both : Whole b → Whole (a ++ b)
     whole-both whole-b = simp length-append (omega arith)
 
     pub rows-both : rows (a ++ b) ≡ rows a + rows b
-    unfolding rows
+    unfolding rows-in
     rows-both = simp length-append (omega arith)
 
     pub row-behind : (j : ℕ) → row (a ++ b) (rows a + j) ≡ row b j
-    unfolding row
+    unfolding row-in
     row-behind j =
         let start : row-size * (rows a + j) ≡ length a + row-size * j = omega (arith, sized) in
         rw (start, drop-append-add a b)
@@ -61,13 +61,13 @@ module _ (a b : List ℕ) where
 
 module _ (a b wanted : List ℕ) where
   pub named-before : (n : ℕ) → n ≤ rows a → named (a ++ b) wanted n ≡ named a wanted n
-  unfolding named
+  unfolding named-in
   named-before zero within = refl
   named-before (suc n) within = rw (row-before a b n (omega arith), named-before n (omega arith))
 
   -- behind a table that has not the name
   pub named-behind : Whole a → named a wanted (rows a) ≡ false → (j : ℕ) → named (a ++ b) wanted (rows a + j) ≡ named b wanted j
-  unfolding named
+  unfolding named-in
   named-behind whole none zero = rw add-zero (named-before (rows a) (omega arith) ∙ none)
   named-behind whole none (suc j) = rw (add-suc (rows a) j, row-behind a b whole j, named-behind whole none j)
 
@@ -89,12 +89,12 @@ none-before a b Nowhere = refl
 
 -- so without a table of the line's, the hall's
 pub found-alone : (table wanted : List ℕ) → find-row table [] wanted ≡ row-named table wanted
-unfolding find-row stands lookup lookup-from rows row-named
+unfolding find-row stands lookup-in lookup-from-in rows-in row-named
 found-alone table wanted = none-before [] table (lookup table wanted)
 
 module _ (a b : List ℕ) (whole : Whole a) (wanted : List ℕ) where
   in-the-second : (n j : ℕ) → found-row (a ++ b) (lookup-from (a ++ b) wanted (rows a + j) n) ≡ found-row b (lookup-from b wanted j n)
-  unfolding lookup-from found-row
+  unfolding lookup-from-in found-row
   in-the-second zero j = refl
   in-the-second (suc n) j =
       let here = row-behind a b whole j in
@@ -103,7 +103,7 @@ module _ (a b : List ℕ) (whole : Whole a) (wanted : List ℕ) where
   in-either :
       (n i : ℕ) → i + n ≡ rows a
       → found-row (a ++ b) (lookup-from (a ++ b) wanted i (n + rows b)) ≡ held-row b a (line-first (lookup-from a wanted i n) (lookup b wanted))
-  unfolding lookup-from lookup held-row line-first found-row
+  unfolding lookup-from-in lookup-in held-row line-first found-row
   in-either zero i e =
       let end : i ≡ rows a + 0 = omega arith in
       rw (zero-add, end) (in-the-second (rows b) 0 ∙ sym (none-before a b (lookup b wanted)))
@@ -114,7 +114,7 @@ module _ (a b : List ℕ) (whole : Whole a) (wanted : List ℕ) where
 
   -- one table behind another finds what the two find
   pub found-behind : row-named (a ++ b) wanted ≡ find-row b a wanted
-  unfolding row-named lookup find-row stands
+  unfolding row-named lookup-in find-row stands
   found-behind = rw (rows-both a b whole) (in-either (rows a) 0 (omega arith))
 
 -- ---- one row before a table
@@ -124,11 +124,11 @@ module _ (r : List ℕ) (sized : length r ≡ row-size) where
   row-whole = rw sized
 
   pub one-row : rows r ≡ 1
-  unfolding rows
+  unfolding rows-in
   one-row = rw sized
 
   pub the-row : row r 0 ≡ r
-  unfolding row
+  unfolding row-in
   the-row = take-all row-size r (omega arith)
 
   pub row-first : (table : List ℕ) (j : ℕ) → j < rows r → row (r ++ table) j ≡ r
@@ -137,7 +137,7 @@ module _ (r : List ℕ) (sized : length r ≡ row-size) where
       rw first (row-before r table 0 (rw one-row (omega arith)) ∙ the-row)
 
   pub row-found-first : (table wanted : List ℕ) → row-named (r ++ table) wanted ≡ (if same (name r) wanted then r else row-named table wanted)
-  unfolding row-named lookup lookup-from find-row stands held-row line-first
+  unfolding row-named lookup-in lookup-from-in find-row stands held-row line-first
   row-found-first table wanted =
       found-behind r table row-whole wanted
       ∙ rw (one-row, the-row)

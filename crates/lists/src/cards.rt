@@ -34,12 +34,12 @@ const NUMERALS_SIZE_AT: usize = 226;
 // Bytes of a card's line, of a row and of its stored form, the newlines included.
 const HEAD: usize = 231;
 
-const ROW: usize = 32;
+const ROW: usize = 48;
 
-const STORED: usize = 65;
+const STORED: usize = 97;
 
 // The longest table of a list: four times as many rows as a unit table may have.
-pub const MOST_BYTES: usize = 8_192;
+pub const MOST_BYTES: usize = 12_288;
 
 // Settings, and how many bytes each table has.
 pub struct Card {

@@ -15,3 +15,13 @@ pub fn first_bytes(buffer: &[u8], size: usize) -> &[u8] {
     }
     buffer
 }
+
+// So many bytes from a place on, or none where there are not so many.
+pub fn part(bytes: &[u8], at: usize, size: usize) -> &[u8] {
+    if at <= bytes.len() {
+        if size <= bytes.len() - at {
+            return &bytes[at..at + size];
+        }
+    }
+    &bytes[..0]
+}

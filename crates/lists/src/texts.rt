@@ -36,7 +36,7 @@ fn read_bytes(line: &mut [u8]) -> bool {
     more
 }
 
-fn fill(buffer: &mut [u8], size: usize, byte: u8)
+pub fn fill(buffer: &mut [u8], size: usize, byte: u8)
     requires { ⌜ size ≤ length (now buffer) ⌝ }
 {
     let mut i = 0;

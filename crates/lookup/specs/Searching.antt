@@ -4,7 +4,7 @@ use mathlib.Core.List.{List, [], _∷_}
 use mathlib.Core.Logic.{_⊎_}
 use Prim.Native.Nat.{ℕ}
 use lib.ListN.{length}
-use Rattle.rows.specs.Named.{Sized}
+use Rattle.rows.specs.Named.{Padded}
 use Rattle.index.specs.declared.Searched.{Searched}
 use Rattle.index.specs.declared.LookedUp.{LookedUp}
 use Rattle.index.specs.TheSortedIndex.{row-search, index-search}
@@ -14,9 +14,9 @@ use Rattle.index.specs.Laws.Right.{Right}
 abbrev pub Beside : List ℕ → List ℕ → Type 0
 Beside table index = (length index ≡ 0) ⊎ Right table index
 
--- what is searched: rows that have room for their names
+-- what is searched: rows with zeros after their names
 pub record Searchable (table index : List ℕ) : Type 0 where
-  pub sizes : Sized table
+  pub rooms : Padded table
   pub beside : Beside table index
 
 -- an empty index means the old search

@@ -1,12 +1,42 @@
-// Names held against each other, byte for byte.
+// Names held against each other: a row's by words, two stretches byte for byte.
 ghost use mathlib.Core.Path.{_≡_};
-ghost use Prim.Native.Nat.{_≤_};
-ghost use lib.ListN.{length};
+ghost use mathlib.Core.Bool.{true};
+ghost use lib.ListN.{length, take};
 ghost use Rattle.rules.specs.Common.{same};
-ghost use Rattle.rules.specs.SettingsAndUnitTable.{row-size, name-room, name-size, name};
+ghost use Rattle.rules.specs.SettingsAndUnitTable.{row-size, name, low-first};
+ghost use Rattle.rows.specs.Named.{padded};
 ghost use Rattle.index.specs.TheSortedIndex.{order, before};
 use index::Order;
 use rows::fields::NAME_AT;
+use words::with_byte;
+use words::word_at;
+
+// Bytes of a word, how many of its bits a byte is, and where the second word of a name stands in its row.
+const WORD: usize = 8;
+
+const BYTE_BITS: u64 = 8;
+
+const WORD_BITS: u64 = 64;
+
+const SECOND_WORD_AT: usize = 9;
+
+// The first eight bytes of a name as a number, or as many as it has.
+pub fn first_word(name: &[u8]) -> u64
+    ensures { λ r. ⌜ r ≡ low-first (take 8 (now (name .entry))) ⌝ }
+{
+    let mut word: u64 = 0;
+    let mut bits: u64 = 0;
+    let mut i = 0;
+    while bits < WORD_BITS {
+        if name.len() <= i {
+            return word;
+        }
+        word = with_byte(word, bits, name[i]);
+        bits += BYTE_BITS;
+        i += 1;
+    }
+    word
+}
 
 // Whether two stretches have the same bytes.
 fn same(a: &[u8], b: &[u8]) -> bool
@@ -25,18 +55,25 @@ fn same(a: &[u8], b: &[u8]) -> bool
     true
 }
 
-// Whether a row has the name. The size is asked first, since most rows have another; a row that was accepted has as many bytes as it
-// says.
-pub fn has_name(row: &[u8], wanted: &[u8]) -> bool
-    requires { ⌜ (length (now row) ≡ row-size) × (name-size (now row) ≤ name-room) ⌝ }
+// Whether a row has the name, of which the first word is lent too. Zeros stand after a row's name, so that its first word is that of its name: it is
+// asked first, since most rows have another, and a name of up to eight bytes is told by it and the size.
+pub fn has_name(row: &[u8], wanted: &[u8], first: u64) -> bool
+    requires { ⌜ (length (now row) ≡ row-size) × (padded (now row) ≡ true) ⌝ }
+    requires { ⌜ first ≡ low-first (take 8 (now wanted)) ⌝ }
     ensures { λ r. ⌜ r ≡ same (name (now (row .entry))) (now (wanted .entry)) ⌝ }
 {
+    if word_at(row, NAME_AT) != first {
+        return false;
+    }
     let size = row[0] as usize;
     if size != wanted.len() {
         return false;
     }
+    if size <= WORD {
+        return true;
+    }
     let end = NAME_AT + size;
-    same(&row[NAME_AT..end], wanted)
+    same(&row[SECOND_WORD_AT..end], &wanted[WORD..])
 }
 
 // How two names stand to each other. The first byte that differs decides; if none does, the shorter comes first.

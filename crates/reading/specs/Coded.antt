@@ -18,7 +18,7 @@ use Rattle.rules.specs.declared.Refusal.{Refusal}
 use Rattle.rules.specs.declared.Refusal.the-variants.{NoUnit}
 use Rattle.rules.specs.Common.{run}
 use Rattle.rules.specs.NumbersHandedBack.{Outcome, got, refused, _>>=_}
-use Rattle.rules.specs.SettingsAndUnitTable.{Card, kind-multiplier, rows, row, kind, row-multiplier, times, product}
+use Rattle.rules.specs.SettingsAndUnitTable.{Card, kind-multiplier, rows, row, kind, row-multiplier, times, product, product-in}
 use Rattle.rules.specs.ReadingOnePart.{gap, number-step, exponent-step, in-stretch, find-unit, unit-found, unit-step, spoken-unit-found, spoken-unit-step, finite, spoken}
 use Rattle.rules.specs.Laws.Outcomes.{All, all-got, all-bind, always, bind-got, bind-refused, bind-assoc, not-got}
 use Rattle.value.specs.Sums.{sum-of}
@@ -219,7 +219,7 @@ module _ (card : Card) (text : List ℕ) (negative : Bool) (place : ℕ) where
   s = card .settings
 
   pub finite-coded : codes text (typed-finite card text negative place) ≡ (typed-count s text place >>= coded-part card text negative)
-  unfolding codes typed-finite typed-count coded-part unit-step unit-found unit-read product _>>=_
+  unfolding codes typed-finite typed-count coded-part unit-step unit-found unit-read product-in _>>=_
   finite-coded =
       both-joined (number-step s text place) _ _ _ _
       (λ number. both-joined (exponent-step s text (number .next)) _ _ _ _

@@ -14,13 +14,13 @@ use Rattle.rules.specs.NumbersHandedBack.{got, refused, _>>_, unless, done, ref
 use Rattle.rules.specs.SettingsAndUnitTable.{Card, card-check}
 use Rattle.rules.specs.Evaluation.{part-reading, total}
 use Rattle.rules.specs.WhatEveryEntryOwes.{read-part, part-answer, read-total, total-answer}
-use Rattle.card.specs.Laws.Accepted.{UnitsGood, card-hall, card-line, card-numerals, row-sized, row-in-range, lookup-empty, numeral-sized, lookup-lettered}
+use Rattle.card.specs.Laws.Accepted.{UnitsGood, card-hall, card-line, card-numerals, row-padded, row-in-range, lookup-empty, numeral-padded, lookup-lettered}
 use Rattle.steps.specs.Units.{Readable}
 use Rattle.steps.specs.Numerals.{Sayable}
 
 -- under an accepted card units can be read, and numerals said
 table-readable : (s : Settings) (table : List ℕ) → UnitsGood s table → Readable table
-table-readable s table good = record { sizes = row-sized s table good; products = row-in-range s table good; named = lookup-empty s table good }
+table-readable s table good = record { rooms = row-padded s table good; products = row-in-range s table good; named = lookup-empty s table good }
 
 pub card-readable : (card : Card) → card-check card ≡ got tt → Readable (card .hall) × Readable (card .line)
 card-readable card good = (table-readable (card .settings) (card .hall) (card-hall card good), table-readable (card .settings) (card .line) (card-line card good))
@@ -28,7 +28,7 @@ card-readable card good = (table-readable (card .settings) (card .hall) (card-ha
 pub card-sayable : (card : Card) → card-check card ≡ got tt → Sayable (card .numerals)
 card-sayable card good =
     let accepted = card-numerals card good in
-    record { sizes = numeral-sized (card .numerals) accepted; lettered = lookup-lettered (card .numerals) accepted }
+    record { rooms = numeral-padded (card .numerals) accepted; lettered = lookup-lettered (card .numerals) accepted }
 
 module _ (card : Card) (text : List ℕ) where
   module _ (place : ℕ) where

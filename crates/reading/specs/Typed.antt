@@ -24,7 +24,7 @@ use Rattle.rules.specs.Laws.Outcomes.{all-got, all-refused, all-if, all-bind, a
 use Rattle.rules.specs.Laws.Tests.{and-false}
 use Rattle.rules.specs.Laws.Texts.{sees-here, sees-end, run-from}
 use Rattle.steps.specs.Signs.{sign-other}
-use Rattle.steps.specs.Units.{stretch-part}
+use Rattle.steps.specs.Stretches.{stretch-part}
 use Rattle.steps.specs.Numerals.{Sayable}
 use Rattle.steps.specs.Joined.{then-joined, if-joined}
 use Rattle.steps.specs.Infinity.{infinity-word, infinity-then}

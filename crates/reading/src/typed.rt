@@ -43,7 +43,7 @@ use steps::unit::UnitRead;
 use steps::unit::UnitRow;
 use steps::unit::parse_ago;
 use steps::unit::parse_time_unit;
-use steps::unit::unit_end;
+use steps::unit::unit_stretch;
 use tables::DIGIT;
 use tables::LETTER;
 use tables::POINT;
@@ -266,7 +266,7 @@ fn unit_part<'a>(
     requires { ⌜ Numbered (now numerals) (counted .numeral) ⌝ }
     ensures { λ r. ⌜ part r ≡ coded-part (card-of (now (settings .entry)) (now (hall .entry)) (now (line .entry)) (now (numerals .entry))) (now (text .entry)) negative counted ⌝ }
 {
-    let end = unit_end(stops, text, counted.next);
+    let stretch = unit_stretch(stops, text, counted.next);
     let UnitRead::Found(unit) = parse_time_unit(
         hall,
         hall_index,
@@ -274,11 +274,11 @@ fn unit_part<'a>(
         line_index,
         text,
         counted.next,
-        end,
+        stretch,
     ) else {
         return unitless_part(settings, negative, counted);
     };
-    match parse_ago(settings, text, end) {
+    match parse_ago(settings, text, stretch.end) {
         AgoRead::Refused(cause) => PartRead::Refused(cause),
         AgoRead::Got(ago) => with_unit(numerals, negative, counted, unit, ago),
     }

@@ -1,7 +1,7 @@
 // The fields of a row, and its product with its kind.
 ghost use mathlib.Core.Path.{_≡_};
-ghost use mathlib.Core.Bool.{_&&_};
-ghost use Prim.Native.Nat.{_+_, _*_, _^_, _<_, _≤_};
+ghost use mathlib.Core.Bool.{true, _&&_};
+ghost use Prim.Native.Nat.{_+_, _*_, _^_, _<_};
 ghost use lib.Dec.{ltb};
 ghost use lib.ListN.{length};
 ghost use Rattle.rules.specs.SettingsAndUnitTable.{coefficient-size, row-size, rows, row, name, magnitude, kind-multiplier, row-multiplier, times, product, in-range};
@@ -12,17 +12,17 @@ use words::short_at;
 use words::word_at;
 
 // How many bytes a row has, and where its fields stand: size, name, kind, coefficient, power, zeros.
-pub const ROW_SIZE: usize = 32;
+pub const ROW_SIZE: usize = 48;
 
 pub const NAME_AT: usize = 1;
 
-pub const KIND_AT: usize = 17;
+pub const KIND_AT: usize = 33;
 
-const COEFFICIENT_AT: usize = 18;
+const COEFFICIENT_AT: usize = 34;
 
-const POWER_AT: usize = 26;
+const POWER_AT: usize = 42;
 
-pub const ZEROS_AT: usize = 28;
+pub const ZEROS_AT: usize = 44;
 
 // Below these no kind, of which the largest coefficient is 604800 and the lowest power -9, takes a row out of the range.
 const SMALL_COEFFICIENT: u64 = 8_796_093_022_208;
@@ -45,7 +45,7 @@ pub fn name_of(row: &[u8]) -> &[u8]
     ensures { λ r. ⌜ now r ≡ name (now (row .entry)) ⌝ }
 {
     let size = row[0] as usize;
-    if size < 31 {
+    if size < 47 {
         let end = NAME_AT + size;
         return &row[NAME_AT..end];
     }
@@ -113,11 +113,16 @@ fn small(own: Multiplier) -> bool
     own.coefficient < SMALL_COEFFICIENT && own.down < SMALL_DOWN
 }
 
-// Whether a row's fields say so as they stand: a coefficient that is neither large nor below zero, and a power that is not below zero.
-fn plainly_small(coefficient: u64, power: u16) -> bool
-    ensures { λ r. ⌜ r ≡ (ltb coefficient 8796093022208 && ltb power 32768) ⌝ }
+// Whether a row's fields say so as they stand: a coefficient that is neither large nor below zero, and a power that is not far below zero.
+pub fn plainly_small(row: &[u8]) -> bool
+    requires { ⌜ length (now row) ≡ row-size ⌝ }
+    ensures { λ r. ⌜ (r ≡ true → in-range (product (now (row .entry))) ≡ true) ⌝ }
 {
-    coefficient < SMALL_COEFFICIENT && power < 32_768
+    if word_at(row, COEFFICIENT_AT) >= SMALL_COEFFICIENT {
+        return false;
+    }
+    let power = short_at(row, POWER_AT);
+    power < 32_768 || power > 32_776
 }
 
 // Whether kind times row lies in the range. A power above zero is never too high. Most rows are told
@@ -126,7 +131,7 @@ pub fn product_in_range(row: &[u8]) -> bool
     requires { ⌜ length (now row) ≡ row-size ⌝ }
     ensures { λ r. ⌜ r ≡ in-range (product (now (row .entry))) ⌝ }
 {
-    if plainly_small(word_at(row, COEFFICIENT_AT), short_at(row, POWER_AT)) {
+    if plainly_small(row) {
         return true;
     }
     let own = row_multiplier(row);

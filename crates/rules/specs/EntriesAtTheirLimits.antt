@@ -1,7 +1,7 @@
 -- The entries at their limits, computed: exactly full and one over, each refusal, and which of two comes first. Each line is one that a wrong
 -- definition would miss. Assumes nothing.
-use mathlib.Core.Bool.{Bool, true, false, _&&_}
-use mathlib.Core.List.{List, [], _∷_, _++_}
+use mathlib.Core.Bool.{Bool, true, _&&_}
+use mathlib.Core.List.{List, _++_}
 use Prim.Native.Nat.{ℕ, _+_, _*_, _-_, _/_, _^_}
 use Prim.Native.String.{String}
 use lib.Dec.{T}
@@ -53,12 +53,12 @@ unfoldable pub blank : ℕ → List ℕ
 blank size = replicate size 0
 
 pub cards-in-order :
-    T (holds-under (unspoken (limited point (conjunction "andandand") 8) (blank 31)) (fails "1s" 7 65))
-    × T (holds-under (unspoken (limited space (conjunction "andandand") 8) (blank 31)) (fails "1s" 7 66))
-    × T (holds-under (unspoken (limited space (conjunction "and") 8) (blank 31)) (fails "1s" 7 67))
-    × T (holds-under (unspoken (limited space (conjunction "and") 7) (blank 31)) (fails "1s" 7 64))
-    × T (holds-under (unspoken settings-A (blank (65 * 32))) (fails "1s" 7 64))
-    × T (holds-under (unspoken settings-A (blank (64 * 32))) (fails "1s" 7 0))
+    T (holds-under (unspoken (limited point (conjunction "andandand") 8) (blank 47)) (fails "1s" 7 65))
+    × T (holds-under (unspoken (limited space (conjunction "andandand") 8) (blank 47)) (fails "1s" 7 66))
+    × T (holds-under (unspoken (limited space (conjunction "and") 8) (blank 47)) (fails "1s" 7 67))
+    × T (holds-under (unspoken (limited space (conjunction "and") 7) (blank 47)) (fails "1s" 7 64))
+    × T (holds-under (unspoken settings-A (blank (65 * 48))) (fails "1s" 7 64))
+    × T (holds-under (unspoken settings-A (blank (64 * 48))) (fails "1s" 7 0))
     × T (holds-under (unspoken (limited space (conjunction "andandan") 7) table-A) (reads "1s andandan 2s" (plus 3 0)))
 unfolding computing space conjunction settings settings-A row-of table-A unspoken card-A same-length same-answer reads plus fails holds-under limited point blank
 cards-in-order = (tt, tt, tt, tt, tt, tt, tt)
@@ -75,7 +75,7 @@ unfolding computing space conjunction settings settings-A row-of table-A unspoke
 rows-in-order = (tt, tt, tt, tt, tt, tt)
 
 -- a row as a stored line
-pub a-stored-row : T (same (stored (row-of "min" 4 (2 ^ 64 - 10) 11)) (ascii "036d696e0000000000000000000000000004f6ffffffffffffff0b0000000000\n"))
+pub a-stored-row : T (same (stored (row-of "min" 4 (2 ^ 64 - 10) 11)) (ascii "036d696e000000000000000000000000000000000000000000000000000000000004f6ffffffffffffff0b0000000000\n"))
 unfolding computing row-of
 a-stored-row = tt
 
@@ -137,7 +137,7 @@ shifts total table text answer after =
 pub shifts-at-their-limits :
     T (shifts (plus 1 0) table-A (ascii "2s") (done 2 (plus 3 0)) (plus 3 0))
     × T (shifts (largest true) table-A (ascii "-2s") (done 3 (largest true)) (largest true))
-    × T (shifts (minus 0 0) (blank 31) (wordy 4097) (refusal-of 7 64) (minus 0 0))
+    × T (shifts (minus 0 0) (blank 47) (wordy 4097) (refusal-of 7 64) (minus 0 0))
     × T (shifts (minus 0 0) table-A (wordy 4097) (refusal-of 11 0) (minus 0 0))
     × T (shifts (plus 1 0) table-A (wordy 4097) (refusal-of 8 4096) (plus 1 0))
     × T (shifts (plus 1 0) table-A (ascii "2s and") (refusal-of 19 3) (plus 1 0))

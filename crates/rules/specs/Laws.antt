@@ -3,6 +3,7 @@ pub mod Choices
 pub mod Tests
 pub mod Lists
 pub mod Outcomes
+pub mod RowsCheck
 pub mod SettingsAsWords
 pub mod Answers
 pub mod Tables

@@ -4,7 +4,7 @@ use Prim.Native.Nat.{ℕ, _+_}
 use Rattle.rules.specs.declared.Length.{Length}
 use Rattle.rules.specs.declared.Answer.{Answer}
 use Rattle.rules.specs.declared.Refusal.{Refusal}
-use Rattle.rules.specs.declared.Refusal.the-variants.{Nothing, SignEnds, DelimiterEnds, FractionOff, FractionEmpty, ExponentOff, ExponentByte, ExponentEnds, ExponentAbove, ExponentBelow, InfinityByte, InfinityEnds, InfinityGoesOn, ConjunctionEnds, ConjunctionGoesOn, NegativeForbidden, NoNumber, NoUnit, OutOfRange, Delimiters, Conjunctions, DefaultKind, TableSize, BadRow, LineSize, BadLineRow, NumeralsSize, BadNumeral, WrongIndex, WrongLineIndex, TextTooLong, NoRoom, Beyond, Malformed, NotIso, YearOrMonth, TooLarge}
+use Rattle.rules.specs.declared.Refusal.the-variants.{Nothing, SignEnds, DelimiterEnds, FractionOff, FractionEmpty, ExponentOff, ExponentByte, ExponentEnds, ExponentAbove, ExponentBelow, InfinityByte, InfinityEnds, InfinityGoesOn, ConjunctionEnds, ConjunctionGoesOn, NegativeForbidden, NoNumber, NoUnit, OutOfRange, Delimiters, Conjunctions, DefaultKind, TableSize, BadRow, LineSize, BadLineRow, NumeralsSize, BadNumeral, WrongIndex, WrongLineIndex, TextTooLong, NoRoom, Beyond, Malformed, NotIso, YearOrMonth, TooLarge, NoStoredRow, NameTooLong}
 use Rattle.rules.specs.ThePartOfTheCrateWeTake.{longest-text, zero-length}
 
 -- what a step, a check or an entry comes to: something, or a refusal
@@ -65,6 +65,8 @@ number Malformed = 11
 number (NotIso p) = 12
 number (YearOrMonth p) = 13
 number TooLarge = 14
+number (NoStoredRow i) = 24
+number (NameTooLong i) = 25
 
 unfoldable pub position : Refusal → ℕ
 position (Nothing p) = p
@@ -104,6 +106,8 @@ position Malformed = 0
 position (NotIso p) = p
 position (YearOrMonth p) = p
 position TooLarge = 0
+position (NoStoredRow i) = i
+position (NameTooLong i) = i
 
 -- read or written: 0, the position and the length
 unfoldable pub done : ℕ → Length → Answer

@@ -28,7 +28,7 @@ speaking numerals = record { settings = settings-A; hall = table-A; line = []; n
 -- so many numerals of one letter each
 unfoldable pub lettered : ℕ → List ℕ
 lettered zero = []
-lettered (suc n) = 1 ∷ (if ltb n 26 then 65 + n else 71 + n) ∷ replicate 15 0 ++ 3 ∷ 1 ∷ replicate 13 0 ++ lettered n
+lettered (suc n) = 1 ∷ (if ltb n 26 then 65 + n else 71 + n) ∷ replicate 31 0 ++ 3 ∷ 1 ∷ replicate 13 0 ++ lettered n
 
 unfoldable pub refused-with : ℕ → List ℕ → Bool
 refused-with position numerals = holds-under (speaking numerals) (fails "1s" 7 position)
@@ -38,15 +38,15 @@ accepted numerals = holds-under (speaking numerals) (reads "1s" (plus 1 0))
 
 pub tables-in-order :
     T (accepted [] && accepted (lettered 32) && refused-with 100 (lettered 33))
-    × T (refused-with 100 (replicate 31 0) && refused-with 68 (replicate 32 0) && refused-with 100 (replicate 33 0))
-    × T (holds-under (record { settings = settings-A; hall = replicate 32 0; line = []; numerals = replicate 31 0 }) (fails "1s" 7 0))
+    × T (refused-with 100 (replicate 47 0) && refused-with 68 (replicate 48 0) && refused-with 100 (replicate 49 0))
+    × T (holds-under (record { settings = settings-A; hall = replicate 48 0; line = []; numerals = replicate 47 0 }) (fails "1s" 7 0))
     × T (refused-with 99 (lettered 31 ++ numeral "" 5 0))
 unfolding computing space conjunction settings settings-A row-of table-A same-length same-answer reads plus fails holds-under numeral speaking lettered refused-with accepted
 tables-in-order = (tt, tt, tt, tt)
 
--- 1 to 16 letters; kind 3 alone; kind times row in range; of two equal names the later is the bad one; a unit's name, a conjunction or `inf` will do
+-- 1 to 32 letters; kind 3 alone; kind times row in range; of two equal names the later is the bad one; a unit's name, a conjunction or `inf` will do
 pub rows-in-order :
-    T (accepted (numeral "a" 5 0) && accepted (numeral "sixteenlettersab" 5 0) && refused-with 68 (17 ∷ drop 1 (numeral "sixteenlettersab" 5 0)))
+    T (accepted (numeral "a" 5 0) && accepted (numeral "thirtytwolettersabcdefghijklmnop" 5 0) && refused-with 68 (33 ∷ drop 1 (numeral "thirtytwolettersabcdefghijklmnop" 5 0)))
     × T (refused-with 68 (numeral "f5" 5 0) && refused-with 68 (numeral "a b" 5 0) && refused-with 68 (numeral "f-g" 5 0))
     × T (refused-with 68 (row-of "five" 2 5 0) && refused-with 68 (row-of "five" 4 5 0))
     × T (accepted (numeral "most" (2 ^ 63 - 1) 0) && accepted (numeral "least" (2 ^ 63 + 1) 0) && refused-with 68 (numeral "below" (2 ^ 63) 0))

@@ -1,5 +1,5 @@
 -- Request five, "The line's own unit names": its cards and readings, computed, each rule from both sides. Assumes nothing.
-use mathlib.Core.Bool.{Bool, true, false, _&&_}
+use mathlib.Core.Bool.{Bool, false, _&&_}
 use mathlib.Core.List.{List, [], _∷_, _++_}
 use Prim.Native.Nat.{ℕ, _*_, _-_, _^_}
 use lib.Dec.{T}
@@ -72,11 +72,11 @@ unfoldable pub under : Settings → List ℕ → List ℕ → List ℕ → Card
 under s hall line numerals = record { settings = s; hall = hall; line = line; numerals = numerals }
 
 pub checked-in-order :
-    T (refused-at 64 (under settings-A (blank 31) (blank 31) (blank 31)))
-    × T (refused-at 5 (under settings-A (row-of "a" 3 1 0 ++ row-of "b" 3 1 0 ++ row-of "c" 3 1 0 ++ row-of "d" 3 1 0 ++ row-of "f" 3 1 0 ++ blank 32) (blank 31) (blank 31)))
-    × T (refused-at 192 (on-a-line (blank 31) (blank 31)) && refused-at 192 (on-a-line (blank (65 * 32)) (blank 31)))
-    × T (refused-at 128 (on-a-line (blank (64 * 32)) (blank 31)) && refused-at 128 (on-a-line (blank 32) (blank 32)))
-    × T (refused-at 100 (on-a-line line-7 (blank 31)) && refused-at 68 (on-a-line line-7 (blank 32)))
+    T (refused-at 64 (under settings-A (blank 47) (blank 47) (blank 47)))
+    × T (refused-at 5 (under settings-A (row-of "a" 3 1 0 ++ row-of "b" 3 1 0 ++ row-of "c" 3 1 0 ++ row-of "d" 3 1 0 ++ row-of "f" 3 1 0 ++ blank 48) (blank 47) (blank 47)))
+    × T (refused-at 192 (on-a-line (blank 47) (blank 47)) && refused-at 192 (on-a-line (blank (65 * 48)) (blank 47)))
+    × T (refused-at 128 (on-a-line (blank (64 * 48)) (blank 47)) && refused-at 128 (on-a-line (blank 48) (blank 48)))
+    × T (refused-at 100 (on-a-line line-7 (blank 47)) && refused-at 68 (on-a-line line-7 (blank 48)))
     × T (refused-at 130 (on-a-line (line-7 ++ jaw) five) && refused-at 130 (on-a-line (line-7 ++ row-of "s" 8 1 0) five))
     × T (refused-at 128 (under (asked false false space) [] (row-of "eon" 3 5 0) []) && refused-at 0 (under (asked false false space) (row-of "eon" 3 5 0) (row-of "eon" 3 5 0) []))
 unfolding computing space conjunction settings settings-A row-of table-A same-length same-answer fails holds-under none asked on-a-line jaw line-7 five refused-at blank under
@@ -86,10 +86,10 @@ checked-in-order = (tt, tt, tt, tt, tt, tt, tt)
 
 pub elsewhere :
     T (same-answer (part-answer (on-a-line line-7 []) (ascii "1s 3jaw 2s") 3) (done 8 (plus 0 120000000)))
-    × T (same-answer (part-answer (on-a-line (blank 32) []) (ascii "1s 3jaw 2s") 11) (fails "" 7 128 .comes-to))
+    × T (same-answer (part-answer (on-a-line (blank 48) []) (ascii "1s 3jaw 2s") 11) (fails "" 7 128 .comes-to))
     × T (same-answer (shift-answer (plus 1 0) (on-a-line line-7 []) (ascii "3jaw")) (done 4 (plus 1 120000000)))
     × T (same-length (shifted-record (plus 1 0) (on-a-line line-7 []) (ascii "3jaw")) (plus 1 120000000))
-    × T (same-answer (shift-answer (minus 0 0) (on-a-line (blank 32) []) (ascii "3jaw")) (fails "" 7 128 .comes-to))
-    × T (same-length (shifted-record (minus 0 0) (on-a-line (blank 32) []) (ascii "3jaw")) (minus 0 0))
+    × T (same-answer (shift-answer (minus 0 0) (on-a-line (blank 48) []) (ascii "3jaw")) (fails "" 7 128 .comes-to))
+    × T (same-length (shifted-record (minus 0 0) (on-a-line (blank 48) []) (ascii "3jaw")) (minus 0 0))
 unfolding computing space conjunction settings settings-A row-of table-A same-length same-answer plus minus fails on-a-line jaw line-7 blank
 elsewhere = (tt, tt, tt, tt, tt, tt)

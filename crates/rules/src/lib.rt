@@ -223,4 +223,7 @@ pub enum Refusal {
     YearOrMonth(usize),
     // its value is beyond the largest length
     TooLarge,
+    // a stored line that is to be moved: it is no row's; its name is too long for the old form
+    NoStoredRow(usize),
+    NameTooLong(usize),
 }

@@ -10,7 +10,7 @@ use lib.ListN.{length}
 use Rattle.rules.specs.declared.Answer.{Answer}
 use Rattle.rules.specs.declared.Length.{Length}
 use Rattle.rules.specs.declared.Refusal.{Refusal}
-use Rattle.rules.specs.declared.Refusal.the-variants.{Nothing, SignEnds, DelimiterEnds, FractionOff, FractionEmpty, ExponentOff, ExponentByte, ExponentEnds, ExponentAbove, ExponentBelow, InfinityByte, InfinityEnds, InfinityGoesOn, ConjunctionEnds, ConjunctionGoesOn, NegativeForbidden, NoNumber, NoUnit, OutOfRange, Delimiters, Conjunctions, DefaultKind, TableSize, BadRow, LineSize, BadLineRow, NumeralsSize, BadNumeral, WrongIndex, WrongLineIndex, TextTooLong, NoRoom, Beyond, Malformed, NotIso, YearOrMonth, TooLarge}
+use Rattle.rules.specs.declared.Refusal.the-variants.{Nothing, SignEnds, DelimiterEnds, FractionOff, FractionEmpty, ExponentOff, ExponentByte, ExponentEnds, ExponentAbove, ExponentBelow, InfinityByte, InfinityEnds, InfinityGoesOn, ConjunctionEnds, ConjunctionGoesOn, NegativeForbidden, NoNumber, NoUnit, OutOfRange, Delimiters, Conjunctions, DefaultKind, TableSize, BadRow, LineSize, BadLineRow, NumeralsSize, BadNumeral, WrongIndex, WrongLineIndex, TextTooLong, NoRoom, Beyond, Malformed, NotIso, YearOrMonth, TooLarge, NoStoredRow, NameTooLong}
 use Rattle.rules.specs.Common.{if_then_else_, between}
 use Rattle.rules.specs.NumbersHandedBack.{Outcome, got, refused, number, position, done, refusal, answered}
 use Rattle.rules.specs.SettingsAndUnitTable.{Card}
@@ -62,6 +62,8 @@ number-before Malformed = 11
 number-before (NotIso p) = 12
 number-before (YearOrMonth p) = 13
 number-before TooLarge = 14
+number-before (NoStoredRow i) = 24
+number-before (NameTooLong i) = 25
 
 -- the positions were as they are
 unfoldable pub before : Table
@@ -124,6 +126,8 @@ number-folded Malformed = (refl, refl)
 number-folded (NotIso p) = (refl, refl)
 number-folded (YearOrMonth p) = (refl, refl)
 number-folded TooLarge = (refl, refl)
+number-folded (NoStoredRow i) = (refl, refl)
+number-folded (NameTooLong i) = (refl, refl)
 
 -- of every refusal, and of nothing else
 folds : Folds before folded

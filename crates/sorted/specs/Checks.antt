@@ -6,9 +6,9 @@ use Rattle.rules.specs.declared.Settings.{Settings}
 use Rattle.rules.specs.declared.Refusal.{Refusal}
 use Rattle.rules.specs.declared.Refusal.the-variants.{TableSize, BadRow, LineSize, BadLineRow, WrongIndex, WrongLineIndex}
 use Rattle.rules.specs.NumbersHandedBack.{Outcome, got, refused, _>>_, unless}
-use Rattle.rules.specs.SettingsAndUnitTable.{settings-check, most-rows, rows, whole-rows, rows-check, units-check, table-check, line-check, numerals-check, card-check}
+use Rattle.rules.specs.SettingsAndUnitTable.{settings-check, most-rows, rows, rows-in, whole-rows-in, rows-check, units-check-in, table-check, line-check, numerals-check, numerals-check-in, card-check}
 use Rattle.rules.specs.SettingsAsWords.{settings-of, card-of}
-use Rattle.settings.specs.Laws.Accepted.{passed-both}
+use Rattle.rules.specs.Laws.Outcomes.{passed-both}
 use Rattle.card.specs.Laws.Accepted.{UnitsGood, units-good, units-accepted, card-hall, card-line}
 use Rattle.index.specs.TheSortedIndex.{index-check, table-right, checking, Indexed, indexed-check}
 use Rattle.index.specs.Laws.Right.{Right, index-accepts}
@@ -17,15 +17,15 @@ use Rattle.index.specs.Laws.Right.{Right, index-accepts}
 
 -- tables without rows are accepted
 no-line : (s : Settings) → line-check s [] ≡ got tt
-unfolding line-check units-check whole-rows rows rows-check unless _>>_
+unfolding line-check units-check-in whole-rows-in rows-in rows-check unless _>>_
 no-line s = refl
 
 no-hall : (s : Settings) → table-check s [] ≡ got tt
-unfolding table-check units-check whole-rows rows rows-check unless _>>_
+unfolding table-check units-check-in whole-rows-in rows-in rows-check unless _>>_
 no-hall s = refl
 
 no-numerals : numerals-check [] ≡ got tt
-unfolding numerals-check whole-rows rows rows-check unless _>>_
+unfolding numerals-check-in whole-rows-in rows-in rows-check unless _>>_
 no-numerals = refl
 
 then-got : (m : Outcome (Unit {0})) → (m >> got tt) ≡ m

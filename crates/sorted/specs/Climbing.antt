@@ -1,9 +1,8 @@
 -- Names that rise from entry to entry rise along the index; and what a table and an index told right are. Assumes nothing.
 use mathlib.Core.Path.{_≡_, refl, sym, _∙_}
-use mathlib.Core.Bool.{Bool, true, false, not}
+use mathlib.Core.Bool.{Bool, true, false}
 use mathlib.Core.List.{List}
 use Prim.Native.Nat.{ℕ, zero, suc, _+_, _-_, _%_, _≤_, _<_}
-use native.Mathlib.Nat.{zero-add}
 use native.Mathlib.Omega.{arith}
 use lib.Dec.{eqb, leb}
 use lib.ListN.{length}
@@ -14,15 +13,14 @@ use Rattle.rules.specs.declared.Refusal.{Refusal}
 use Rattle.rules.specs.declared.Refusal.the-variants.{TableSize, BadRow}
 use Rattle.rules.specs.NumbersHandedBack.{got}
 use Rattle.rules.specs.Laws.Choices.{and-left, and-right}
-use Rattle.rules.specs.declared.Found.the-variants.{Row}
-use Rattle.rules.specs.Common.{same}
-use Rattle.rules.specs.SettingsAndUnitTable.{most-rows, row-size, rows, row, name, named, whole-rows, row-accepted}
+use Rattle.rules.specs.SettingsAndUnitTable.{most-rows, row-size, rows, row, name, named, named-in, whole-rows-in, row-accepted}
+use Rattle.rules.specs.Laws.Outcomes.{passed}
+use Rattle.rules.specs.Laws.RowsCheck.{rows-good}
 use Rattle.rows.specs.Laws.Lookup.{not-same}
-use Rattle.card.specs.declared.table.RowRule.{RowRule}
+use Rattle.card.specs.declared.row.RowRule.{RowRule}
 use Rattle.card.specs.Fields.{alone, ruled, tested, tabled}
 use Rattle.card.specs.Laws.Table.{ruled-alone}
-use Rattle.settings.specs.Laws.Accepted.{passed}
-use Rattle.card.specs.Laws.Accepted.{UnitsGood, rows-good}
+use Rattle.card.specs.Laws.Accepted.{UnitsGood}
 use Rattle.index.specs.TheSortedIndex.{before}
 use Rattle.index.specs.Laws.Order.{before-trans}
 use Rattle.index.specs.Laws.Right.{entry, entry-name, Right, Rising, Own, rising-own, rising-right, different}
@@ -70,7 +68,7 @@ climbed table index all climbing =
 
 -- no row has the name
 pub unnamed-below : (table wanted : List ℕ) (n : ℕ) → ((j : ℕ) → j < n → name (row table j) ≡ wanted → ⊥) → named table wanted n ≡ false
-unfolding named
+unfolding named-in
 unnamed-below table wanted zero none = refl
 unnamed-below table wanted (suc n) none =
     rw (not-same (name (row table n)) wanted (none n (omega arith)), unnamed-below table wanted n (λ j below. none j (omega arith)))
@@ -89,13 +87,13 @@ pub each-alone :
     (rule : RowRule) (table : List ℕ)
     → ((size : Refusal) (bad : ℕ → Refusal) → got tt ≡ tabled size most-rows (tested rule false table) bad table)
     → (length table % row-size ≡ 0) × (rows table ≤ most-rows) × ((i : ℕ) → i < rows table → alone rule (row table i) ≡ true)
-unfolding whole-rows
+unfolding whole-rows-in
 each-alone rule table found =
     let (sized, each) = passed TableSize _ _ (sym (found TableSize BadRow)) in
     let whole : Bool = eqb (length table % row-size) 0 in (
       eqb-true (length table % row-size) 0 (and-left whole (leb (rows table) most-rows) sized),
       leb-true (rows table) most-rows (and-right whole (leb (rows table) most-rows) sized),
-      λ i below. rw (zero-add i) at (rows-good _ _ (rows table) 0 i each below),
+      λ i below. rows-good _ _ (rows table) i each below,
     )
 
 -- each row by itself, and names that rise along an index as long as the table

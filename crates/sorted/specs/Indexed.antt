@@ -4,7 +4,7 @@ use mathlib.Core.Logic.{inr}
 use Rattle.rules.specs.declared.Refusal.the-variants.{WrongIndex, WrongLineIndex}
 use Rattle.rules.specs.NumbersHandedBack.{got}
 use Rattle.rules.specs.SettingsAndUnitTable.{card-check}
-use Rattle.settings.specs.Laws.Accepted.{passed-both}
+use Rattle.rules.specs.Laws.Outcomes.{passed-both}
 use Rattle.index.specs.TheSortedIndex.{index-check, Indexed, indexed-check}
 use Rattle.index.specs.Laws.Right.{Right, index-accepts}
 use Rattle.lookup.specs.Searching.{Beside}

@@ -5,7 +5,7 @@ use mathlib.Core.List.{List, _++_}
 use Prim.Native.Nat.{ℕ, _+_, _≤_, _<_}
 use native.Mathlib.Omega.{arith}
 use lib.Dec.{eqb}
-use lib.ListN.{length, getD, take, drop, set, length-set, length-take, length-drop, length-append}
+use lib.ListN.{length, take, drop, set, length-set, length-take, length-drop, length-append}
 use lib.Seq.{getD-set-same, getD-set-other, getD-take, take-append-le, take-all}
 use borrow.Author.Tests.{eqb-true, eqb-false}
 use Rattle.rules.specs.SettingsAndUnitTable.{rows}

@@ -6,7 +6,7 @@ use native.Mathlib.Numerals.{add-one}
 use native.Mathlib.Omega.{arith}
 use lib.ListN.{length, getD, take, drop, set, length-take}
 use lib.Seq.{take-suc, take-all}
-use Rattle.rules.specs.SettingsAndUnitTable.{row-size, rows}
+use Rattle.rules.specs.SettingsAndUnitTable.{row-size, rows, rows-in}
 use Rattle.writing.specs.Laid.{laid, laid-length, laid-nothing, laid-byte}
 use Rattle.index.specs.TheSortedIndex.{with-row}
 
@@ -22,11 +22,11 @@ module _ (table : List ℕ) (i : ℕ) (new : List ℕ) (below : i < rows table) 
   put-none = laid-nothing table (row-size * i)
 
   pub put-long : (k : ℕ) → k ≤ row-size → length (put-to k) ≡ length table
-  unfolding rows
+  unfolding rows-in
   put-long k few = laid-length table (row-size * i) (take k new) (omega (arith, first-long k few))
 
   pub put-next : (k : ℕ) → k < row-size → set (put-to k) (row-size * i + k) (getD new k 0) ≡ put-to (k + 1)
-  unfolding rows
+  unfolding rows-in
   put-next k less =
       laid-byte table (row-size * i) (row-size * i + k) (take k new) (getD new k 0) (omega (arith, first-long k (omega arith))) (omega arith)
       ∙ ap (laid table (row-size * i)) (sym (take-suc new k 0 (omega arith)) ∙ ap (λ n. take n new) (sym (add-one k)))

@@ -2,7 +2,7 @@
 use mathlib.Core.Path.{_≡_, refl, sym, ap, _∙_}
 use mathlib.Core.Bool.{Bool, true, false, false≢true}
 use mathlib.Core.List.{List, _++_}
-use mathlib.Core.Logic.{_≢_, _⊎_, ⊎-elim}
+use mathlib.Core.Logic.{_≢_, ⊎-elim}
 use Prim.Native.Nat.{ℕ, suc, _+_, _*_, _-_, _/_, _%_, _≤_, _<_}
 use native.Mathlib.Numerals.{add-one}
 use native.Mathlib.Omega.{arith}
@@ -12,17 +12,17 @@ use lib.Seq.{getD-take, getD-drop, getD-set-same, getD-set-other, getD-append-ad
 use borrow.Author.Tests.{eqb-true, eqb-false, eq-eqb, ltb-true, ltb-false}
 use Rattle.rules.specs.declared.Settings.{Settings}
 use Rattle.rules.specs.declared.Refusal.the-variants.{TableSize, BadRow}
-use Rattle.rules.specs.declared.Found.the-variants.{Row}
 use Rattle.rules.specs.Common.{if_then_else_}
 use Rattle.rules.specs.NumbersHandedBack.{Outcome, got, refused, _>>_, unless}
-use Rattle.rules.specs.SettingsAndUnitTable.{row-size, rows, row, name, row-accepted, whole-rows, rows-check, table-check}
+use Rattle.rules.specs.SettingsAndUnitTable.{row-size, rows, rows-in, row, row-in, name, row-accepted, whole-rows-in, rows-check, table-check}
 use Rattle.rows.specs.Laws.Rows.{length-row}
-use Rattle.card.specs.declared.table.RowRule.{RowRule}
-use Rattle.card.specs.Fields.{padded, alone, ruled, tested, tabled}
+use Rattle.card.specs.declared.row.RowRule.{RowRule}
+use Rattle.rows.specs.Named.{padded}
+use Rattle.card.specs.Fields.{alone, ruled, tested, tabled}
 use Rattle.card.specs.Laws.Table.{ruled-alone, right-padded}
 use Rattle.card.specs.Laws.Accepted.{UnitsGood, units-good, units-accepted, own-name, rows-right}
 use Rattle.rules.specs.Laws.Choices.{and-left}
-use Rattle.index.specs.TheSortedIndex.{before, with-row, passes, may-replace, index-of}
+use Rattle.index.specs.TheSortedIndex.{with-row, passes, may-replace, index-of}
 use Rattle.index.specs.Laws.Counts.{skip, skipped, skip-rises, skip-most}
 use Rattle.index.specs.Laws.Order.{never-before}
 use Rattle.index.specs.Laws.Right.{entry, entry-name, Right, Rising, Own, right-rising, stands-at, different, rising-right, right-only}
@@ -51,15 +51,15 @@ pub record Moved (index : List ℕ) (at : ℕ) (moved : List ℕ) : Type 0 where
 
 module _ (table : List ℕ) (i : ℕ) (new : List ℕ) (below : i < rows table) (sized : length new ≡ row-size) where
   front-long : length (take (row-size * i) table) ≡ row-size * i
-  unfolding rows
+  unfolding rows-in
   front-long = simp length-take (omega arith)
 
   pub with-long : length (with-row table i new) ≡ length table
-  unfolding with-row rows
+  unfolding with-row rows-in
   with-long = simp (length-append, length-take, length-drop) (omega arith)
 
   pub with-rows : rows (with-row table i new) ≡ rows table
-  unfolding rows
+  unfolding rows-in
   with-rows = ap (λ n. n / row-size) with-long
 
   -- its bytes: the new row's, and outside of it the table's
@@ -86,7 +86,7 @@ module _ (table : List ℕ) (i : ℕ) (new : List ℕ) (below : i < rows table) 
       ∙ getD-drop (row-size * suc i) table q 0
 
   row-at : (l : List ℕ) (j k : ℕ) → k < row-size → getD (row l j) k 0 ≡ getD l (row-size * j + k) 0
-  unfolding row
+  unfolding row-in
   row-at l j k less = getD-take row-size (drop (row-size * j) l) k 0 less ∙ getD-drop (row-size * j) l k 0
 
   pub new-row : row (with-row table i new) i ≡ new
@@ -135,7 +135,7 @@ passes-got {m = refused cause} e = absurd (false≢true e)
 -- a row as a table of one row: what is found of it is whether it passes by itself
 module _ (rule : RowRule) (new : List ℕ) (sized : length new ≡ row-size) {m : Outcome (Unit {0})} (found : m ≡ tabled TableSize 1 (tested rule false new) BadRow new) where
   one-row : m ≡ (if alone rule new then got tt else refused (BadRow 0))
-  unfolding whole-rows rows rows-check unless _>>_ row
+  unfolding whole-rows-in rows-in rows-check unless _>>_ row-in
   one-row =
       let all : take row-size (drop (row-size * 0) new) ≡ new = take-all row-size new (omega arith) in
       found ∙ rw (sized, all)

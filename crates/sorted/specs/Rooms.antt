@@ -10,12 +10,12 @@ use lib.Seq.{getD-take, getD-drop}
 use borrow.Author.Count.{below-more}
 use borrow.Author.Tests.{ltb-true, ltb-false, eqb-true}
 use Rattle.rules.specs.Common.{all, between}
-use Rattle.rules.specs.SettingsAndUnitTable.{name-room, name-at, row-size, name-size, name, after-name, low-first}
+use Rattle.rules.specs.SettingsAndUnitTable.{name-room, name-at, row-size, name-size, name, after-name-in, low-first}
 use Rattle.rules.specs.Laws.Choices.{and-right}
 use Rattle.rules.specs.Laws.Lists.{Bytes, all-index}
 use Rattle.words.specs.LowFirst.{bytes-part}
-use Rattle.card.specs.Fields.{padded}
-use Rattle.card.specs.Laws.Names.{low-first-only, size-most, name-bytes}
+use Rattle.rows.specs.Named.{padded}
+use Rattle.rows.specs.Laws.Rooms.{low-first-only, size-most, name-bytes}
 use Rattle.index.specs.TheSortedIndex.{order, is-before, before}
 use Rattle.index.specs.Laws.Order.{before-less, before-further}
 
@@ -44,7 +44,7 @@ longer (a ∷ more) (b ∷ bs) alike less =
 
 module _ (r : List ℕ) (long : length r ≡ row-size) (p : padded r ≡ true) where
   after-zero : (j : ℕ) → name-size r ≤ j → j < name-room → getD r (name-at + j) 0 ≡ 0
-  unfolding padded after-name
+  unfolding padded after-name-in
   after-zero j from to =
       let size : ℕ = name-size r in
       let k : ℕ = j - size in
@@ -78,17 +78,23 @@ alike-next row other at alike e = below-more (λ k. 1 ≤ k → getD row k 0 ≡
 
 -- a word that is the same
 pub alike-word :
-    (row other : List ℕ) → length row ≡ row-size → length other ≡ row-size → Bytes row → Bytes other
-    → low-first (take 8 (drop 1 row)) ≡ low-first (take 8 (drop 1 other)) → Alike row other 9
-alike-word row other p q bytes others e k below some =
-    let parts : take 8 (drop 1 row) ≡ take 8 (drop 1 other) =
-    low-first-only (take 8 (drop 1 row)) (take 8 (drop 1 other)) (simp (length-take, length-drop) (omega arith)) (bytes-part row 8 1 bytes) (bytes-part other 8 1 others) e
-    in
-    let place : 1 + (k - 1) ≡ k = omega arith in
-    let at : (l : List ℕ) → getD (take 8 (drop 1 l)) (k - 1) 0 ≡ getD l k 0 =
-    λ l. getD-take 8 (drop 1 l) (k - 1) 0 (omega arith) ∙ getD-drop 1 l (k - 1) 0 ∙ ap (λ n. getD l n 0) place
-    in
-    sym (at row) ∙ ap (λ l. getD l (k - 1) 0) parts ∙ at other
+    (row other : List ℕ) (at : ℕ) → at + 8 ≤ length row → at + 8 ≤ length other → Bytes row → Bytes other
+    → Alike row other at → low-first (take 8 (drop at row)) ≡ low-first (take 8 (drop at other)) → Alike row other (at + 8)
+alike-word row other at p q bytes others alike e k below some = go (ltb k at) refl
+  where
+    parts : take 8 (drop at row) ≡ take 8 (drop at other)
+    parts = low-first-only (take 8 (drop at row)) (take 8 (drop at other)) (simp (length-take, length-drop) (omega arith)) (bytes-part row 8 at bytes) (bytes-part other 8 at others) e
+
+    byte : at ≤ k → (l : List ℕ) → getD (take 8 (drop at l)) (k - at) 0 ≡ getD l k 0
+    byte h l =
+        let place : at + (k - at) ≡ k = omega arith in
+        getD-take 8 (drop at l) (k - at) 0 (omega arith) ∙ getD-drop at l (k - at) 0 ∙ ap (λ n. getD l n 0) place
+
+    go : (t : Bool) → ltb k at ≡ t → getD row k 0 ≡ getD other k 0
+    go true e = alike k (ltb-true k at e) some
+    go false e =
+        let from : at ≤ k = ltb-false k at e in
+        sym (byte from row) ∙ ap (λ l. getD l (k - at) 0) parts ∙ byte from other
 
 module _ (row other : List ℕ) (long : length row ≡ row-size) (p : padded row ≡ true) (long-too : length other ≡ row-size) (q : padded other ≡ true) where
   names-alike : (at : ℕ) → at ≤ name-at + name-room → Alike row other at → (j : ℕ) → name-at + j < at → getD (name row) j 0 ≡ getD (name other) j 0

@@ -1,19 +1,19 @@
 // A row of a table replaced, and its index changed with it.
 ghost use mathlib.Core.Path.{_≡_};
 ghost use mathlib.Core.Bool.{true, false};
-ghost use Prim.Native.Nat.{ℕ, _<_, _≤_};
+ghost use Prim.Native.Nat.{ℕ, _<_};
 ghost use lib.ListN.{length, getD};
 ghost use Rattle.rules.specs.NumbersHandedBack.{got};
 ghost use Rattle.rules.specs.SettingsAsWords.{settings-of};
 ghost use Rattle.rules.specs.SettingsAndUnitTable.{settings-check, row-size, rows, row, table-check};
-ghost use Rattle.card.specs.Fields.{padded};
+ghost use Rattle.rows.specs.Named.{padded};
 ghost use Rattle.index.specs.TheSortedIndex.{with-row, may-replace, index-of};
 ghost use Rattle.index.specs.Laws.Right.{Own, Right};
 ghost use Rattle.sorted.specs.Replacing.{Elsewhere, NotElsewhere, Stands, Moved};
 use crate::made::sift_down;
+use card::row::same_name;
 use card::table::RowsFound;
 use card::table::rows_found;
-use card::table::same_name;
 use card::table::unit_rule;
 use rows::fields::ROW_SIZE;
 use rows::fields::row_at;

@@ -3,14 +3,15 @@
 ghost use mathlib.Core.Path.{_≡_};
 ghost use mathlib.Core.Bool.{true};
 ghost use lib.ListN.{length};
-ghost use Prim.Native.Nat.{ℕ, _<_};
+ghost use Prim.Native.Nat.{ℕ, _≤_, _<_};
 ghost use Rattle.rules.specs.NumbersHandedBack.{got};
 ghost use Rattle.rules.specs.SettingsAsWords.{settings-of};
 ghost use Rattle.rules.specs.SettingsAndUnitTable.{settings-check, row-size, rows, row, name};
-ghost use Rattle.card.specs.Fields.{padded};
+ghost use Rattle.rows.specs.Named.{padded};
 ghost use Rattle.card.specs.Laws.Accepted.{UnitsGood};
 ghost use Rattle.index.specs.TheSortedIndex.{before};
 ghost use Rattle.index.specs.Laws.Right.{Right, Rising};
+ghost use Rattle.sorted.specs.Rooms.{Alike};
 use card::table::MOST_ROWS;
 use card::table::RowsFound;
 use card::table::rows_found;
@@ -21,20 +22,32 @@ use rows::fields::ROW_SIZE;
 use rows::fields::row_at;
 use words::word_at;
 
-// Where the second of the two words of a name's room stands.
-const SECOND_WORD_AT: usize = 9;
+// Bytes of a word.
+const WORD: usize = 8;
+
+// Up to where the rooms of two names are the same, word by word.
+fn alike_until(row: &[u8], other: &[u8]) -> usize
+    requires { ⌜ (length (now row) ≡ row-size) × (length (now other) ≡ row-size) ⌝ }
+    ensures { λ r. ⌜ (1 ≤ r) × (r ≤ 33) × Alike (now (row .entry)) (now (other .entry)) r ⌝ }
+{
+    let mut at = NAME_AT;
+    while at < KIND_AT {
+        if word_at(row, at) != word_at(other, at) {
+            return at;
+        }
+        at += WORD;
+    }
+    at
+}
 
 // Whether one row's name comes before another's. Both have zeros after it, so that the name's whole room decides, and where it is the same the
-// sizes do. Names that begin alike are told by a word at once.
+// sizes do. Names that begin alike are told by words.
 fn comes_before(row: &[u8], other: &[u8]) -> bool
     requires { ⌜ (length (now row) ≡ row-size) × (padded (now row) ≡ true) ⌝ }
     requires { ⌜ (length (now other) ≡ row-size) × (padded (now other) ≡ true) ⌝ }
     ensures { λ r. ⌜ (r ≡ true → before (name (now (row .entry))) (name (now (other .entry))) ≡ true) ⌝ }
 {
-    let mut at = NAME_AT;
-    if word_at(row, NAME_AT) == word_at(other, NAME_AT) {
-        at = SECOND_WORD_AT;
-    }
+    let mut at = alike_until(row, other);
     while at < KIND_AT {
         if row[at] != other[at] {
             return row[at] < other[at];

@@ -12,9 +12,9 @@ use Rattle.rules.specs.declared.Refusal.the-variants.{TableSize, BadRow, WrongI
 use Rattle.rules.specs.NumbersHandedBack.{got, refused, _>>_, unless}
 use Rattle.rules.specs.SettingsAndUnitTable.{settings-check, row-size, rows, table-check}
 use Rattle.rules.specs.Laws.Choices.{and-right}
-use Rattle.settings.specs.Laws.Accepted.{passed, passed-both, passed-last}
+use Rattle.rules.specs.Laws.Outcomes.{passed, passed-both, unless-got}
 use Rattle.card.specs.Laws.Accepted.{units-good}
-use Rattle.index.specs.TheSortedIndex.{index-of, lent-after, table-right, making, made-index, checking, with-row, passes, may-replace, replacing, replaced-table, replaced-index}
+use Rattle.index.specs.TheSortedIndex.{index-of, lent-after, table-right, making, made-index, checking, with-row, may-replace, replacing, replaced-table, replaced-index}
 use Rattle.index.specs.Laws.Right.{Own, index-accepts, index-of-right, right-only}
 use Rattle.sorted.specs.Replacing.{passes-got, units-own}
 
@@ -61,7 +61,7 @@ replaceable s table index i new e =
     let (right, entries) = passed-both (table-right s table) _ first in
     let (settings, old) = passed-both (settings-check s) _ right in
     let (within, row) = passed (Beyond i) (ltb i (rows table)) _ rest in
-    (settings, passes-got (and-right (eqb (length new) row-size) _ (passed-last (BadRow i) _ row)))
+    (settings, passes-got (and-right (eqb (length new) row-size) _ (unless-got (BadRow i) _ row)))
 
 -- after it table and index are accepted
 pub replaced-accepted :

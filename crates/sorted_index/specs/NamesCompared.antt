@@ -9,7 +9,7 @@ use Rattle.rules.specs.declared.Found.the-variants.{Row, Nowhere}
 use Rattle.rules.specs.declared.Refusal.the-variants.{WrongIndex, WrongLineIndex}
 use Rattle.rules.specs.NumbersHandedBack.{got}
 use Rattle.rules.specs.SettingsAndUnitTable.{most-rows, rows, lookup, stands, card-check}
-use Rattle.settings.specs.Laws.Accepted.{passed-both}
+use Rattle.rules.specs.Laws.Outcomes.{passed-both}
 use Rattle.card.specs.Laws.Accepted.{card-hall, card-line}
 use Rattle.index.specs.TheSortedIndex.{index-check, row-search, index-search, behind, compared-in-both, Indexed, indexed-check, found-in, looked-up, lookup-answer, indexed-lookup-answer}
 use Rattle.index.specs.Laws.Right.{index-accepts}

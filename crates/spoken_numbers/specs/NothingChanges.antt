@@ -16,7 +16,7 @@ use Rattle.rules.specs.declared.Repr.the-variants.{Typed}
 use Rattle.rules.specs.declared.Settings.{Settings}
 use Rattle.rules.specs.Common.{if_then_else_, between, run}
 use Rattle.rules.specs.NumbersHandedBack.{Outcome, got, refused, _>>=_, _>>_, unless}
-use Rattle.rules.specs.SettingsAndUnitTable.{rows, row, kind, row-formed, row-right, row-accepted, whole-rows, rows-check, units-check, table-check, line-check, numerals-check, card-check, lookup-from, lookup, line-first, stands, held-row, find-row}
+use Rattle.rules.specs.SettingsAndUnitTable.{rows-in, row, kind, row-formed-in, row-right, row-right-in, row-accepted, row-accepted-in, whole-rows-in, rows-check, units-check-in, table-check, line-check, numerals-check-in, card-check, lookup-from-in, lookup, lookup-in, line-first, stands, held-row, find-row}
 use Rattle.rules.specs.ReadingOnePart.{in-stretch, find-unit, unit-found, unit-step, numeral-found, numeral-step, infinite-part, finite-part, spoken-part, unsigned-part, part}
 use Rattle.rules.specs.Evaluation.{evaluated, part-reading, parts, total}
 use Rattle.rules.specs.WhatEveryEntryOwes.{read-part, part-answer, read-total, total-answer, add-total, shift-answer, shifted-record}
@@ -46,7 +46,7 @@ module _ (s : Settings) (table : List ℕ) where
   -- ---- the card
 
   row-as-before : (i : ℕ) → row-accepted s table i ≡ before.row-accepted s table i
-  unfolding row-accepted row-right row-formed between before.row-accepted before.row-right
+  unfolding row-accepted-in row-right-in row-formed-in between before.row-accepted before.row-right
   row-as-before i = rw (le-leb 0 (kind (row table i)) zero-le)
 
   rows-as-before : (i n : ℕ) → rows-check (row-accepted s table) BadRow i n ≡ before.rows-check s table i n
@@ -55,14 +55,14 @@ module _ (s : Settings) (table : List ℕ) where
   rows-as-before i (suc n) = rw (rows-as-before (suc i) n, row-as-before i)
 
   pub card-as-before : card-check (unspoken s table) ≡ before.card-check s table
-  unfolding unspoken card-check units-check table-check line-check numerals-check whole-rows rows rows-check unless _>>_ before.card-check before.table-check
+  unfolding unspoken card-check units-check-in table-check line-check numerals-check-in whole-rows-in rows-in rows-check unless _>>_ before.card-check before.table-check
   card-as-before = simp (rows-as-before, alone)
 
   module _ (text : List ℕ) where
     -- ---- a part
 
     unit-as-before : (place : ℕ) → unit-step (unspoken s table) text place ≡ before.unit-step s table text place
-    unfolding unspoken unit-step find-unit find-row stands held-row line-first unit-found lookup lookup-from rows before.unit-step before.unit-found
+    unfolding unspoken unit-step find-unit find-row stands held-row line-first unit-found lookup-in lookup-from-in rows-in before.unit-step before.unit-found
     unit-as-before place = go (lookup table name) refl
       where
         name : List ℕ
@@ -78,7 +78,7 @@ module _ (s : Settings) (table : List ℕ) where
 
     -- where no number stands there is no numeral either
     unsigned-as-before : (negative : Bool) (place : ℕ) → unsigned-part (unspoken s table) text negative place ≡ (before.unsigned-part s table text negative place >>= λ p. got (typed p))
-    unfolding unspoken unsigned-part infinite-part spoken-part numeral-step numeral-found lookup lookup-from rows before.unsigned-part before.infinite-part _>>=_
+    unfolding unspoken unsigned-part infinite-part spoken-part numeral-step numeral-found lookup-in lookup-from-in rows-in before.unsigned-part before.infinite-part _>>=_
     unsigned-as-before negative place = simp (if-bind, bind-assoc, finite-as-before)
 
     part-as-before : (place : ℕ) → part (unspoken s table) text place ≡ (before.part s table text place >>= λ p. got (typed p))

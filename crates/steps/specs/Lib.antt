@@ -11,5 +11,6 @@ pub mod Numbers
 pub mod Exponents
 pub mod Infinity
 pub mod Connections
+pub mod Stretches
 pub mod Units
 pub mod Numerals

@@ -15,20 +15,20 @@ use Rattle.rules.specs.declared.Refusal.{Refusal}
 use Rattle.rules.specs.declared.Refusal.the-variants.{NoNumber}
 use Rattle.rules.specs.Common.{if_then_else_, starts, sees, run}
 use Rattle.rules.specs.NumbersHandedBack.{Outcome, got, refused, _>>=_}
-use Rattle.rules.specs.SettingsAndUnitTable.{LETTER, is, holds, Card, rows, row, row-multiplier, lookup-from, lookup}
+use Rattle.rules.specs.SettingsAndUnitTable.{LETTER, is, holds, Card, rows, rows-in, row, row-multiplier, lookup-from-in, lookup, lookup-in}
 use Rattle.rules.specs.ReadingOnePart.{delimiters, numeral-end, numeral-found, numeral-step}
 use Rattle.rules.specs.Laws.Outcomes.{All, all-got, all-refused, all-if, all-bind, always, bind-got, bind-refused}
 use Rattle.rules.specs.Laws.Texts.{sees-here, sees-end, run-from, run-ends}
-use Rattle.rows.specs.Named.{Sized}
+use Rattle.rows.specs.Named.{Padded}
 use Rattle.rows.specs.Laws.Lookup.{lookup-found}
 use Rattle.settings.specs.declared.sets.AsciiSet.{AsciiSet}
 use Rattle.settings.specs.Sets.{passes}
 use Rattle.steps.specs.declared.numeral.FoundNumeral.{FoundNumeral}
 use Rattle.steps.specs.Units.{Ready, run-alike}
 
--- what accepted numerals have: room for each name, and what begins with no letter is none of them
+-- what accepted numerals have: zeros after each name, and what begins with no letter is none of them
 pub record Sayable (numerals : List ℕ) : Type 0 where
-  pub sizes : Sized numerals
+  pub rooms : Padded numerals
   pub lettered : (wanted : List ℕ) → starts (is LETTER) wanted ≡ false → lookup numerals wanted ≡ Nowhere
 
 -- what a part is read under: what its unit is, and numerals
@@ -89,7 +89,7 @@ module _ (s : Settings) (numerals text : List ℕ) (place : ℕ) where
   -- ---- case by case
 
   pub numerals-none : length numerals ≡ 0 → refused (NoNumber place) ≡ numeral-row s numerals text place
-  unfolding numeral-row numeral-here lookup lookup-from rows
+  unfolding numeral-row numeral-here lookup-in lookup-from-in rows-in
   numerals-none h = rw (none numerals h)
     where
       none : (l : List ℕ) → length l ≡ 0 → l ≡ []

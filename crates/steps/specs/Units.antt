@@ -3,8 +3,7 @@ use mathlib.Core.Path.{_≡_, refl, sym, ap, _∙_}
 use mathlib.Core.Bool.{Bool, true, false, not, _&&_, _||_, Bool·beq, false≢true}
 use mathlib.Core.List.{List, [], _∷_}
 use mathlib.Core.Logic.{_⊎_, inl, inr}
-use Prim.Native.Nat.{ℕ, suc, _+_, _-_, _≤_, _<_}
-use native.Mathlib.Nat.{add-zero}
+use Prim.Native.Nat.{ℕ, suc, _+_, _≤_, _<_}
 use native.Mathlib.Omega.{arith}
 use borrow.Author.Tests.{le-leb, lt-leb, leb-true, leb-false}
 use lib.Dec.{leb}
@@ -23,9 +22,9 @@ use Rattle.rules.specs.ReadingOnePart.{says, delimiters, in-stretch, closes-uni
 use Rattle.rules.specs.Laws.Ahead.{says-within}
 use Rattle.rules.specs.Laws.Lists.{Bytes}
 use Rattle.rules.specs.Laws.Tests.{or-false}
-use Rattle.rules.specs.Laws.Texts.{sees-here, run-within, slice-shift}
+use Rattle.rules.specs.Laws.Texts.{sees-here, run-within}
 use Rattle.value.specs.Digits.{run-end}
-use Rattle.rows.specs.Named.{Sized}
+use Rattle.rows.specs.Named.{Padded}
 use Rattle.rows.specs.Powers.{Fitting}
 use Rattle.rows.specs.Laws.Rows.{row-fitting}
 use Rattle.rows.specs.Laws.Lookup.{found-holds}
@@ -39,9 +38,9 @@ use Rattle.steps.specs.declared.unit.UnitRow.{UnitRow}
 use Rattle.steps.specs.declared.unit.UnitRead.{UnitRead}
 use Rattle.steps.specs.declared.unit.UnitRead.the-variants as UnitRead
 
--- what an accepted table has: room for each row's name, kind times row in range, of each row, and none has an empty name
+-- what an accepted table has: zeros after each row's name, kind times row in range, of each row, and none has an empty name
 pub record Readable (table : List ℕ) : Type 0 where
-  pub sizes : Sized table
+  pub rooms : Padded table
   pub products : (i : ℕ) → i < rows table → in-range (product (row table i)) ≡ true
   pub named : lookup table [] ≡ Nowhere
 
@@ -58,12 +57,6 @@ stretch-within test text place {end = end} e h = go (leb (length text) place) re
     go : (b : Bool) → leb (length text) place ≡ b → end ≤ length text
     go true past = absurd (omega (arith, run-end test text place (leb-true (length text) place past)))
     go false here = rw e (run-within test text place (omega (arith, leb-false (length text) place here)))
-
--- the part of the text between two places that do not fall
-pub stretch-part : (text : List ℕ) (place end : ℕ) → place ≤ end → take (end - place) (drop place text) ≡ slice place end text
-stretch-part text place end h =
-    let whole : place + (end - place) ≡ end = omega arith in
-    slice-shift text place 0 (end - place) ∙ rw (add-zero place, whole)
 
 -- ---- where a name ends
 

@@ -8,6 +8,7 @@ ghost use Rattle.steps.specs.Outcomes.{numeral};
 use crate::Next;
 use crate::delimiters::past;
 use crate::delimiters::try_consume_delimiter;
+use lookup::names::first_word;
 use lookup::rows_in_order::find;
 use rules::Found;
 use rules::Refusal;
@@ -43,7 +44,8 @@ pub fn parse_numeral(
     if text.len() <= end {
         return NumeralRead::Refused(Refusal::NoNumber(place));
     }
-    let searched = find(numerals, &text[place..end]);
+    let word = &text[place..end];
+    let searched = find(numerals, word, first_word(word));
     let found = searched.found;
     let Found::Row(row) = found else {
         return NumeralRead::Refused(Refusal::NoNumber(place));

@@ -1,16 +1,16 @@
 // Step 6: the unit, and `ago`.
 ghost use mathlib.Core.Path.{_≡_};
-ghost use Prim.Native.Nat.{_≤_, _<_};
-ghost use lib.ListN.{length};
+ghost use lib.ListN.{take};
 ghost use lib.Seq.{slice};
 ghost use Rattle.rules.specs.declared.Settings.{Settings};
 ghost use Rattle.rules.specs.Common.{run};
 ghost use Rattle.rules.specs.NumbersHandedBack.{got};
 ghost use Rattle.rules.specs.SettingsAsWords.{settings-of};
-ghost use Rattle.rules.specs.SettingsAndUnitTable.{settings-check, find-row};
+ghost use Rattle.rules.specs.SettingsAndUnitTable.{settings-check, low-first, find-row};
 ghost use Rattle.rules.specs.ReadingOnePart.{in-stretch, closes-unit};
 ghost use Rattle.settings.specs.Sets.{bytes-of};
 ghost use Rattle.lookup.specs.Searching.{Beside};
+ghost use Rattle.steps.specs.Stretches.{Scanned};
 ghost use Rattle.steps.specs.Units.{Readable, stops-of, ago-read, unit-read};
 use crate::Next;
 use crate::bytes::is_next_duration;
@@ -29,6 +29,7 @@ use settings::sets::either;
 use settings::sets::holds;
 use settings::sets::inner_delimiters;
 use settings::sets::outer_delimiters;
+use words::with_byte;
 
 // What follows a unit's name: where the unit ends, and whether `ago` negates it.
 pub struct Ago {
@@ -53,8 +54,19 @@ pub enum UnitRead {
     Nowhere,
 }
 
+// A unit's name in a text, which begins at a known place: where it ends, and its first word.
+pub struct Stretch {
+    pub end: usize,
+    pub first: u64,
+}
+
 // `+`, `-` and the digits, as bits of a set's first word.
 const NEXT_BYTES: u64 = 287_992_881_640_112_128;
+
+// Bits of a word and of a byte.
+const WORD_BITS: u64 = 64;
+
+const BYTE_BITS: u64 = 8;
 
 // Letters of `ago`.
 const AGO: usize = 3;
@@ -122,11 +134,29 @@ pub fn parse_ago(settings: &[u64; 25], text: &[u8], place: usize) -> AgoRead
     }
 }
 
-// Where a unit's name ends.
-pub fn unit_end(stops: AsciiSet, text: &[u8], place: usize) -> usize
-    ensures { λ r. ⌜ ((s : Settings) → bytes-of stops ≡ stops-of s → r ≡ run (in-stretch s) (now (text .entry)) place) ⌝ }
+// Where a unit's name ends, and its first eight bytes as a number, or as many as it has: they go into a word while they are scanned.
+pub fn unit_stretch(stops: AsciiSet, text: &[u8], place: usize) -> Stretch
+    ensures { λ r. ⌜ ((s : Settings) → bytes-of stops ≡ stops-of s → r .end ≡ run (in-stretch s) (now (text .entry)) place) ⌝ }
+    ensures { λ r. ⌜ r .first ≡ low-first (take 8 (slice place (r .end) (now (text .entry)))) ⌝ }
 {
-    past(stops, false, text, place)
+    let mut first: u64 = 0;
+    let mut bits: u64 = 0;
+    let mut next = place;
+    while bits < WORD_BITS {
+        if text.len() <= next {
+            return Stretch { end: next, first };
+        }
+        if holds(stops, text[next]) {
+            return Stretch { end: next, first };
+        }
+        first = with_byte(first, bits, text[next]);
+        bits += BYTE_BITS;
+        next += 1;
+    }
+    Stretch {
+        end: past(stops, false, text, next),
+        first,
+    }
 }
 
 // The row that has the stretch as its name. A number often has no unit, and then no row is asked.
@@ -137,13 +167,14 @@ fn find_unit<'a>(
     line_index: &[u8],
     text: &[u8],
     place: usize,
-    end: usize,
+    stretch: Stretch,
 ) -> &'a [u8]
     requires { ⌜ Readable (now hall) × Readable (now line) ⌝ }
     requires { ⌜ Beside (now hall) (now «hall_index») × Beside (now line) (now «line_index») ⌝ }
-    requires { ⌜ (place < end → end ≤ length (now text)) ⌝ }
-    ensures { λ r. ⌜ now r ≡ find-row (now (hall .entry)) (now (line .entry)) (slice place end (now (text .entry))) ⌝ }
+    requires { ⌜ Scanned (now text) place stretch ⌝ }
+    ensures { λ r. ⌜ now r ≡ find-row (now (hall .entry)) (now (line .entry)) (slice place (stretch .end) (now (text .entry))) ⌝ }
 {
+    let end = stretch.end;
     if end <= place {
         return &hall[..0];
     }
@@ -154,6 +185,7 @@ fn find_unit<'a>(
         line,
         line_index,
         &text[place..end],
+        stretch.first,
         &mut compared,
     )
 }
@@ -166,14 +198,14 @@ pub fn parse_time_unit<'a>(
     line_index: &[u8],
     text: &[u8],
     place: usize,
-    end: usize,
+    stretch: Stretch,
 ) -> UnitRead
     requires { ⌜ Readable (now hall) × Readable (now line) ⌝ }
     requires { ⌜ Beside (now hall) (now «hall_index») × Beside (now line) (now «line_index») ⌝ }
-    requires { ⌜ (place < end → end ≤ length (now text)) ⌝ }
-    ensures { λ r. ⌜ r ≡ unit-read (find-row (now (hall .entry)) (now (line .entry)) (slice place end (now (text .entry)))) ⌝ }
+    requires { ⌜ Scanned (now text) place stretch ⌝ }
+    ensures { λ r. ⌜ r ≡ unit-read (find-row (now (hall .entry)) (now (line .entry)) (slice place (stretch .end) (now (text .entry)))) ⌝ }
 {
-    let row = find_unit(hall, hall_index, line, line_index, text, place, end);
+    let row = find_unit(hall, hall_index, line, line_index, text, place, stretch);
     if row.len() == 0 {
         return UnitRead::Nowhere;
     }

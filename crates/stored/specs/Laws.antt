@@ -11,10 +11,10 @@ use lib.ListN.{length, getD, take, drop, set, length-append, length-take, take-a
 use lib.Seq.{drop-cons, take-suc, set-at, append-snoc, take-at, getD-at, getD-take, length-take-le}
 use borrow.Author.Tests.{lt-ltb, le-ltb, ltb-true, eq-eqb, eqb-true}
 use Rattle.rules.specs.Common.{if_then_else_, between, all}
-use Rattle.rules.specs.SettingsAndUnitTable.{row-size, hexadecimal, two-digits, stored}
+use Rattle.rules.specs.SettingsAndUnitTable.{row-size-in, hexadecimal, two-digits, stored}
 use Rattle.rules.specs.Laws.Choices.{if-either, and-left, and-right, all-first, all-others}
 use Rattle.rules.specs.Laws.Tables.{listed, entry}
-use Rattle.stored.specs.Lines.{digits-size, line-size, digit-value, spells, paired, line-accepted, restored, stores, line-after, restores, row-after}
+use Rattle.stored.specs.Lines.{digits-size-in, line-size-in, digits-size, digit-value, spells, paired, line-accepted-in, restored-in, stores, line-after, restores, row-after}
 use Rattle.rules.specs.Laws.Lists.{Bytes}
 use Rattle.rules.specs.Laws.Tests.{between-from, between-to, between-in, between-above}
 use Rattle.rules.specs.Laws.Lists.{all-index}
@@ -24,7 +24,7 @@ use Rattle.rules.specs.Laws.Lists.{all-index}
 pub put-one : (p l : List ℕ) (n a : ℕ) → length p ≡ n → n < length l → set (p ++ drop n l) n a ≡ (p ++ (a ∷ [])) ++ drop (n + 1) l
 put-one p l n a e h = rw (drop-cons l n 0 h, set-at p (getD l n 0) (drop (suc n) l) a n e, add-one n) (sym (append-snoc p a (drop (suc n) l)))
 
-two-digits-append : (xs ys : List ℕ) → two-digits (xs ++ ys) ≡ two-digits xs ++ two-digits ys
+pub two-digits-append : (xs ys : List ℕ) → two-digits (xs ++ ys) ≡ two-digits xs ++ two-digits ys
 unfolding two-digits
 two-digits-append [] ys = refl
 two-digits-append (x ∷ xs) ys = rw (two-digits-append xs ys)
@@ -170,25 +170,25 @@ paired-two-digits (b ∷ l) p =
     let whole : b / 16 * 16 + b % 16 ≡ b = omega arith in
     rw (value-hexadecimal (b / 16) (high-digit b (p 0)), value-hexadecimal (b % 16) (low-digit b), whole, paired-two-digits l (λ k. p (suc k)))
 
-module _ (r : List ℕ) (long : length r ≡ row-size) (p : Bytes r) where
-  digits-long : length (two-digits r) ≡ digits-size
+module _ (room : ℕ) (r : List ℕ) (long : length r ≡ row-size-in room) (p : Bytes r) where
+  digits-long : length (two-digits r) ≡ digits-size-in room
   digits-long = length-two-digits r ∙ ap (λ n. 2 * n) long
 
   -- a row stored is accepted
-  pub stored-accepted : line-accepted (stored r) ≡ true
-  unfolding line-accepted stored
+  pub stored-accepted : line-accepted-in room (stored r) ≡ true
+  unfolding line-accepted-in stored
   stored-accepted =
       rw (
-        eq-eqb (length (two-digits r ++ (10 ∷ []))) line-size (length-append (two-digits r) (10 ∷ []) ∙ ap (λ n. n + 1) digits-long),
-        getD-at (two-digits r) 10 [] 0 digits-size digits-long,
-        take-at (two-digits r) (10 ∷ []) digits-size digits-long,
+        eq-eqb (length (two-digits r ++ (10 ∷ []))) (line-size-in room) (length-append (two-digits r) (10 ∷ []) ∙ ap (λ n. n + 1) digits-long),
+        getD-at (two-digits r) 10 [] 0 (digits-size-in room) digits-long,
+        take-at (two-digits r) (10 ∷ []) (digits-size-in room) digits-long,
       )
       (spells-two-digits r p)
 
   -- and comes back as it was
-  pub restored-stored : restored (stored r) ≡ r
-  unfolding restored stored
-  restored-stored = rw (take-at (two-digits r) (10 ∷ []) digits-size digits-long) (paired-two-digits r p)
+  pub restored-stored : restored-in room (stored r) ≡ r
+  unfolding restored-in stored
+  restored-stored = rw (take-at (two-digits r) (10 ∷ []) (digits-size-in room) digits-long) (paired-two-digits r p)
 
 value-of-spelled : (b : ℕ) → spells b ≡ true → digit-value b < 16
 unfolding spells
@@ -217,34 +217,34 @@ bytes-paired (a ∷ b ∷ l) e zero =
     omega (arith, value-of-spelled a (all-first spells a (b ∷ l) e), value-of-spelled b (all-first spells b l others))
 bytes-paired (a ∷ b ∷ l) e (suc k) = bytes-paired l (all-others spells b l (all-others spells a (b ∷ l) e)) k
 
-module _ (line : List ℕ) (good : line-accepted line ≡ true) where
-  line-long : length line ≡ line-size
-  unfolding line-accepted
-  line-long = eqb-true (length line) line-size (and-left (eqb (length line) line-size) (eqb (getD line digits-size 0) 10 && all spells (take digits-size line)) good)
+module _ (room : ℕ) (line : List ℕ) (good : line-accepted-in room line ≡ true) where
+  pub line-long : length line ≡ line-size-in room
+  unfolding line-accepted-in
+  line-long = eqb-true (length line) (line-size-in room) (and-left (eqb (length line) (line-size-in room)) (eqb (getD line (digits-size-in room) 0) 10 && all spells (take (digits-size-in room) line)) good)
 
-  line-rest : (eqb (getD line digits-size 0) 10 && all spells (take digits-size line)) ≡ true
-  unfolding line-accepted
-  line-rest = and-right (eqb (length line) line-size) (eqb (getD line digits-size 0) 10 && all spells (take digits-size line)) good
+  line-rest : (eqb (getD line (digits-size-in room) 0) 10 && all spells (take (digits-size-in room) line)) ≡ true
+  unfolding line-accepted-in
+  line-rest = and-right (eqb (length line) (line-size-in room)) (eqb (getD line (digits-size-in room) 0) 10 && all spells (take (digits-size-in room) line)) good
 
-  line-ends : drop digits-size line ≡ 10 ∷ []
+  pub line-ends : drop (digits-size-in room) line ≡ 10 ∷ []
   line-ends =
-      let newline : getD line digits-size 0 ≡ 10 = eqb-true (getD line digits-size 0) 10 (and-left (eqb (getD line digits-size 0) 10) (all spells (take digits-size line)) line-rest) in
-      rw (drop-cons line digits-size 0 (omega (arith, line-long)), newline, drop-of-length-le line {i = 65} (omega (arith, line-long)))
+      let newline : getD line (digits-size-in room) 0 ≡ 10 = eqb-true (getD line (digits-size-in room) 0) 10 (and-left (eqb (getD line (digits-size-in room) 0) 10) (all spells (take (digits-size-in room) line)) line-rest) in
+      rw (drop-cons line (digits-size-in room) 0 (omega (arith, line-long)), newline, drop-of-length-le line {i = suc (digits-size-in room)} (omega (arith, line-long)))
 
-  line-spelled : all spells (take digits-size line) ≡ true
-  line-spelled = and-right (eqb (getD line digits-size 0) 10) (all spells (take digits-size line)) line-rest
+  pub line-spelled : all spells (take (digits-size-in room) line) ≡ true
+  line-spelled = and-right (eqb (getD line (digits-size-in room) 0) 10) (all spells (take (digits-size-in room) line)) line-rest
 
   -- a line that is accepted is a row stored: that of its bytes, as many as a row has
-  pub stored-restored : stored (restored line) ≡ line
-  unfolding stored restored double
+  pub stored-restored : stored (restored-in room line) ≡ line
+  unfolding stored restored-in double
   stored-restored =
-      let long : length (take digits-size line) ≡ 64 = simp length-take (omega (arith, line-long)) in
-      rw (two-digits-paired 32 (take digits-size line) long line-spelled, ← line-ends) (take-append-drop digits-size line)
+      let long : length (take (digits-size-in room) line) ≡ double (row-size-in room) = simp length-take (omega (arith, line-long, doubled (row-size-in room))) in
+      rw (two-digits-paired (row-size-in room) (take (digits-size-in room) line) long line-spelled, ← line-ends) (take-append-drop (digits-size-in room) line)
 
-  pub length-restored : length (restored line) ≡ row-size
-  unfolding restored
-  length-restored = length-paired 32 line (omega (arith, line-long))
+  pub length-restored : length (restored-in room line) ≡ row-size-in room
+  unfolding restored-in
+  length-restored = length-paired (row-size-in room) line (omega (arith, line-long))
 
-  pub bytes-restored : Bytes (restored line)
-  unfolding restored
-  bytes-restored = bytes-paired (take digits-size line) line-spelled
+  pub bytes-restored : Bytes (restored-in room line)
+  unfolding restored-in
+  bytes-restored = bytes-paired (take (digits-size-in room) line) line-spelled

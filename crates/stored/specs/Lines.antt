@@ -5,13 +5,7 @@ use Prim.Native.Nat.{ℕ, _+_, _*_, _-_}
 use lib.Dec.{eqb, ltb, leb}
 use lib.ListN.{length, getD, take, drop}
 use Rattle.rules.specs.Common.{if_then_else_, between, all}
-use Rattle.rules.specs.SettingsAndUnitTable.{row-size, stored}
-
-abbrev pub digits-size : ℕ
-digits-size = 2 * row-size
-
-abbrev pub line-size : ℕ
-line-size = digits-size + 1
+use Rattle.rules.specs.SettingsAndUnitTable.{row-size-in, name-room, row-size, stored}
 
 -- what a lower-case hexadecimal digit stands for, and 16 for a byte that is none
 unfoldable pub digit-value : ℕ → ℕ
@@ -26,12 +20,32 @@ paired [] = []
 paired (a ∷ []) = []
 paired (a ∷ b ∷ rest) = (digit-value a * 16 + digit-value b) ∷ paired rest
 
--- 64 digits and a newline
-unfoldable pub line-accepted : List ℕ → Bool
-line-accepted line = eqb (length line) line-size && (eqb (getD line digits-size 0) 10 && all spells (take digits-size line))
+-- by the room that a row has for its name
+module _ (room : ℕ) where
+  abbrev pub digits-size-in : ℕ
+  digits-size-in = 2 * row-size-in room
 
-unfoldable pub restored : List ℕ → List ℕ
-restored line = paired (take digits-size line)
+  abbrev pub line-size-in : ℕ
+  line-size-in = digits-size-in + 1
+
+  -- the digits of a row and a newline
+  unfoldable pub line-accepted-in : List ℕ → Bool
+  line-accepted-in line = eqb (length line) line-size-in && (eqb (getD line digits-size-in 0) 10 && all spells (take digits-size-in line))
+
+  unfoldable pub restored-in : List ℕ → List ℕ
+  restored-in line = paired (take digits-size-in line)
+
+abbrev pub digits-size : ℕ
+digits-size = digits-size-in name-room
+
+abbrev pub line-size : ℕ
+line-size = line-size-in name-room
+
+abbrev pub line-accepted : List ℕ → Bool
+line-accepted = line-accepted-in name-room
+
+abbrev pub restored : List ℕ → List ℕ
+restored = restored-in name-room
 
 -- ---- into a lent buffer, from its start on
 

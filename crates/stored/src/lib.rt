@@ -1,4 +1,4 @@
-// The stored form of a row: a line of 64 lower-case hexadecimal digits and a newline.
+// The stored form of a row: a line of 96 lower-case hexadecimal digits and a newline.
 ghost use mathlib.Core.Path.{_≡_};
 ghost use mathlib.Core.Bool.{true};
 ghost use mathlib.Core.List.{_++_};
@@ -10,9 +10,9 @@ ghost use Rattle.stored.specs.Lines.{digits-size, digit-value, spells, p
 use rows::fields::ROW_SIZE;
 
 // How many digits a line has, how many bytes, and its last.
-const DIGITS_SIZE: usize = 64;
+const DIGITS_SIZE: usize = 96;
 
-const LINE_SIZE: usize = 65;
+const LINE_SIZE: usize = 97;
 
 const NEWLINE: u8 = 10;
 
@@ -56,7 +56,7 @@ pub fn store_row(row: &[u8], line: &mut [u8]) -> bool
 }
 
 // What a hexadecimal digit stands for, and 16 for a byte that is none.
-fn digit_value(b: u8) -> u8
+pub fn digit_value(b: u8) -> u8
     ensures { λ r. ⌜ r ≡ digit-value b ⌝ }
 {
     match b {
@@ -66,7 +66,7 @@ fn digit_value(b: u8) -> u8
     }
 }
 
-fn spells(part: &[u8]) -> bool
+pub fn spells(part: &[u8]) -> bool
     ensures { λ r. ⌜ r ≡ all spells (now (part .entry)) ⌝ }
 {
     let mut i = 0;

@@ -6,7 +6,7 @@ use Prim.Native.Nat.{ℕ}
 use Rattle.rules.specs.declared.Refusal.{Refusal}
 use Rattle.rules.specs.NumbersHandedBack.{got, refused}
 use Rattle.rules.specs.SettingsAndUnitTable.{rows, Card, card-check}
-use Rattle.card.specs.Laws.Accepted.{card-hall, card-line, row-sized}
+use Rattle.card.specs.Laws.Accepted.{card-hall, card-line, row-padded}
 use Rattle.index.specs.TheSortedIndex.{row-search, row-search-from, index-search, index-search-from, Indexed, indexed-check, looked-up, lookup-answer, indexed-lookup-answer}
 use Rattle.index.specs.Laws.Right.{Right}
 use Rattle.lookup.specs.Searching.{Searchable, searched}
@@ -42,8 +42,8 @@ module _ (card : Card) where
   -- without indexes
   pub rows-searchable : card-check card ≡ got tt → Searchable (card .hall) [] × Searchable (card .line) []
   rows-searchable good = (
-    record { sizes = row-sized (card .settings) (card .hall) (card-hall card good); beside = inl refl },
-    record { sizes = row-sized (card .settings) (card .line) (card-line card good); beside = inl refl },
+    record { rooms = row-padded (card .settings) (card .hall) (card-hall card good); beside = inl refl },
+    record { rooms = row-padded (card .settings) (card .line) (card-line card good); beside = inl refl },
   )
 
 module _ (c : Indexed) where
@@ -65,6 +65,6 @@ module _ (c : Indexed) where
 
   pub both-searchable : indexed-check c ≡ got tt → Searchable (c .card .hall) (c .hall-index) × Searchable (c .card .line) (c .line-index)
   both-searchable good = (
-    record { sizes = row-sized (c .card .settings) (c .card .hall) (card-hall (c .card) (card-good c good)); beside = inr (hall-right c good) },
-    record { sizes = row-sized (c .card .settings) (c .card .line) (card-line (c .card) (card-good c good)); beside = inr (line-right c good) },
+    record { rooms = row-padded (c .card .settings) (c .card .hall) (card-hall (c .card) (card-good c good)); beside = inr (hall-right c good) },
+    record { rooms = row-padded (c .card .settings) (c .card .line) (card-line (c .card) (card-good c good)); beside = inr (line-right c good) },
   )

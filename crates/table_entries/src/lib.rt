@@ -15,6 +15,7 @@ use index::LookedUp;
 use lengths::duration::zero;
 use lookup::both_tables::NEITHER;
 use lookup::both_tables::looked_up;
+use lookup::names::first_word;
 use rows::fields::ROW_SIZE;
 use rules::Answer;
 use rules::Refusal;
@@ -99,7 +100,7 @@ pub fn look_up(settings: &[u64; 25], hall: &[u8], line: &[u8], name: &[u8]) -> L
     let none = &name[..0];
     match card_check(settings, hall, line, none) {
         Checked::Refused(cause) => not_looked_up(cause),
-        Checked::Accepted => looked_up(hall, none, line, none, name),
+        Checked::Accepted => looked_up(hall, none, line, none, name, first_word(name)),
     }
 }
 
@@ -117,6 +118,6 @@ pub fn look_up_indexed(
     let none = &name[..0];
     match indexed_check(settings, hall, hall_index, line, line_index, none) {
         Checked::Refused(cause) => not_looked_up(cause),
-        Checked::Accepted => looked_up(hall, hall_index, line, line_index, name),
+        Checked::Accepted => looked_up(hall, hall_index, line, line_index, name, first_word(name)),
     }
 }

@@ -1,11 +1,10 @@
 -- What an accepted card has besides accepted settings: rows whose products are in range, names that are found where they stand, and numerals
 -- of letters.
 -- Assumes nothing.
-use mathlib.Core.Path.{_≡_, refl, sym, _∙_}
-use mathlib.Core.Bool.{Bool, true, false, false≢true}
+use mathlib.Core.Path.{_≡_, sym, _∙_}
+use mathlib.Core.Bool.{true, false, false≢true}
 use mathlib.Core.List.{List, [], _∷_}
-use Prim.Native.Nat.{ℕ, zero, suc, _+_, _%_, _≤_, _<_}
-use native.Mathlib.Nat.{add-zero, zero-add, suc-add, add-suc, le-of-suc-le-suc}
+use Prim.Native.Nat.{ℕ, _%_, _≤_, _<_}
 use native.Mathlib.Omega.{arith}
 use lib.Dec.{eqb, leb}
 use lib.ListN.{length}
@@ -14,39 +13,17 @@ use Rattle.rules.specs.declared.Settings.{Settings}
 use Rattle.rules.specs.declared.Refusal.{Refusal}
 use Rattle.rules.specs.declared.Refusal.the-variants.{TableSize, BadRow, LineSize, BadLineRow, NumeralsSize}
 use Rattle.rules.specs.declared.Found.the-variants.{Row, Nowhere}
-use Rattle.rules.specs.Common.{if_then_else_, all, starts}
-use Rattle.rules.specs.NumbersHandedBack.{Outcome, got, refused, _>>_, unless}
-use Rattle.rules.specs.SettingsAndUnitTable.{LETTER, is, settings-check, most-rows, row-size, name-room, rows, row, name-size, name, product, in-range, row-right, row-accepted, numeral-accepted, whole-rows, rows-check, units-check, table-check, line-check, numerals-check, Card, card-check, lookup}
+use Rattle.rules.specs.Common.{all, starts}
+use Rattle.rules.specs.NumbersHandedBack.{got, _>>_, unless}
+use Rattle.rules.specs.SettingsAndUnitTable.{LETTER, is, settings-check, most-rows, row-size, rows, row, name, product, in-range, row-right, row-accepted, numeral-accepted, numeral-accepted-in, whole-rows-in, units-check, units-check-in, table-check, line-check, numerals-check, numerals-check-in, Card, card-check, lookup}
 use Rattle.rules.specs.Laws.Choices.{and-left, and-right, all-first}
-use Rattle.rules.specs.Laws.Outcomes.{not-got}
-use Rattle.settings.specs.Laws.Accepted.{passed, passed-both}
+use Rattle.rules.specs.Laws.Outcomes.{passed, passed-both}
+use Rattle.rules.specs.Laws.RowsCheck.{rows-good, rows-all}
 use Rattle.rows.specs.Laws.Lookup.{same-refl, lookup-here, past, unnamed}
 use Rattle.rows.specs.Laws.Rows.{length-row}
-use Rattle.card.specs.Fields.{padded}
-use Rattle.card.specs.Laws.Names.{size-most, name-some}
+use Rattle.rows.specs.Named.{Padded}
+use Rattle.rows.specs.Laws.Rooms.{name-some}
 use Rattle.card.specs.Laws.Table.{formed-padded, formed-name, row-both, right-padded, right-unnamed, right-in-range}
-
--- ---- rows that pass a check
-
-chosen : (bad : Refusal) (test : Bool) (more : Outcome (Unit {0})) → (if test then more else refused bad) ≡ got tt → (test ≡ true) × (more ≡ got tt)
-unfolding if_then_else_
-chosen bad true more e = (refl, e)
-chosen bad false more e = absurd (not-got bad e)
-
-pub rows-good : (test : ℕ → Bool) (bad : ℕ → Refusal) (n i k : ℕ) → rows-check test bad i n ≡ got tt → k < n → test (i + k) ≡ true
-unfolding rows-check
-rows-good test bad zero i k e below = absurd (omega arith)
-rows-good test bad (suc n) i zero e below = rw add-zero (chosen (bad i) (test i) (rows-check test bad (suc i) n) e .0)
-rows-good test bad (suc n) i (suc k) e below =
-    rw (add-suc i k, ← (suc-add i k))
-    (rows-good test bad n (suc i) k (chosen (bad i) (test i) (rows-check test bad (suc i) n) e .1) (le-of-suc-le-suc below))
-
-pub rows-all : (test : ℕ → Bool) (bad : ℕ → Refusal) (n i : ℕ) → ((k : ℕ) → k < n → test (i + k) ≡ true) → rows-check test bad i n ≡ got tt
-unfolding rows-check if_then_else_
-rows-all test bad zero i each = refl
-rows-all test bad (suc n) i each =
-    let here : test i ≡ true = rw (← (add-zero i)) (each 0 (omega arith)) in
-    rw (here, rows-all test bad n (suc i) (λ k below. rw (suc-add i k, ← (add-suc i k)) (each (suc k) (omega arith))))
 
 -- ---- a table of units, the hall's or the line's
 
@@ -58,30 +35,30 @@ pub record UnitsGood (s : Settings) (table : List ℕ) : Type 0 where
 
 module _ (size : Refusal) (bad : ℕ → Refusal) (s : Settings) (table : List ℕ) where
   pub units-good : units-check size bad s table ≡ got tt → UnitsGood s table
-  unfolding units-check whole-rows
+  unfolding units-check-in whole-rows-in
   units-good good =
       let sized = passed size _ _ good .0 in
       record {
         whole = eqb-true (length table % row-size) 0 (and-left (eqb (length table % row-size) 0) (leb (rows table) most-rows) sized);
         most = leb-true (rows table) most-rows (and-right (eqb (length table % row-size) 0) (leb (rows table) most-rows) sized);
-        each = λ i below. rw (zero-add i) at (rows-good _ _ (rows table) 0 i (passed size _ _ good .1) below);
+        each = λ i below. rows-good _ _ (rows table) i (passed size _ _ good .1) below;
       }
 
   -- and nothing more is asked
   pub units-accepted : UnitsGood s table → units-check size bad s table ≡ got tt
-  unfolding units-check whole-rows unless _>>_
+  unfolding units-check-in whole-rows-in unless _>>_
   units-accepted good =
       rw (eq-eqb _ _ (good .whole), le-leb _ _ (good .most))
-      (rows-all (row-accepted s table) bad (rows table) 0 (λ k below. rw zero-add (good .each k below)))
+      (rows-all (row-accepted s table) bad (rows table) (good .each))
 
 module _ (s : Settings) (table : List ℕ) (good : UnitsGood s table) where
   -- so each passes document 01's tests
   pub rows-right : (i : ℕ) → i < rows table → row-right s table i ≡ true
   rows-right i below = row-both s table i (good .each i below) .0
 
-  -- a row has room for its name
-  pub row-sized : (i : ℕ) → i < rows table → name-size (row table i) ≤ name-room
-  row-sized i below = size-most (row table i) (length-row table i below) (right-padded s table i (rows-right i below))
+  -- zeros stand after its name
+  pub row-padded : Padded table
+  row-padded i below = right-padded s table i (rows-right i below)
 
   -- the bound that evaluation needs
   pub row-in-range : (i : ℕ) → i < rows table → in-range (product (row table i)) ≡ true
@@ -129,18 +106,15 @@ lookup-empty s table good =
 
 module _ (numerals : List ℕ) (good : numerals-check numerals ≡ got tt) where
   numeral-good : (i : ℕ) → i < rows numerals → numeral-accepted numerals i ≡ true
-  unfolding numerals-check
-  numeral-good i below = rw (zero-add i) at (rows-good _ _ (rows numerals) 0 i (passed NumeralsSize _ _ good .1) below)
+  unfolding numerals-check-in
+  numeral-good i below = rows-good _ _ (rows numerals) i (passed NumeralsSize _ _ good .1) below
 
-  numeral-padded : (i : ℕ) → i < rows numerals → padded (row numerals i) ≡ true
-  unfolding numeral-accepted
+  pub numeral-padded : Padded numerals
+  unfolding numeral-accepted-in
   numeral-padded i below = formed-padded _ _ numerals i (numeral-good i below)
 
-  pub numeral-sized : (i : ℕ) → i < rows numerals → name-size (row numerals i) ≤ name-room
-  numeral-sized i below = size-most (row numerals i) (length-row numerals i below) (numeral-padded i below)
-
   numeral-lettered : (i : ℕ) → i < rows numerals → all (is LETTER) (name (row numerals i)) ≡ true
-  unfolding numeral-accepted
+  unfolding numeral-accepted-in
   numeral-lettered i below = formed-name _ _ numerals i (numeral-good i below)
 
   -- what begins with no letter is no numeral

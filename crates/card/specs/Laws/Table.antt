@@ -14,23 +14,25 @@ use Rattle.rules.specs.declared.Settings.{Settings}
 use Rattle.rules.specs.declared.Refusal.{Refusal}
 use Rattle.rules.specs.Common.{if_then_else_, all, between, same}
 use Rattle.rules.specs.NumbersHandedBack.{got, refused, _>>_, unless}
-use Rattle.rules.specs.SettingsAndUnitTable.{last-kind, second-kind, zeros-at, row-size, rows, row, name, kind, may-name, named, product, in-range, led-by-e, e-may-lead, can-be-typed, row-formed, row-right, row-accepted, numeral-accepted, whole-rows, rows-check}
+use Rattle.rules.specs.SettingsAndUnitTable.{last-kind, second-kind, zeros-at, row-size, rows, rows-in, row, row-in, name, kind, name-size, may-name, named, named-in, product, in-range, led-by-e, e-may-lead, can-be-typed, row-formed, row-formed-in, row-right, row-right-in, row-accepted, row-accepted-in, numeral-accepted, numeral-accepted-in, whole-rows, whole-rows-in, rows-check}
 use Rattle.rules.specs.Laws.Choices.{and-left, and-right}
 use Rattle.rules.specs.Laws.Lists.{Bytes}
+use Rattle.rules.specs.Laws.RowsCheck.{rows-alike}
 use Rattle.rules.specs.Laws.Tests.{and-assoc, and-true, and-false, or-true, or-false, same-test, between-from, between-to, between-in}
 use Rattle.words.specs.LowFirst.{bytes-part}
 use Rattle.settings.specs.Sets.{bytes-of, passes}
-use Rattle.card.specs.declared.table.Further.the-variants.{Nothing, NotLedByE, AsciiSeconds}
-use Rattle.card.specs.declared.table.RowRule.{RowRule}
-use Rattle.card.specs.Fields.{padded, unnameable, no-letters, asked-further, alone, ruled, tested, tabled}
-use Rattle.card.specs.Laws.Names.{names-alike}
+use Rattle.card.specs.declared.row.Further.the-variants.{Nothing, NotLedByE, AsciiSeconds}
+use Rattle.card.specs.declared.row.RowRule.{RowRule}
+use Rattle.rows.specs.Named.{padded}
+use Rattle.card.specs.Fields.{Letterless, Simple, unnameable, no-letters, asked-further, name-right, fields-right, alone, ruled, tested, tabled}
+use Rattle.card.specs.Laws.Names.{names-alike, letters-outside}
 use Rattle.card.specs.Laws.Unnameable.{outside-names, outside-letters}
 
 -- ---- names before a row: one of the first n rows
 
 module _ (table wanted : List ℕ) where
   pub named-earlier : (n i : ℕ) → i < n → same (name (row table i)) wanted ≡ true → named table wanted n ≡ true
-  unfolding named
+  unfolding named-in
   named-earlier zero i h = absurd (omega arith)
   named-earlier (suc n) i h =
       below-more (λ i. same (name (row table i)) wanted ≡ true → named table wanted (suc n) ≡ true) n
@@ -40,7 +42,7 @@ module _ (table wanted : List ℕ) where
       (omega arith)
 
   pub named-not-yet : (n : ℕ) → same (name (row table n)) wanted ≡ false → named table wanted n ≡ false → named table wanted (n + 1) ≡ false
-  unfolding named
+  unfolding named-in
   named-not-yet n other others = rw (add-one n, other) others
 
 -- ---- row by row
@@ -75,6 +77,12 @@ module _ (test : ℕ → Bool) where
     unfolding bad-from first-bad if_then_else_
     bad-next e = rw (counted, e, add-one i)
 
+  -- rows that pass leave it to those behind them
+  pub bad-after : (n i : ℕ) → i ≤ n → ((j : ℕ) → j < i → test j ≡ true) → bad-from n i ≡ first-bad test 0 n
+  bad-after n zero h each = bad-start n
+  bad-after n (suc i) h each =
+      rw (← (add-one i)) (sym (bad-next n i (omega arith) (each i (omega arith))) ∙ bad-after n i (omega arith) (λ j below. each j (omega arith)))
+
   -- the check refuses the first bad row
   module _ (bad : ℕ → Refusal) where
     checked : (n i : ℕ) → rows-check test bad i n ≡ (if ltb (first-bad test i n) (i + n) then refused (bad (first-bad test i n)) else got tt)
@@ -102,26 +110,26 @@ module _ (test : ℕ → Bool) where
 
 module _ (size : Refusal) (most : ℕ) (test : ℕ → Bool) (bad : ℕ → Refusal) (table : List ℕ) where
   pub half-a-row : (length table % row-size ≡ 0 → ⊥) → refused size ≡ tabled size most test bad table
-  unfolding whole-rows unless _>>_
+  unfolding whole-rows-in unless _>>_
   half-a-row h = rw (ne-eqb _ _ h)
 
   pub too-many : most < length table / row-size → refused size ≡ tabled size most test bad table
-  unfolding whole-rows unless _>>_ rows
+  unfolding whole-rows-in unless _>>_ rows-in
   too-many h = rw (lt-leb _ _ h, and-false)
 
   module _
       (whole : length table % row-size ≡ 0) (few : length table / row-size ≤ most)
       {first : ℕ} (found : first ≡ first-bad test 0 (rows table)) where
     sized : tabled size most test bad table ≡ rows-check test bad 0 (rows table)
-    unfolding whole-rows unless _>>_ rows
+    unfolding whole-rows-in unless _>>_ rows-in
     sized = rw (eq-eqb _ _ whole, le-leb _ _ few)
 
     pub row-refused : first < length table / row-size → refused (bad first) ≡ tabled size most test bad table
-    unfolding rows
+    unfolding rows-in
     row-refused h = ap (λ i. refused (bad i)) found ∙ sym (sized ∙ check-bad test bad (rows table) (rw (← found) h))
 
     pub all-accepted : length table / row-size ≤ first → got tt ≡ tabled size most test bad table
-    unfolding rows
+    unfolding rows-in
     all-accepted h = sym (sized ∙ check-good test bad (rows table) (rw (← found) h))
 
 -- tests that agree come to the same
@@ -129,16 +137,12 @@ pub tabled-alike :
     (size : Refusal) (most : ℕ) (test other : ℕ → Bool) (bad : ℕ → Refusal) (table : List ℕ)
     → ((i : ℕ) → test i ≡ other i)
     → tabled size most test bad table ≡ tabled size most other bad table
-unfolding rows-check
-tabled-alike size most test other bad table alike = ap (λ rows. unless size (whole-rows most table) >> rows) (go (rows table) 0)
-  where
-    go : (n i : ℕ) → rows-check test bad i n ≡ rows-check other bad i n
-    go zero i = refl
-    go (suc n) i = rw (alike i, go n (suc i))
+tabled-alike size most test other bad table alike =
+    ap (λ rows. unless size (whole-rows most table) >> rows) (rows-alike test other bad (rows table) (λ i below. alike i))
 
 -- no rows are good
 pub no-rows : (size : Refusal) (most : ℕ) (test : ℕ → Bool) (bad : ℕ → Refusal) (table : List ℕ) → length table ≡ 0 → got tt ≡ tabled size most test bad table
-unfolding whole-rows rows rows-check unless _>>_
+unfolding whole-rows-in rows-in rows-check unless _>>_
 no-rows size most test bad table h = rw (h, le-leb 0 most zero-le)
 
 -- ---- the form of a row
@@ -150,7 +154,7 @@ module _ (of-kind of-name : ℕ → Bool) (table : List ℕ) (i : ℕ) where
       && (of-kind (kind (row table i))
       && (all (eqb 0) (drop zeros-at (row table i))
       && (all of-name (name (row table i)) && (not (named table (name (row table i)) i) && in-range (product (row table i)))))))
-  unfolding row-formed padded
+  unfolding row-formed-in padded
   formed-parts = simp and-assoc
 
   module _ (good : row-formed of-kind of-name table i ≡ true) where
@@ -181,7 +185,7 @@ formed-alike :
     → ((b : ℕ) → b < 256 → of-name b ≡ name-too b)
     → (table : List ℕ) → Bytes table
     → (i : ℕ) → row-formed of-kind of-name table i ≡ row-formed kind-too name-too table i
-unfolding row
+unfolding row-in
 formed-alike {of-kind} {kind-too} of-name name-too kinds names table bytes i =
     formed-parts of-kind of-name table i
     ∙ rw (kinds _, names-alike of-name name-too names (row table i) (bytes-part table row-size (row-size * i) bytes)) (sym (formed-parts kind-too name-too table i))
@@ -218,47 +222,66 @@ formed-also of-kind kind-also of-name name-also table i =
 -- ---- a row of units
 
 pub row-both : (s : Settings) (table : List ℕ) (i : ℕ) → row-accepted s table i ≡ true → (row-right s table i ≡ true) × (can-be-typed s (name (row table i)) ≡ true)
-unfolding row-accepted
+unfolding row-accepted-in
 row-both s table i good = (and-left _ _ good, and-right (row-right s table i) _ good)
 
 module _ (s : Settings) (table : List ℕ) (i : ℕ) (good : row-right s table i ≡ true) where
   pub right-padded : padded (row table i) ≡ true
-  unfolding row-right
+  unfolding row-right-in
   right-padded = formed-padded _ _ table i good
 
   pub right-name : all (may-name s) (name (row table i)) ≡ true
-  unfolding row-right
+  unfolding row-right-in
   right-name = formed-name _ _ table i good
 
   pub right-unnamed : named table (name (row table i)) i ≡ false
-  unfolding row-right
+  unfolding row-right-in
   right-unnamed = formed-unnamed _ _ table i good
 
   pub right-in-range : in-range (product (row table i)) ≡ true
-  unfolding row-right
+  unfolding row-right-in
   right-in-range = formed-in-range _ _ table i good
 
 -- ---- rules
 
 -- what a row has by itself, and that no earlier one has its name
 pub ruled-alone : (rule : RowRule) (table : List ℕ) (i : ℕ) → ruled rule table i ≡ (alone rule (row table i) && not (named table (name (row table i)) i))
-unfolding ruled alone
+unfolding ruled alone name-right fields-right
 ruled-alone rule table i =
     let r : List ℕ = row table i in
     rw (formed-parts (between 0 last-kind) (passes (bytes-of (rule .set)) false) table i)
     (go (padded r) (between 0 last-kind (kind r)) (all (eqb 0) (drop zeros-at r)) (all (passes (bytes-of (rule .set)) false) (name r)) (not (named table (name r) i)) (in-range (product r)) (asked-further (rule .further) r))
   where
-    go : (p k z n u m f : Bool) → ((p && (k && (z && (n && (u && m))))) && f) ≡ ((p && (k && (z && (n && (m && f))))) && u)
+    go : (p k z n u m f : Bool) → ((p && (k && (z && (n && (u && m))))) && f) ≡ (((p && n) && ((k && (z && m)) && f)) && u)
     go false k z n u m f = refl
-    go true false z n u m f = refl
-    go true true false n u m f = refl
+    go true false z false u m f = refl
+    go true false z true u m f = refl
+    go true true false false u m f = refl
+    go true true false true u m f = refl
     go true true true false u m f = refl
     go true true true true false m f = sym (and-false (m && f))
     go true true true true true m f = sym (and-true (m && f))
 
+-- a row as nearly all are has all that is asked by itself, but what is asked further
+pub simple-alone :
+    (rule : RowRule)
+    → Letterless (bytes-of (rule .set))
+    → (r : List ℕ) → Bytes r
+    → Simple r
+    → asked-further (rule .further) r ≡ true
+    → alone rule r ≡ true
+unfolding alone name-right name
+simple-alone rule none r bytes simple further =
+    rw (
+      simple .0,
+      letters-outside (bytes-of (rule .set)) none (name r) (bytes-part r (name-size r) 1 bytes) (simple .1),
+      simple .2,
+      further,
+    )
+
 pub alone-padded : (rule : RowRule) (r : List ℕ) → alone rule r ≡ true → padded r ≡ true
-unfolding alone
-alone-padded rule r good = and-left _ _ good
+unfolding alone name-right
+alone-padded rule r good = and-left _ _ (and-left _ _ good)
 
 pub ruled-padded : (rule : RowRule) (table : List ℕ) (i : ℕ) → ruled rule table i ≡ true → padded (row table i) ≡ true
 unfolding ruled
@@ -280,7 +303,7 @@ pub unit-ruled :
     → rule .further ≡ (if e-may-lead s then Nothing else NotLedByE)
     → (table : List ℕ) → Bytes table
     → (i : ℕ) → ruled rule table i ≡ row-accepted s table i
-unfolding ruled row-accepted row-right can-be-typed asked-further if_then_else_
+unfolding ruled row-accepted-in row-right-in can-be-typed asked-further if_then_else_
 unit-ruled rule s set further table bytes i =
     rw (set, further) (ap₂ _&&_ (formed-alike _ _ (λ k. refl) (outside-names s) table bytes i) (go (e-may-lead s)))
   where
@@ -295,7 +318,7 @@ pub numeral-ruled :
     → rule .further ≡ AsciiSeconds
     → (table : List ℕ) → Bytes table
     → (i : ℕ) → ruled rule table i ≡ numeral-accepted table i
-unfolding ruled numeral-accepted asked-further
+unfolding ruled numeral-accepted-in asked-further
 numeral-ruled rule set further table bytes i =
     rw (set, further) (formed-also _ _ _ _ table i ∙ formed-alike _ _ seconds outside-letters table bytes i)
   where

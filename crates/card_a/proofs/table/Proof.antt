@@ -1,4 +1,4 @@
--- `card_a::table` meets its contract: the 192 bytes are the definition's, computed. Assumes nothing.
+-- `card_a::table` meets its contract: the 288 bytes are the definition's, computed. Assumes nothing.
 use mathlib.Core.Path.{refl}
 use Rattle.rules.specs.Common.{ascii}
 use Rattle.rules.specs.SettingsAndUnitTable.{low-bytes}

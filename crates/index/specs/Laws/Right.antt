@@ -17,9 +17,9 @@ use Rattle.rules.specs.declared.Refusal.{Refusal}
 use Rattle.rules.specs.NumbersHandedBack.{got, _>>_, unless}
 use Rattle.rules.specs.SettingsAndUnitTable.{rows, row, name, lookup}
 use Rattle.rules.specs.Laws.Choices.{and-left, and-right, and-both, if-either}
-use Rattle.settings.specs.Laws.Accepted.{passed}
+use Rattle.rules.specs.Laws.Outcomes.{passed}
+use Rattle.rules.specs.Laws.RowsCheck.{rows-good, rows-all}
 use Rattle.rows.specs.Laws.Lookup.{lookup-found, lookup-nowhere}
-use Rattle.card.specs.Laws.Accepted.{rows-good, rows-all}
 use Rattle.index.specs.declared.Order.{Order}
 use Rattle.index.specs.declared.Order.the-variants.{Before, Same, After}
 use Rattle.index.specs.TheSortedIndex.{order, before, count, names-before, rank, entry-right, index-check, ranked-from, entries-from, index-of}
@@ -56,10 +56,10 @@ index-accepts wrong table index = (there, back)
     there : index-check wrong table index ≡ got tt → Right table index
     there good =
         let (sized, each) = passed (wrong (rows table)) (eqb (length index) (rows table)) _ good in
-        record { long = eqb-true (length index) (rows table) sized; each = λ k below. rw (zero-add k) at (rows-good _ _ (rows table) 0 k each below) }
+        record { long = eqb-true (length index) (rows table) sized; each = λ k below. rows-good _ _ (rows table) k each below }
 
     back : Right table index → index-check wrong table index ≡ got tt
-    back right = rw (eq-eqb _ _ (right .long)) (rows-all _ _ (rows table) 0 (λ k below. rw zero-add (right .each k below)))
+    back right = rw (eq-eqb _ _ (right .long)) (rows-all _ _ (rows table) (right .each))
 
 -- ---- ranks
 

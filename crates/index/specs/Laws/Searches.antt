@@ -11,7 +11,7 @@ use borrow.Author.Tests.{ltb-true, ltb-false, lt-ltb, le-ltb}
 use Rattle.rules.specs.declared.Found.{Found}
 use Rattle.rules.specs.declared.Found.the-variants.{Row, Nowhere}
 use Rattle.rules.specs.Common.{if_then_else_, same}
-use Rattle.rules.specs.SettingsAndUnitTable.{rows, row, name, lookup-from, lookup}
+use Rattle.rules.specs.SettingsAndUnitTable.{rows, row, name, lookup-from, lookup-from-in, lookup, lookup-in}
 use Rattle.rules.specs.Laws.Choices.{if-either}
 use Rattle.rows.specs.Laws.Lookup.{unnamed}
 use Rattle.index.specs.declared.Order.{Order}
@@ -32,7 +32,7 @@ by-either P After f g h = h refl
 
 module _ (table wanted : List ℕ) where
   searched-from : (n i : ℕ) → row-search-from table wanted i n .found ≡ lookup-from table wanted i n
-  unfolding row-search-from lookup-from if_then_else_
+  unfolding row-search-from lookup-from-in if_then_else_
   searched-from zero i = refl
   searched-from (suc n) i = go (same (name (row table i)) wanted) (searched-from n (suc i))
     where
@@ -44,7 +44,7 @@ module _ (table wanted : List ℕ) where
       go false e = e
 
   pub row-search-finds : row-search table wanted .found ≡ lookup table wanted
-  unfolding row-search lookup
+  unfolding row-search lookup-in
   row-search-finds = searched-from (rows table) 0
 
   most-from : (n i : ℕ) → row-search-from table wanted i n .compared ≤ n

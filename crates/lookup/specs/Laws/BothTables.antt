@@ -1,5 +1,5 @@
 -- What is found in both tables, by what is found in each. Assumes nothing.
-use mathlib.Core.Path.{_≡_, refl, sym, ap, ap₂, _∙_}
+use mathlib.Core.Path.{_≡_, refl, sym, ap, _∙_}
 use mathlib.Core.List.{List, [], _∷_}
 use mathlib.Core.Logic.{inl, inr}
 use Prim.Native.Nat.{ℕ, _+_, _*_, _≤_, _<_}
@@ -9,7 +9,7 @@ use lib.ListN.{length}
 use Rattle.rules.specs.declared.Found.{Found}
 use Rattle.rules.specs.declared.Found.the-variants.{Row, Nowhere}
 use Rattle.rules.specs.NumbersHandedBack.{got}
-use Rattle.rules.specs.SettingsAndUnitTable.{row-size, rows, row, lookup, Holder, Line, Hall, Neither, line-first, stands, held-row}
+use Rattle.rules.specs.SettingsAndUnitTable.{row-size, rows, rows-in, row, lookup, Holder, Line, Hall, Neither, line-first, stands, held-row}
 use Rattle.rows.specs.Laws.Lookup.{lookup-found}
 use Rattle.index.specs.declared.Searched.{Searched}
 use Rattle.index.specs.declared.LookedUp.{LookedUp}
@@ -43,7 +43,7 @@ searched-most table (k ∷ index) wanted = index-search-most table (k ∷ index)
 
 -- a number of rows is small beside the bytes that they have
 pub rows-few : (table : List ℕ) {n : ℕ} → n ≤ rows table → row-size * n ≤ length table
-unfolding rows
+unfolding rows-in
 rows-few table h = omega arith
 
 -- so that the counts of two searches can be added

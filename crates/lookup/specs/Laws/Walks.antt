@@ -10,12 +10,12 @@ use lib.ListN.{length, take, drop, length-drop}
 use lib.Seq.{drop-drop, take-all}
 use Rattle.rules.specs.declared.Found.the-variants.{Row, Nowhere}
 use Rattle.rules.specs.Common.{if_then_else_, same}
-use Rattle.rules.specs.SettingsAndUnitTable.{row-size, name-room, rows, row, name-size, name}
-use Rattle.rows.specs.Named.{Sized, found-row, row-named}
+use Rattle.rules.specs.SettingsAndUnitTable.{row-size, rows, rows-in, row, row-in, name}
+use Rattle.rows.specs.Named.{padded, Padded, found-row, row-named}
 use Rattle.rows.specs.Laws.Rows.{length-row}
 use Rattle.index.specs.declared.Searched.{Searched}
 use Rattle.index.specs.declared.Order.the-variants.{Before, Same, After}
-use Rattle.index.specs.TheSortedIndex.{order, here, row-search-from, row-search, by-order, index-search}
+use Rattle.index.specs.TheSortedIndex.{order, row-search-from, row-search, by-order, index-search}
 use Rattle.index.specs.Laws.Right.{entry, entry-name}
 use Rattle.index.specs.Laws.Searches.{row-search-finds, probes, probes-all, probes-none, probes-more}
 
@@ -43,24 +43,24 @@ module _ {table wanted : List ℕ} {at : ℕ} {rest : List ℕ} (w : Walking tab
 
   -- none is left
   pub walk-ends : length rest < row-size → record { found = Nowhere; compared = at } ≡ row-search table wanted
-  unfolding rows row-search-from
+  unfolding rows-in row-search-from
   walk-ends h =
       let done : rows table - at ≡ 0 = omega (arith, rest-long) in
       counted _ (omega arith) ∙ rw done at (w .decides)
 
   module _ (more : row-size ≤ length rest) where
     pub walk-below : at < rows table
-    unfolding rows
+    unfolding rows-in
     walk-below = omega (arith, rest-long)
 
     -- rows are counted by a number that a table's size has room for
     pub walk-fits : at + 1 ≤ length table
-    unfolding rows
+    unfolding rows-in
     walk-fits = omega (arith, walk-below)
 
     -- the row that is asked, the first of the rest
     pub walk-row : take row-size rest ≡ row table at
-    unfolding row
+    unfolding row-in
     walk-row = ap (take row-size) (w .further)
 
     pub walk-long : length (take row-size rest) ≡ row-size
@@ -73,9 +73,9 @@ module _ {table wanted : List ℕ} {at : ℕ} {rest : List ℕ} (w : Walking tab
     walk-asks : {b : Bool} → same (name (take row-size rest)) wanted ≡ b → same (name (row table at)) wanted ≡ b
     walk-asks e = ap (λ r. same (name r) wanted) (sym walk-row) ∙ e
 
-    -- which it may be asked: it is a row, and has room for its name
-    pub walk-sized : Sized table → (length (take row-size rest) ≡ row-size) × (name-size (take row-size rest) ≤ name-room)
-    walk-sized sizes = (walk-long, rw walk-row (sizes at walk-below))
+    -- which it may be asked: it is a row, with zeros after its name
+    pub walk-padded : Padded table → (length (take row-size rest) ≡ row-size) × (padded (take row-size rest) ≡ true)
+    walk-padded rooms = (walk-long, rw walk-row (rooms at walk-below))
 
     pub walk-finds : same (name (take row-size rest)) wanted ≡ true → record { found = Row at; compared = at + 1 } ≡ row-search table wanted
     unfolding row-search-from if_then_else_
@@ -126,7 +126,7 @@ module _ {table index wanted : List ℕ} {low high compared : ℕ} (p : Probing 
 
     -- what is counted fits a number that a table's size has room for
     pub probe-fits : (low + high ≤ length table) × (compared + 1 ≤ length table)
-    unfolding rows
+    unfolding rows-in
     probe-fits = (omega (arith, p .within), omega (arith, p .gone))
 
     pub probe-finds : order wanted (entry-name table index middle) ≡ Same → record { found = Row (entry index middle); compared = compared + 1 } ≡ index-search table index wanted

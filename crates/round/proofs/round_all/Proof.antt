@@ -7,7 +7,7 @@ use Rattle.round.proofs.round_all.Statement.{statement}
 use Rattle.round.proofs.round_all.Tie as tie
 
 abbrev Inv-loop : tie.InvT-loop
-Inv-loop hall₀ line₀ numerals₀ tally₀ left₀ hall line numerals tally left = (length hall ≡ 8192) × (length line ≡ 8192) × (length numerals ≡ 8192)
+Inv-loop hall₀ line₀ numerals₀ tally₀ left₀ hall line numerals tally left = (length hall ≡ 12288) × (length line ≡ 12288) × (length numerals ≡ 12288)
 
 abbrev μ-loop : tie.MeasureT-loop
 μ-loop hall₀ line₀ numerals₀ tally₀ left₀ hall line numerals tally left = left

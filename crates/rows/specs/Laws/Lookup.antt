@@ -14,7 +14,7 @@ use borrow.Author.Tests.{eq-eqb, eqb-true, eqb-false}
 use Rattle.rules.specs.declared.Found.{Found}
 use Rattle.rules.specs.declared.Found.the-variants.{Row, Nowhere}
 use Rattle.rules.specs.Common.{if_then_else_, same}
-use Rattle.rules.specs.SettingsAndUnitTable.{row-size, rows, row, name, named, lookup-from, lookup, line-first, stands, held-row, find-row}
+use Rattle.rules.specs.SettingsAndUnitTable.{row-size, rows, row, name, named, named-in, lookup-from, lookup-from-in, lookup, lookup-in, line-first, stands, held-row, find-row}
 use Rattle.rules.specs.Laws.Choices.{if-either, and-left, and-right, or-neither}
 use Rattle.rows.specs.Named.{found-row, row-named}
 use Rattle.rows.specs.Laws.Rows.{length-row}
@@ -56,17 +56,17 @@ rest-of-lookup table wanted i = lookup-from table wanted i (rows table - i)
 
 module _ (table wanted : List ℕ) where
   pub lookup-start : rest-of-lookup table wanted 0 ≡ lookup table wanted
-  unfolding lookup rest-of-lookup
+  unfolding lookup-in rest-of-lookup
   lookup-start = rw sub-zero
 
   pub lookup-here : (i : ℕ) → i < rows table → same (name (row table i)) wanted ≡ true → rest-of-lookup table wanted i ≡ Row i
-  unfolding rest-of-lookup lookup-from if_then_else_
+  unfolding rest-of-lookup lookup-from-in if_then_else_
   lookup-here i h e =
       let counted : rows table - i ≡ suc (rows table - (i + 1)) = omega arith in
       rw (counted, e)
 
   pub lookup-next : (i : ℕ) → i < rows table → same (name (row table i)) wanted ≡ false → rest-of-lookup table wanted i ≡ rest-of-lookup table wanted (i + 1)
-  unfolding rest-of-lookup lookup-from if_then_else_
+  unfolding rest-of-lookup lookup-from-in if_then_else_
   lookup-next i h e =
       let counted : rows table - i ≡ suc (rows table - (i + 1)) = omega arith in
       rw (counted, e, add-one i)
@@ -83,7 +83,7 @@ data Looked (table wanted : List ℕ) (i n : ℕ) : Found → Type 0 where
   nowhere : ((k : ℕ) → i ≤ k → k < i + n → name (row table k) ≡ wanted → ⊥) → Looked table wanted i n Nowhere
 
 looked : (table wanted : List ℕ) (n i : ℕ) → Looked table wanted i n (lookup-from table wanted i n)
-unfolding lookup-from
+unfolding lookup-from-in
 looked table wanted zero i = nowhere (λ k from to e. omega arith)
 looked table wanted (suc n) i =
     if-either (Looked table wanted i (suc n)) (same (name (row table i)) wanted)
@@ -107,7 +107,7 @@ found-nowhere (nowhere none) = none
 
 module _ (table wanted : List ℕ) where
   looked-all : Looked table wanted 0 (rows table) (lookup table wanted)
-  unfolding lookup
+  unfolding lookup-in
   looked-all = looked table wanted (rows table) 0
 
   -- a row that is found lies in the table and has the name
@@ -122,7 +122,7 @@ module _ (table wanted : List ℕ) where
 
 -- a lookup goes past rows that have other names
 pub past : (table wanted : List ℕ) (n : ℕ) → n ≤ rows table → named table wanted n ≡ false → lookup table wanted ≡ rest-of-lookup table wanted n
-unfolding named
+unfolding named-in
 past table wanted zero most none = sym (lookup-start table wanted)
 past table wanted (suc n) most none =
     let (other, others) = or-neither (same (name (row table n)) wanted) (named table wanted n) none in

@@ -10,7 +10,7 @@ use lib.Dec.{leb, ltb, lit<}
 use borrow.Author.Tests.{le-leb, lt-leb, leb-true, leb-false, ltb-true, lt-ltb}
 use Rattle.rules.specs.declared.Multiplier.{Multiplier}
 use Rattle.rules.specs.Common.{if_then_else_, all}
-use Rattle.rules.specs.SettingsAndUnitTable.{coefficient-size, coefficient-field, power-size, row-size, name-room, rows, row, name-size, name, kind, power-field, below-zero, magnitude, kind-coefficients, kind-downs, kind-multiplier, row-multiplier, times, product, in-range}
+use Rattle.rules.specs.SettingsAndUnitTable.{coefficient-size, coefficient-field, power-size, row-size, name-room, rows, rows-in, row, row-in, name-size, name, kind, power-field, below-zero, magnitude, kind-coefficients, kind-downs, kind-multiplier, row-multiplier, row-multiplier-in, times, product, product-in, in-range}
 use Rattle.rules.specs.Laws.Choices.{if-either, and-left, and-right}
 use Rattle.rules.specs.Laws.Tests.{and-true, same-test}
 use Rattle.rules.specs.Laws.Lists.{all-at}
@@ -18,11 +18,11 @@ use Rattle.rows.specs.Powers.{risen, fallen, Fitting}
 
 -- a row of the table lies in it whole
 pub row-within : (table : List ℕ) (i : ℕ) → i < rows table → row-size * i + row-size ≤ length table
-unfolding rows
+unfolding rows-in
 row-within table i h = omega arith
 
 pub length-row : (table : List ℕ) (i : ℕ) → i < rows table → length (row table i) ≡ row-size
-unfolding row
+unfolding row-in
 length-row table i h = simp (length-take, length-drop) (omega (arith, row-within table i h))
 
 -- ---- powers and products
@@ -114,15 +114,15 @@ module _ (r : List ℕ) where
   pub multiplier-is :
       {c p size up down : ℕ} → c ≡ coefficient-field r → p ≡ power-field r → size ≡ magnitude coefficient-size c → up ≡ risen p → down ≡ fallen p
       → record { negative = leb 9223372036854775808 c; coefficient = size; up = up; down = down } ≡ row-multiplier r
-  unfolding row-multiplier below-zero risen fallen
+  unfolding row-multiplier-in below-zero risen fallen
   multiplier-is e f m u d = rw (m, u, d, e, f)
 
   pub up-most : row-multiplier r .up < 32768
-  unfolding row-multiplier risen
+  unfolding row-multiplier-in risen
   up-most = risen-most (power-field r)
 
   pub own-down-most : row-multiplier r .down ≤ 32768
-  unfolding row-multiplier fallen
+  unfolding row-multiplier-in fallen
   own-down-most = fallen-most (power-field r)
 
   pub down-most : kind-multiplier (kind r) .down + row-multiplier r .down ≤ 32777
@@ -131,7 +131,7 @@ module _ (r : List ℕ) where
 
   -- of a row in range they fit
   pub row-fitting : in-range (product r) ≡ true → Fitting (kind r) (row-multiplier r)
-  unfolding product
+  unfolding product-in
   row-fitting e = (own-down-most, e)
 
   -- the range of kind times row: a power above zero is never too high
@@ -139,7 +139,7 @@ module _ (r : List ℕ) where
       in-range (product r)
       ≡ (ltb (kind-multiplier (kind r) .coefficient * row-multiplier r .coefficient) (2 ^ 63)
       && leb (kind-multiplier (kind r) .down + row-multiplier r .down) (row-multiplier r .up + 32768))
-  unfolding in-range product
+  unfolding in-range product-in
   in-range-product =
       let down : ℕ = kind-multiplier (kind r) .down + row-multiplier r .down in
       rw (kind-times (kind r) (row-multiplier r), le-leb (row-multiplier r .up) (down + 32767) (omega (arith, up-most)), and-true)
@@ -161,14 +161,12 @@ module _ (r : List ℕ) where
       )
 
   -- nor one of which the fields say as they stand that it is small
-  pub in-range-plain : {c p : ℕ} → c ≡ coefficient-field r → p ≡ power-field r → (ltb c 8796093022208 && ltb p 32768) ≡ true → in-range (product r) ≡ true
-  unfolding row-multiplier fallen
-  in-range-plain {c} {p} e f small =
-      let few : c < 8796093022208 = ltb-true c 8796093022208 (and-left _ _ small) in
-      let up : p < 32768 = ltb-true p 32768 (and-right (ltb c 8796093022208) _ small) in
+  pub in-range-plain : {c p : ℕ} → c ≡ coefficient-field r → p ≡ power-field r → c < 8796093022208 → fallen p < 32760 → in-range (product r) ≡ true
+  unfolding row-multiplier-in fallen
+  in-range-plain {c} {p} e f few near =
       let own : magnitude coefficient-size (coefficient-field r) ≡ c = ap (magnitude coefficient-size) (sym e) ∙ magnitude-of coefficient-size c (omega (arith, few)) in
-      let none : fallen (power-field r) ≡ 0 = ap fallen (sym f) ∙ fallen-of p up in
-      in-range-small (rw (own, none, lt-ltb c 8796093022208 few))
+      let down : fallen (power-field r) ≡ fallen p = ap fallen (sym f) in
+      in-range-small (rw (own, down, lt-ltb c 8796093022208 few, lt-ltb (fallen p) 32760 near))
 
 -- what the range says in numbers
 pub in-range-bounds : (m : Multiplier) → in-range m ≡ true → (m .coefficient < 2 ^ 63) × (m .up ≤ m .down + 32767) × (m .down ≤ m .up + 32768)

@@ -6,8 +6,10 @@ use Prim.Native.Nat.{ℕ, zero, suc, _+_, _≤_, _<_}
 use native.Mathlib.Nat.{add-zero, zero-add, add-suc, suc-add, le-of-suc-le-suc}
 use native.Mathlib.Numerals.{add-one}
 use native.Mathlib.Omega.{arith}
-use lib.ListN.{length, getD, drop, drop-of-length-le}
+use lib.Dec.{eqb}
+use lib.ListN.{length, getD, drop, replicate, drop-of-length-le}
 use lib.Seq.{drop-cons}
+use borrow.Author.Tests.{eqb-true}
 use Rattle.rules.specs.Common.{all, runs}
 use Rattle.rules.specs.Laws.Choices.{and-left, and-right, all-first, all-others}
 use Rattle.rules.specs.Laws.Tests.{and-assoc}
@@ -43,6 +45,14 @@ pub all-alike : (f g : ℕ → Bool) (l : List ℕ) → ((i : ℕ) → f (getD l
 unfolding all
 all-alike f g [] h = refl
 all-alike f g (x ∷ l) h = rw (h 0, all-alike f g l (λ i. h (suc i)))
+
+-- zeros, and nothing else
+pub zeros-only : (l : List ℕ) → all (eqb 0) l ≡ true → l ≡ replicate (length l) 0
+zeros-only [] e = refl
+zeros-only (b ∷ l) e =
+    let here : 0 ≡ b = eqb-true 0 b (all-first (eqb 0) b l e) in
+    let others = zeros-only l (all-others (eqb 0) b l e) in
+    cc
 
 -- a list of bytes
 abbrev pub Bytes : List ℕ → Type 0

@@ -3,7 +3,7 @@ use mathlib.Core.Path.{_≡_, refl, sym, ap, _∙_}
 use mathlib.Core.Bool.{Bool, true, false, false≢true}
 use Prim.Native.Nat.{ℕ, _+_}
 use Rattle.rules.specs.declared.Refusal.{Refusal}
-use Rattle.rules.specs.declared.Refusal.the-variants.{Nothing, SignEnds, DelimiterEnds, FractionOff, FractionEmpty, ExponentOff, ExponentByte, ExponentEnds, ExponentAbove, ExponentBelow, InfinityByte, InfinityEnds, InfinityGoesOn, ConjunctionEnds, ConjunctionGoesOn, NegativeForbidden, NoNumber, NoUnit, OutOfRange, Delimiters, Conjunctions, DefaultKind, TableSize, BadRow, LineSize, BadLineRow, NumeralsSize, BadNumeral, WrongIndex, WrongLineIndex, TextTooLong, NoRoom, Beyond, Malformed, NotIso, YearOrMonth, TooLarge}
+use Rattle.rules.specs.declared.Refusal.the-variants.{Nothing, SignEnds, DelimiterEnds, FractionOff, FractionEmpty, ExponentOff, ExponentByte, ExponentEnds, ExponentAbove, ExponentBelow, InfinityByte, InfinityEnds, InfinityGoesOn, ConjunctionEnds, ConjunctionGoesOn, NegativeForbidden, NoNumber, NoUnit, OutOfRange, Delimiters, Conjunctions, DefaultKind, TableSize, BadRow, LineSize, BadLineRow, NumeralsSize, BadNumeral, WrongIndex, WrongLineIndex, TextTooLong, NoRoom, Beyond, Malformed, NotIso, YearOrMonth, TooLarge, NoStoredRow, NameTooLong}
 use Rattle.rules.specs.Common.{if_then_else_}
 use Rattle.rules.specs.NumbersHandedBack.{Outcome, got, refused, _>>=_, _>>_, unless}
 
@@ -160,6 +160,17 @@ unfolding unless
 unless-got cause true e = refl
 unless-got cause false e = absurd (not-got cause e)
 
+-- and what comes behind one that has passed
+pub passed : (cause : Refusal) (test : Bool) (more : Outcome (Unit {0})) → (unless cause test >> more) ≡ got tt → (test ≡ true) × (more ≡ got tt)
+unfolding unless _>>_
+passed cause true more e = (refl, e)
+passed cause false more e = absurd (not-got cause e)
+
+pub passed-both : (first second : Outcome (Unit {0})) → (first >> second) ≡ got tt → (first ≡ got tt) × (second ≡ got tt)
+unfolding _>>_
+passed-both (got x) second e = (refl, e)
+passed-both (refused cause) second e = absurd (not-got cause e)
+
 -- a refusal that is none of the check's comes behind it
 pub check-got : {A : Type 0} {P : Refusal → Type 0} {check : Outcome (Unit {0})} (next : Outcome A) {cause : Refusal} → Refused P check → (P cause → ⊥) → (check >> next) ≡ refused cause → (check ≡ got tt) × (next ≡ refused cause)
 unfolding _>>_ why
@@ -206,6 +217,8 @@ later k Malformed = Malformed
 later k (NotIso p) = NotIso (k + p)
 later k (YearOrMonth p) = YearOrMonth (k + p)
 later k TooLarge = TooLarge
+later k (NoStoredRow i) = NoStoredRow i
+later k (NameTooLong i) = NameTooLong i
 
 -- the second outcome is the first with its places moved
 pub data Moved {A : Type 0} (move : ℕ → A → A) (k : ℕ) : Outcome A → Outcome A → Type 0 where

@@ -19,7 +19,7 @@ use Rattle.rules.specs.declared.Repr.the-variants.{Typed, Spoken}
 use Rattle.rules.specs.declared.Settings.{Settings}
 use Rattle.rules.specs.Common.{if_then_else_, ascii, all}
 use Rattle.rules.specs.NumbersHandedBack.{Outcome, _>>_, number, unless}
-use Rattle.rules.specs.SettingsAndUnitTable.{row, lookup, Card, settings-check, rows-check, units-check, table-check, line-check, numerals-check, card-check}
+use Rattle.rules.specs.SettingsAndUnitTable.{row, lookup, Card, settings-check, rows-check, units-check-in, table-check, line-check, numerals-check-in, card-check}
 use Rattle.rules.specs.ReadingOnePart.{delimiters, gap, sign-step, fraction-step, number-step, exponent-passed, exponent-digits, exponent-number, exponent-step, ago-step, find-unit, unit-found, unit-step, numeral-end, numeral-found, numeral-step, spoken-unit-found, spoken-unit-step, after-conjunction, conjunction-step, connection, letters-step, infinity-closed, infinity-step}
 use Rattle.rules.specs.Evaluation.{multiplied, spoken-multiplier, evaluate-spoken, evaluated, allowed}
 use Rattle.rules.specs.Laws.Choices.{all-first, all-others}
@@ -200,7 +200,7 @@ table-by :
 table-by size bad seven sevens whole accepted n = refused-then (unless size whole) (refused-unless size whole (λ _. seven)) (rows-by accepted bad sevens 0 n)
 
 pub card-by : (card : Card) → By (7 ∷ []) (card-check card)
-unfolding card-check settings-check units-check table-check line-check numerals-check number among
+unfolding card-check settings-check units-check-in table-check line-check numerals-check-in number among
 card-by card =
     refused-then (settings-check (card .settings))
     (refused-then (unless Delimiters _) (refused-unless Delimiters _ (λ _. one-of refl))

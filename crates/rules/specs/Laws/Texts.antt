@@ -125,7 +125,7 @@ module _ (text : List ℕ) (k : ℕ) where
   unfolding run
   run-shift test p = rw (drop-shift p, add-assoc)
 
-drop-take : (k b : ℕ) (text : List ℕ) → drop k (take (k + b) text) ≡ take b (drop k text)
+pub drop-take : (k b : ℕ) (text : List ℕ) → drop k (take (k + b) text) ≡ take b (drop k text)
 drop-take zero b text = rw zero-add
 drop-take (suc k) b [] = rw (suc-add, take-nil b)
 drop-take (suc k) b (x ∷ text) = rw suc-add (drop-take k b text)

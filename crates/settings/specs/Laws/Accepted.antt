@@ -1,5 +1,5 @@
 -- What accepted settings have: delimiters of one class, conjunctions of letters and a default kind within their limits. Assumes nothing.
-use mathlib.Core.Path.{_≡_, refl}
+use mathlib.Core.Path.{_≡_}
 use mathlib.Core.Bool.{Bool, true, false, not, _||_, false≢true}
 use Prim.Native.Nat.{ℕ, _≤_, _<_}
 use lib.Dec.{eqb, leb, ltb}
@@ -8,32 +8,14 @@ use borrow.Author.Tests.{leb-true, eqb-true}
 use Rattle.rules.specs.declared.ByteSet.{ByteSet}
 use Rattle.rules.specs.declared.Conjunction.{Conjunction}
 use Rattle.rules.specs.declared.Settings.{Settings}
-use Rattle.rules.specs.declared.Refusal.{Refusal}
 use Rattle.rules.specs.declared.Refusal.the-variants.{Delimiters, Conjunctions, DefaultKind}
 use Rattle.rules.specs.Common.{between, all}
-use Rattle.rules.specs.NumbersHandedBack.{Outcome, got, refused, _>>_, unless}
+use Rattle.rules.specs.NumbersHandedBack.{got}
 use Rattle.rules.specs.SettingsAndUnitTable.{LETTER, OTHER, class, letters-of, is, holds, may-delimit, delimits, delimiters-accepted, conjunction-accepted, conjunctions-accepted, conjunctions-of, most-conjunctions, most-letters, last-kind, settings-check}
 use Rattle.rules.specs.Laws.Choices.{and-left, and-right}
 use Rattle.rules.specs.Laws.Tests.{between-from, between-to}
-use Rattle.rules.specs.Laws.Outcomes.{not-got}
+use Rattle.rules.specs.Laws.Outcomes.{passed, unless-got}
 use Rattle.rules.specs.Laws.Lists.{all-index, runs-below}
-
--- ---- checks one after another
-
-pub passed : (cause : Refusal) (test : Bool) (more : Outcome (Unit {0})) → (unless cause test >> more) ≡ got tt → (test ≡ true) × (more ≡ got tt)
-unfolding unless _>>_
-passed cause true more e = (refl, e)
-passed cause false more e = absurd (not-got cause e)
-
-pub passed-both : (first second : Outcome (Unit {0})) → (first >> second) ≡ got tt → (first ≡ got tt) × (second ≡ got tt)
-unfolding _>>_
-passed-both (got x) second e = (refl, e)
-passed-both (refused cause) second e = absurd (not-got cause e)
-
-pub passed-last : (cause : Refusal) (test : Bool) → unless cause test ≡ got tt → test ≡ true
-unfolding unless
-passed-last cause true e = refl
-passed-last cause false e = absurd (not-got cause e)
 
 -- ---- settings
 
@@ -62,7 +44,7 @@ module _ (s : Settings) (good : settings-check s ≡ got tt) where
   pub default-most : s .«default_kind» ≤ last-kind
   unfolding settings-check
   default-most =
-      leb-true (s .«default_kind») last-kind (passed-last DefaultKind _ (passed Conjunctions (conjunctions-accepted s) _ (passed Delimiters (delimiters-accepted s) _ good .1) .1))
+      leb-true (s .«default_kind») last-kind (unless-got DefaultKind _ (passed Conjunctions (conjunctions-accepted s) _ (passed Delimiters (delimiters-accepted s) _ good .1) .1))
 
   -- both sets hold only bytes that may delimit
   pub inner-good : delimits (s .inner) 0 256 ≡ true

@@ -11,10 +11,10 @@ use Rattle.stored.proofs.put_bytes.Statement.{statement}
 use Rattle.stored.proofs.put_bytes.Tie as tie
 
 abbrev Inv-loop : tie.InvT-loop
-Inv-loop line row₀ i₀ row i = (i ≤ 32) × (length row ≡ length row₀) × (row ≡ paired (take (2 * i) line) ++ drop i row₀)
+Inv-loop line row₀ i₀ row i = (i ≤ 48) × (length row ≡ length row₀) × (row ≡ paired (take (2 * i) line) ++ drop i row₀)
 
 abbrev μ-loop : tie.MeasureT-loop
-μ-loop line row₀ i₀ row i = 32 - i
+μ-loop line row₀ i₀ row i = 48 - i
 
 loop-holds : tie.Need-loop-holds Inv-loop μ-loop
 unfolding paired
@@ -76,7 +76,7 @@ same-length c = c .before .loop .inv .1
 
 returns : tie.Need-returns Inv-loop μ-loop
 returns c =
-    let done : c .before .loop .i ≡ 32 = omega arith in
+    let done : c .before .loop .i ≡ 48 = omega arith in
     rw (c .before .loop .inv .2, done)
 
 pub put-bytes-spec : {M : Type 1} → statement M

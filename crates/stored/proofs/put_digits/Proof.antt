@@ -12,10 +12,10 @@ use Rattle.stored.proofs.put_digits.Statement.{statement}
 use Rattle.stored.proofs.put_digits.Tie as tie
 
 abbrev Inv-loop : tie.InvT-loop
-Inv-loop row line₀ i₀ line i = (i ≤ 32) × (length line ≡ length line₀) × (line ≡ two-digits (take i row) ++ drop (2 * i) line₀)
+Inv-loop row line₀ i₀ line i = (i ≤ 48) × (length line ≡ length line₀) × (line ≡ two-digits (take i row) ++ drop (2 * i) line₀)
 
 abbrev μ-loop : tie.MeasureT-loop
-μ-loop row line₀ i₀ line i = 32 - i
+μ-loop row line₀ i₀ line i = 48 - i
 
 loop-holds : tie.Need-loop-holds Inv-loop μ-loop
 unfolding two-digits
@@ -63,8 +63,8 @@ same-length c = c .before .loop .inv .1
 returns : tie.Need-returns Inv-loop μ-loop
 returns c =
     let row = c .before .before .before .before .args .row .now in
-    let done : c .before .loop .i ≡ 32 = omega arith in
-    rw (c .before .loop .inv .2, done, take-all 32 row (omega arith))
+    let done : c .before .loop .i ≡ 48 = omega arith in
+    rw (c .before .loop .inv .2, done, take-all 48 row (omega arith))
 
 pub put-digits-spec : {M : Type 1} → statement M
 put-digits-spec =

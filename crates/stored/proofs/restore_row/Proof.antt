@@ -7,25 +7,25 @@ use lib.ListN.{length-take, getD, length, take}
 use borrow.Author.Tests.{eq-eqb, ne-eqb, le-leb, lt-leb, not-true, not-false}
 use borrow.Author.Needs.{needs}
 use Rattle.rules.specs.Common.{all, if_then_else_}
-use Rattle.stored.specs.Lines.{spells, restores, row-after, line-accepted, restored}
+use Rattle.stored.specs.Lines.{spells, restores, row-after, line-accepted-in, restored-in}
 use Rattle.stored.specs.Laws.{row-kept}
 use Rattle.rules.specs.Laws.Tests.{and-false}
 use Rattle.stored.proofs.restore_row.Statement.{statement}
 use Rattle.stored.proofs.restore_row.Tie as tie
 
 returns : tie.Need-returns
-unfolding restores line-accepted
+unfolding restores line-accepted-in
 returns c = row-kept _ _ (rw (ne-eqb _ _ (c .if1 .taken), and-false))
 
 returns-2 : tie.Need-returns-2
-unfolding restores line-accepted
+unfolding restores line-accepted-in
 returns-2 c = row-kept _ _ (rw (lt-leb _ _ (c .if2 .taken)))
 
 shared-slice-read-if3 : tie.Need-shared-slice-read-if3
 shared-slice-read-if3 c = search needs
 
 returns-3 : tie.Need-returns-3
-unfolding restores line-accepted
+unfolding restores line-accepted-in
 returns-3 c = row-kept _ _ (rw (ne-eqb _ _ (c .if3 .taken), and-false, and-false))
 
 slice-aggregate-spells : tie.Need-slice-aggregate-spells
@@ -35,7 +35,7 @@ spells-requires : tie.Need-spells-requires
 spells-requires c κs = search needs
 
 returns-4 : tie.Need-returns-4
-unfolding restores line-accepted
+unfolding restores line-accepted-in
 returns-4 c = row-kept _ _ (rw (← (c .before .spells .ensures), not-true (c .before .spells .result) (c .if4 .taken), and-false, and-false, and-false))
 
 put-bytes-requires : tie.Need-put-bytes-requires
@@ -45,14 +45,14 @@ same-length : tie.Need-same-length
 same-length c = search needs
 
 returns-5 : tie.Need-returns-5
-unfolding restores line-accepted restored row-after if_then_else_
+unfolding restores line-accepted-in restored-in row-after if_then_else_
 returns-5 c =
     let args = c .before .before .before .before .before .before .before .before .before .before .before .before .before .args in
     let line = args .line .now in
-    let long : 32 ≤ length (args .row .now) = omega arith in
-    let whole : length line ≡ 65 = omega arith in
-    let spelled : all spells (take 64 line) ≡ true = sym (c .before .before .before .before .before .spells .ensures) ∙ not-false _ (c .before .before .before .before .if4 .left) in
-    let accepted : restores line (args .row .now) ≡ true = rw (le-leb 32 (length (args .row .now)) long, eq-eqb (length line) 65 whole, eq-eqb (getD line 64 0) 10 (c .before .before .before .before .before .before .before .if3 .left), spelled) in
+    let long : 48 ≤ length (args .row .now) = omega arith in
+    let whole : length line ≡ 97 = omega arith in
+    let spelled : all spells (take 96 line) ≡ true = sym (c .before .before .before .before .before .spells .ensures) ∙ not-false _ (c .before .before .before .before .if4 .left) in
+    let accepted : restores line (args .row .now) ≡ true = rw (le-leb 48 (length (args .row .now)) long, eq-eqb (length line) 97 whole, eq-eqb (getD line 96 0) 10 (c .before .before .before .before .before .before .before .if3 .left), spelled) in
     (sym accepted, rw accepted (c .before .before .put-bytes .ensures))
 
 pub restore-row-spec : {M : Type 1} → statement M

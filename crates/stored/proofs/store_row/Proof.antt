@@ -35,12 +35,12 @@ unfolding stores line-after if_then_else_ stored
 returns-3 c =
     let row = c .before .before .before .before .before .before .before .before .args .row .now in
     let line = c .before .before .before .before .before .before .before .before .args .line .now in
-    let whole : length row ≡ 32 = omega arith in
-    let room : 65 ≤ length line = omega arith in (
-      rw (eq-eqb (length row) 32 whole, le-leb 65 (length line) room),
-      rw (eq-eqb (length row) 32 whole, le-leb 65 (length line) room)
-          (ap (λ l. set l 64 10) (c .before .before .put-digits .ensures)
-          ∙ put-one (two-digits row) line 64 10 (length-two-digits row ∙ ap (λ n. 2 * n) whole) room),
+    let whole : length row ≡ 48 = omega arith in
+    let room : 97 ≤ length line = omega arith in (
+      rw (eq-eqb (length row) 48 whole, le-leb 97 (length line) room),
+      rw (eq-eqb (length row) 48 whole, le-leb 97 (length line) room)
+          (ap (λ l. set l 96 10) (c .before .before .put-digits .ensures)
+          ∙ put-one (two-digits row) line 96 10 (length-two-digits row ∙ ap (λ n. 2 * n) whole) room),
     )
 
 pub store-row-spec : {M : Type 1} → statement M

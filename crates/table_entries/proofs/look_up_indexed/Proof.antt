@@ -24,7 +24,7 @@ returns c =
     ∙ indexed-lookup-refused _ _ (sym (c .before .before .before .before .indexed-check .ensures) ∙ ap outcome (c .before .before .cause .given .1))
 
 returns-2 : tie.Need-returns-2
-returns-2 c = c .looked-up .ensures ∙ indexed-lookup-passed _ _ (good (c .before))
+returns-2 c = c .looked-up .ensures ∙ indexed-lookup-passed _ _ (good (c .before .before))
 
 pub look-up-indexed-spec : {M : Type 1} → statement M
 look-up-indexed-spec =
@@ -35,6 +35,7 @@ look-up-indexed-spec =
     (λ c. search needs)
     (λ c κs. search needs)
     (λ c. search needs)
-    (λ c κs. both-searchable _ (good c))
+    (λ c κs. tt)
+    (λ c κs. let searchable = both-searchable _ (good (c .before)) in (searchable .0, searchable .1, c .first-word .ensures))
     returns
     returns-2)

@@ -2,12 +2,12 @@
 use mathlib.Core.Path.{ap, _∙_}
 use borrow.Author.Needs.{needs}
 use Rattle.rules.specs.NumbersHandedBack.{done}
-use Rattle.rules.specs.SettingsAndUnitTable.{rows}
+use Rattle.rules.specs.SettingsAndUnitTable.{rows-in}
 use Rattle.table_entries.proofs.rows_done.Statement.{statement}
 use Rattle.table_entries.proofs.rows_done.Tie as tie
 
 returns : tie.Need-returns
-unfolding rows
+unfolding rows-in
 returns c = c .done .ensures ∙ ap (done _) (c .before .zero .ensures)
 
 pub rows-done-spec : {M : Type 1} → statement M

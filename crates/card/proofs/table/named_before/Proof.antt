@@ -4,7 +4,7 @@ use mathlib.Core.Path.{_≡_, refl, sym, ap, _∙_}
 use Prim.Native.Nat.{_≤_, _-_}
 use native.Mathlib.Omega.{arith}
 use lib.ListN.{length}
-use Rattle.rules.specs.SettingsAndUnitTable.{name, named}
+use Rattle.rules.specs.SettingsAndUnitTable.{name, named, named-in}
 use Rattle.card.specs.Laws.Table.{named-earlier, named-not-yet}
 use Rattle.rows.specs.Laws.Rows.{length-row}
 use Rattle.card.proofs.table.named_before.Statement.{statement}
@@ -20,7 +20,7 @@ row-at-requires : tie.Need-row-at-requires Inv-loop μ-loop
 row-at-requires c κs = c .before .pre .0
 
 loop-holds : tie.Need-loop-holds Inv-loop μ-loop
-unfolding named
+unfolding named-in
 loop-holds c = (omega arith, refl)
 
 row-at-requires-2 : tie.Need-row-at-requires-2 Inv-loop μ-loop

@@ -8,7 +8,7 @@ use borrow.Author.Tests.{not-true, not-false}
 use borrow.Author.Needs.{needs}
 use Rattle.rules.specs.SettingsAndUnitTable.{row}
 use Rattle.rows.specs.Laws.Rows.{length-row}
-use Rattle.card.specs.Fields.{padded, alone}
+use Rattle.card.specs.Fields.{alone}
 use Rattle.card.specs.Laws.Table.{ruled-alone, fails-tested, alone-padded}
 use Rattle.card.proofs.table.row_accepted.Statement.{statement}
 use Rattle.card.proofs.table.row_accepted.Tie as tie
@@ -24,7 +24,7 @@ good : (c : tie.Else1) → let args = c .before .before .before .before .args in
 good c = sym (asked (c .before)) ∙ not-false (c .before .row-alone .result) (c .if1 .left)
 
 row-alone-requires : tie.Need-row-alone-requires
-row-alone-requires c κs = ap length (c .row-at .ensures) ∙ length-row _ _ (c .before .before .pre .0)
+row-alone-requires c κs = (ap length (c .row-at .ensures) ∙ length-row _ _ (c .before .before .pre .1 .0), c .before .before .pre .0)
 
 returns : tie.Need-returns
 returns c =
@@ -35,7 +35,7 @@ named-before-requires : tie.Need-named-before-requires
 named-before-requires c κs =
     let at-row = c .before in
     let start = at-row .before .before .before .before in
-    (start .pre .0, λ j h. below-more _ (start .args .i) (start .pre .1) (alone-padded _ _ (good at-row)) j (omega arith))
+    (start .pre .1 .0, λ j h. below-more _ (start .args .i) (start .pre .1 .1) (alone-padded _ _ (good at-row)) j (omega arith))
 
 returns-2 : tie.Need-returns-2
 returns-2 c =

@@ -21,4 +21,4 @@ returns-4 c =
     λ size bad. all-accepted size _ _ bad _ (sized .before .if1 .left) (sized .if2 .left) (c .before .first-bad .ensures) (c .if3 .left)
 
 pub rows-found-spec : {M : Type 1} → statement M
-rows-found-spec = tie.close (tie.spec returns returns-2 (λ c κs. tt) (λ c. omega (arith, c .if3 .taken, c .before .before .if2 .left, c .before .before .before .before .before .pre)) returns-3 returns-4)
+rows-found-spec = tie.close (tie.spec returns returns-2 (λ c κs. c .before .before .before .pre .1) (λ c. omega (arith, c .if3 .taken, c .before .before .if2 .left, c .before .before .before .before .before .pre .0)) returns-3 returns-4)

@@ -19,7 +19,7 @@ held :
     c .looked-up .result
     ≡ found-in (stands (args .hall .now) (args .line .now) (args .name .now))
     (compared-in-both (searched (args .line .now) (args .line-index .now) (args .name .now)) (searched (args .hall .now) (args .hall-index .now) (args .name .now)))
-held c = c .looked-up .ensures ∙ looked-up-stands _ _ _ _ _ (start c .pre)
+held c = c .looked-up .ensures ∙ looked-up-stands _ _ _ _ _ (start c .pre .0, start c .pre .1)
 
 counted :
     (c : tie.After-looked-up)

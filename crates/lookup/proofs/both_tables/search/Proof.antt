@@ -15,4 +15,4 @@ returns-2 c = c .probe .ensures ∙ searched-index _ _ _ (c .before .if1 .left)
 pub search-spec : {M : Type 1} → statement M
 search-spec =
     tie.close
-    (tie.spec (λ c κs. search needs) returns (λ c κs. ⊎-elim (λ none. absurd (c .if1 .left none)) (λ right. right) (c .before .before .before .before .pre .beside)) returns-2)
+    (tie.spec (λ c κs. search needs) returns (λ c κs. ⊎-elim (λ none. absurd (c .if1 .left none)) (λ right. right) (c .before .before .before .before .pre .0 .beside)) returns-2)

@@ -3,18 +3,21 @@ use mathlib.Core.Path.{sym, _∙_}
 use Prim.Native.Nat.{_-_}
 use native.Mathlib.Omega.{arith}
 use Rattle.rules.specs.SettingsAndUnitTable.{rows}
-use Rattle.lookup.specs.Laws.Walks.{Walking, walk-starts, walk-ends, walk-below, walk-long, walk-sized, walk-finds, walk-goes-on, walk-fits}
+use Rattle.lookup.specs.Laws.Walks.{Walking, walk-starts, walk-ends, walk-below, walk-long, walk-padded, walk-finds, walk-goes-on, walk-fits}
 use Rattle.lookup.proofs.rows_in_order.find.Statement.{statement}
 use Rattle.lookup.proofs.rows_in_order.find.Tie as tie
 
 abbrev Inv-loop : tie.InvT-loop
-Inv-loop table wanted at₀ rest₀ at rest = Walking table wanted at rest
+Inv-loop table wanted first at₀ rest₀ at rest = Walking table wanted at rest
 
 abbrev μ-loop : tie.MeasureT-loop
-μ-loop table wanted at₀ rest₀ at rest = rows table - at
+μ-loop table wanted first at₀ rest₀ at rest = rows table - at
 
 has-name-requires : tie.Need-has-name-requires Inv-loop μ-loop
-has-name-requires c κs = let inside = c .before in walk-sized (inside .before .loop .inv) (inside .loop-test .taken) (inside .before .before .before .before .pre)
+has-name-requires c κs =
+    let inside = c .before in
+    let pre = inside .before .before .before .before .pre in
+    (walk-padded (inside .before .loop .inv) (inside .loop-test .taken) (pre .0), pre .1)
 
 returns : tie.Need-returns Inv-loop μ-loop
 returns c =

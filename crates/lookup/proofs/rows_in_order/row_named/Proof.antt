@@ -5,18 +5,21 @@ use native.Mathlib.Omega.{arith}
 use Rattle.rules.specs.SettingsAndUnitTable.{rows}
 use Rattle.rows.specs.Named.{found-row}
 use Rattle.index.specs.declared.Searched.{Searched}
-use Rattle.lookup.specs.Laws.Walks.{named-found, Walking, walk-starts, walk-ends, walk-below, walk-row, walk-long, walk-sized, walk-finds, walk-goes-on, walk-fits}
+use Rattle.lookup.specs.Laws.Walks.{named-found, Walking, walk-starts, walk-ends, walk-below, walk-row, walk-long, walk-padded, walk-finds, walk-goes-on, walk-fits}
 use Rattle.lookup.proofs.rows_in_order.row_named.Statement.{statement}
 use Rattle.lookup.proofs.rows_in_order.row_named.Tie as tie
 
 abbrev Inv-loop : tie.InvT-loop
-Inv-loop table wanted compared₀ at₀ rest₀ compared at rest = Walking table wanted at rest
+Inv-loop table wanted first compared₀ at₀ rest₀ compared at rest = Walking table wanted at rest
 
 abbrev μ-loop : tie.MeasureT-loop
-μ-loop table wanted compared₀ at₀ rest₀ compared at rest = rows table - at
+μ-loop table wanted first compared₀ at₀ rest₀ compared at rest = rows table - at
 
 has-name-requires : tie.Need-has-name-requires Inv-loop μ-loop
-has-name-requires c κs = let inside = c .before in walk-sized (inside .before .loop .inv) (inside .loop-test .taken) (inside .before .before .before .before .pre)
+has-name-requires c κs =
+    let inside = c .before in
+    let pre = inside .before .before .before .before .pre in
+    (walk-padded (inside .before .loop .inv) (inside .loop-test .taken) (pre .0), pre .1)
 
 returns : tie.Need-returns Inv-loop μ-loop
 unfolding found-row

@@ -20,13 +20,13 @@ card c = card-of (c .args .settings .now) (c .args .hall .now) (c .args .line .n
 
 -- the place found is where the stretch ends
 stretch :
-    (c : tie.After-unit-end)
+    (c : tie.After-unit-stretch)
     → let start = c .before .before .before .before .before .before .before in
-    c .unit-end .result ≡ run (in-stretch (settings start)) (start .args .text .now) (start .args .counted .next)
-stretch c = c .unit-end .ensures _ (c .before .before .before .before .before .before .before .pre .0 .ready .stopped)
+    c .unit-stretch .result .end ≡ run (in-stretch (settings start)) (start .args .text .now) (start .args .counted .next)
+stretch c = c .unit-stretch .ensures .0 _ (c .before .before .before .before .before .before .before .pre .0 .ready .stopped)
 
 parse-time-unit-requires : tie.Need-parse-time-unit-requires
-parse-time-unit-requires c κs = (c .before .before .before .before .before .before .before .pre .0 .ready .units, (c .before .before .before .before .before .before .before .pre .0 .ready .indexes, stretch-within _ _ _ (stretch c)))
+parse-time-unit-requires c κs = (c .before .before .before .before .before .before .before .pre .0 .ready .units, (c .before .before .before .before .before .before .before .pre .0 .ready .indexes, record { within = stretch-within _ _ _ (stretch c); word = c .unit-stretch .ensures .1 }))
 
 -- what is read of the row that the stretch finds
 found :

@@ -9,23 +9,8 @@ use Rattle.rules.specs.SettingsAndUnitTable.{name-size, name}
 use Rattle.rows.proofs.fields.name_of.Statement.{statement}
 use Rattle.rows.proofs.fields.name_of.Tie as tie
 
-shared-slice-read-size : tie.Need-shared-slice-read-size
-shared-slice-read-size c = search needs
-
 cast-size : tie.Need-cast-size
 cast-size c = omega (arith, c .shared-slice-known .given 0)
-
-add-end : tie.Need-add-end
-add-end c = search needs
-
-sub-result : tie.Need-sub-result
-sub-result c = search needs
-
-part-result-start : tie.Need-part-result-start
-part-result-start c = search needs
-
-part-result-end : tie.Need-part-result-end
-part-result-end c = search needs
 
 returns : tie.Need-returns
 unfolding name name-size
@@ -33,15 +18,6 @@ returns c =
     let size = getD (c .before .before .before .args .row .now) 0 0 in
     let counted : 1 + size - 1 ≡ size = omega arith in
     rw counted
-
-sub-result-2 : tie.Need-sub-result-2
-sub-result-2 c = search needs
-
-part-result-start-2 : tie.Need-part-result-start-2
-part-result-start-2 c = search needs
-
-part-result-end-2 : tie.Need-part-result-end-2
-part-result-end-2 c = search needs
 
 returns-2 : tie.Need-returns-2
 unfolding name name-size
@@ -53,14 +29,14 @@ pub name-of-spec : {M : Type 1} → statement M
 name-of-spec =
     tie.close
     (tie.spec
-    shared-slice-read-size
+    (λ c. search needs)
     cast-size
-    add-end
-    sub-result
-    part-result-start
-    part-result-end
+    (λ c. search needs)
+    (λ c. search needs)
+    (λ c. search needs)
+    (λ c. search needs)
     returns
-    sub-result-2
-    part-result-start-2
-    part-result-end-2
+    (λ c. search needs)
+    (λ c. search needs)
+    (λ c. search needs)
     returns-2)

@@ -7,27 +7,16 @@ use lib.Dec.{leb}
 use native.Mathlib.Omega.{arith}
 use borrow.Author.Tests.{not-true, not-false}
 use borrow.Author.Needs.{needs}
-use Rattle.rules.specs.SettingsAndUnitTable.{kind, product, in-range, coefficient-field, power-field}
-use Rattle.rows.specs.Laws.Rows.{in-range-product, in-range-small, in-range-plain, down-most, up-most}
+use Rattle.rules.specs.SettingsAndUnitTable.{kind-in, product, in-range}
+use Rattle.rows.specs.Laws.Rows.{in-range-product, in-range-small, down-most, up-most}
 use Rattle.rows.proofs.fields.product_in_range.Statement.{statement}
 use Rattle.rows.proofs.fields.product_in_range.Tie as tie
-
-word-at-requires : tie.Need-word-at-requires
-word-at-requires c κs = search needs
-
-short-at-requires : tie.Need-short-at-requires
-short-at-requires c κs = search needs
 
 plainly-small-requires : tie.Need-plainly-small-requires
 plainly-small-requires c κs = search needs
 
 returns : tie.Need-returns
-unfolding coefficient-field power-field
-returns c =
-    let asked = c .before in
-    sym
-    (in-range-plain (asked .before .before .before .before .args .row .now) (asked .before .before .word-at .ensures) (asked .before .short-at .ensures)
-    (sym (asked .plainly-small .ensures) ∙ c .if1 .taken))
+returns c = sym (c .before .plainly-small .ensures (c .if1 .taken))
 
 row-multiplier-requires : tie.Need-row-multiplier-requires
 row-multiplier-requires c κs = search needs
@@ -37,7 +26,7 @@ small-requires c κs = search needs
 
 -- the row, where its multiplier is read
 the-row : tie.After-row-multiplier → List ℕ
-the-row c = c .before .before .before .before .before .before .args .row .now
+the-row c = c .before .before .before .before .args .row .now
 
 returns-2 : tie.Need-returns-2
 unfolding the-row
@@ -62,7 +51,7 @@ two-tests :
     → let own = own-of (c .before) .row-multiplier .result in
     in-range (product (the-row (own-of (c .before))))
     ≡ (c .within .result && leb (c .before .kind-multiplier .result .down + own .down) (own .up + 32768))
-unfolding the-row own-of kind
+unfolding the-row own-of kind-in
 two-tests c =
     let own = own-of (c .before) in
     rw (in-range-product (the-row own), ← (c .before .kind-multiplier .ensures), ← (own .row-multiplier .ensures), ← (c .within .ensures))
@@ -72,7 +61,7 @@ unfolding the-row own-of
 returns-3 c = rw (two-tests (c .before), not-true (c .before .within .result) (c .if3 .taken))
 
 add-result : tie.Need-add-result
-unfolding the-row own-of kind
+unfolding the-row own-of kind-in
 add-result c =
     let unit = c .before .before .before .before in
     rw (unit .kind-multiplier .ensures, own-of unit .row-multiplier .ensures) (omega (arith, down-most (the-row (own-of unit))))
@@ -93,8 +82,6 @@ pub product-in-range-spec : {M : Type 1} → statement M
 product-in-range-spec =
     tie.close
     (tie.spec
-    word-at-requires
-    short-at-requires
     plainly-small-requires
     returns
     row-multiplier-requires

@@ -3,7 +3,7 @@ use mathlib.Core.Path.{_≡_}
 use Prim.Native.Nat.{_+_, _*_, _-_}
 use native.Mathlib.Omega.{arith}
 use borrow.Author.Needs.{needs}
-use Rattle.rules.specs.SettingsAndUnitTable.{row}
+use Rattle.rules.specs.SettingsAndUnitTable.{row-in}
 use Rattle.rows.specs.Laws.Rows.{row-within}
 use Rattle.rows.proofs.fields.row_at.Statement.{statement}
 use Rattle.rows.proofs.fields.row_at.Tie as tie
@@ -24,9 +24,9 @@ part-result-end : tie.Need-part-result-end
 part-result-end c = omega (arith, row-within (c .args .table .now) (c .args .i) (c .pre))
 
 returns : tie.Need-returns
-unfolding row
+unfolding row-in
 returns c =
-    let counted : 32 * c .before .args .i + 32 - 32 * c .before .args .i ≡ 32 = omega arith in
+    let counted : 48 * c .before .args .i + 48 - 48 * c .before .args .i ≡ 48 = omega arith in
     rw counted
 
 pub row-at-spec : {M : Type 1} → statement M

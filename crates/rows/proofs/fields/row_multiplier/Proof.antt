@@ -1,6 +1,6 @@
 -- `rows::fields::row_multiplier` meets its contract: each field of the row, as the definition reads it. Assumes nothing.
 use borrow.Author.Needs.{needs}
-use Rattle.rules.specs.SettingsAndUnitTable.{coefficient-field, power-field}
+use Rattle.rules.specs.SettingsAndUnitTable.{coefficient-field-in, power-field-in}
 use Rattle.rows.specs.Laws.Rows.{multiplier-is}
 use Rattle.rows.proofs.fields.row_multiplier.Statement.{statement}
 use Rattle.rows.proofs.fields.row_multiplier.Tie as tie
@@ -21,7 +21,7 @@ fallen-requires : tie.Need-fallen-requires
 fallen-requires c κs = search needs
 
 returns : tie.Need-returns
-unfolding coefficient-field power-field
+unfolding coefficient-field-in power-field-in
 returns c =
     let size = c .before .before in
     multiplier-is _ (size .before .before .word-at .ensures) (size .before .short-at .ensures) (size .coefficient-magnitude .ensures) (c .before .risen .ensures) (c .fallen .ensures)

@@ -4,7 +4,7 @@ use native.Mathlib.Omega.{arith}
 use borrow.Author.Needs.{needs}
 use Rattle.rules.specs.NumbersHandedBack.{got}
 use Rattle.rules.specs.SettingsAsWords.{settings-of}
-use Rattle.rules.specs.SettingsAndUnitTable.{rows}
+use Rattle.rules.specs.SettingsAndUnitTable.{rows-in}
 use Rattle.settings.specs.Outcomes.{outcome}
 use Rattle.index.specs.TheSortedIndex.{table-right}
 use Rattle.sorted.specs.Checks.{table-only, right-few}
@@ -31,15 +31,15 @@ unfolding outcome
 returns c = ap outcome (c .enum-told2 .given .1) ∙ make-refused _ _ _ (sym (of-table (c .before .before)) ∙ ap outcome (c .enum-told2 .given .1))
 
 returns-2 : tie.Need-returns-2
-unfolding outcome rows
+unfolding outcome rows-in
 returns-2 c = make-long _ _ _ (good-table (c .before)) (c .if1 .taken)
 
 returns-3 : tie.Need-returns-3
-unfolding outcome rows
+unfolding outcome rows-in
 returns-3 c = make-allowed _ _ _ (good-table (c .before)) (c .if1 .left)
 
 pub may-make-spec : {M : Type 1} → statement M
-unfolding rows
+unfolding rows-in
 may-make-spec =
     tie.close
     (tie.spec

@@ -5,7 +5,7 @@ use borrow.Author.Tests.{not-true, not-false}
 use Rattle.rules.specs.declared.Refusal.the-variants.{BadRow}
 use Rattle.rules.specs.NumbersHandedBack.{got, unless}
 use Rattle.rules.specs.SettingsAsWords.{settings-of}
-use Rattle.rules.specs.SettingsAndUnitTable.{rows}
+use Rattle.rules.specs.SettingsAndUnitTable.{rows-in}
 use Rattle.settings.specs.Outcomes.{outcome}
 use Rattle.index.specs.TheSortedIndex.{checking, replacing}
 use Rattle.sorted.specs.Allowed.{replace-refused, replace-beyond, replace-decides, checked-table}
@@ -26,11 +26,11 @@ returns c =
     ap outcome (c .enum-told2 .given .1) ∙ replace-refused _ _ _ _ _ (sym (c .before .before .table-and-index-check .ensures) ∙ ap outcome (c .enum-told2 .given .1))
 
 returns-2 : tie.Need-returns-2
-unfolding outcome rows
+unfolding outcome rows-in
 returns-2 c = replace-beyond _ _ _ _ _ (good (c .before)) (c .if1 .taken)
 
 row-fits-requires : tie.Need-row-fits-requires
-unfolding rows
+unfolding rows-in
 row-fits-requires c κs =
     let start = c .before .before .before .before .before .before .before in
     (checked-table _ _ _ (start .args .row) (start .args .new .now) (good (c .before)), c .if1 .left)
@@ -40,7 +40,7 @@ decided :
     (c : tie.After-row-fits)
     → let args = c .before .before .before .before .before .before .before .before .args in
     unless (BadRow (args .row)) (c .row-fits .result) ≡ replacing (settings-of (args .settings .now)) (args .table .now) (args .index .now) (args .row) (args .new .now)
-unfolding rows
+unfolding rows-in
 decided c = replace-decides _ _ _ _ _ (good (c .before .before)) (c .before .if1 .left) (c .row-fits .ensures)
 
 returns-3 : tie.Need-returns-3

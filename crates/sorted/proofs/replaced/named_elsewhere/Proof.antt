@@ -1,13 +1,13 @@
 -- `sorted::replaced::named_elsewhere` meets its contract: no other row passed has the name. The measure is how many are left. Assumes nothing.
 use mathlib.Core.Path.{_≡_, refl, sym, ap, _∙_}
-use mathlib.Core.Bool.{true, false, false≢true}
+use mathlib.Core.Bool.{false≢true}
 use mathlib.Core.Logic.{⊎-elim, _≢_}
 use Prim.Native.Nat.{ℕ, _-_, _≤_, _<_}
 use native.Mathlib.Omega.{arith}
 use borrow.Author.Count.{below-none, below-more}
 use lib.ListN.{length}
 use Rattle.rules.specs.Common.{same}
-use Rattle.rules.specs.SettingsAndUnitTable.{rows, row, name}
+use Rattle.rules.specs.SettingsAndUnitTable.{rows, rows-in, row, name}
 use Rattle.rows.specs.Laws.Rows.{length-row}
 use Rattle.rows.specs.Laws.Lookup.{same-refl, same-equal}
 use Rattle.sorted.proofs.replaced.named_elsewhere.Statement.{statement}
@@ -20,7 +20,7 @@ abbrev μ-loop : tie.MeasureT-loop
 μ-loop table i new count j₀ j = count - j
 
 loop-holds : tie.Need-loop-holds Inv-loop μ-loop
-unfolding rows
+unfolding rows-in
 loop-holds c = (refl, omega arith, below-none _)
 
 -- the row that is asked is one of the table's

@@ -1,6 +1,7 @@
 -- `sorted::replaced::row_fits` meets its contract: the size, the row by itself, and the names of the others. Assumes nothing.
 use mathlib.Core.Path.{_≡_, refl, sym, ap, _∙_}
 use mathlib.Core.Bool.{Bool, true, false, not}
+use native.Mathlib.Omega.{arith}
 use borrow.Author.Needs.{needs}
 use borrow.Author.Tests.{ne-eqb}
 use Rattle.rules.specs.declared.Refusal.the-variants.{TableSize, BadRow}
@@ -43,14 +44,14 @@ fails :
 fails c no-pass =
     let known = c .before .before .before in
     let start = known .before .before in
-    fails-alone _ _ _ _ _ (c .before .unit-rule .ensures) (table-bytes known) (new-bytes known) (start .pre .0 .1) (start .pre .1) (c .before .before .if1 .left) (sym (asked c) ∙ no-pass)
+    fails-alone _ _ _ _ _ (c .before .unit-rule .ensures .1) (table-bytes known) (new-bytes known) (start .pre .0 .1) (start .pre .1) (c .before .before .if1 .left) (sym (asked c) ∙ no-pass)
 
 named-elsewhere-requires : tie.Need-named-elsewhere-requires
 named-elsewhere-requires c κs =
     let at-rule = c .before .before .before in
     let known = at-rule .before .before in
     let start = known .before .before in (
-      padded-rows _ _ _ _ (start .args .new .now) (at-rule .unit-rule .ensures) (table-bytes known) (new-bytes known) (start .pre .0 .1) (start .pre .1),
+      padded-rows _ _ _ _ (start .args .new .now) (at-rule .unit-rule .ensures .1) (table-bytes known) (new-bytes known) (start .pre .0 .1) (start .pre .1),
       (at-rule .before .if1 .left, alone-padded _ _ (passed c)),
     )
 
@@ -68,10 +69,10 @@ returns-2 c = go (c .named-elsewhere .result) refl
 
     go : (t : Bool) → c .named-elsewhere .result ≡ t → not t ≡ may-replace (settings-of (start .args .settings .now)) (start .args .table .now) (start .args .i) (start .args .new .now)
     go true e =
-        fails-elsewhere _ _ _ _ _ (at-rule .unit-rule .ensures) (table-bytes known) (new-bytes known) (start .pre .0 .1) (start .pre .1) (at-rule .before .if1 .left)
+        fails-elsewhere _ _ _ _ _ (at-rule .unit-rule .ensures .1) (table-bytes known) (new-bytes known) (start .pre .0 .1) (start .pre .1) (at-rule .before .if1 .left)
         (c .named-elsewhere .ensures .0 e)
     go false e =
-        comes-in _ _ _ _ _ (at-rule .unit-rule .ensures) (table-bytes known) (new-bytes known) (start .pre .0 .1) (start .pre .1) (at-rule .before .if1 .left)
+        comes-in _ _ _ _ _ (at-rule .unit-rule .ensures .1) (table-bytes known) (new-bytes known) (start .pre .0 .1) (start .pre .1) (at-rule .before .if1 .left)
         (passed (c .before)) (c .named-elsewhere .ensures .1 e)
 
 returns-3 : tie.Need-returns-3
@@ -88,7 +89,7 @@ row-fits-spec =
     (tie.spec
     returns
     (λ c κs. search needs)
-    (λ c κs. search needs)
+    (λ c κs. (omega arith, c .unit-rule .ensures .0))
     (λ c. search needs)
     named-elsewhere-requires
     (λ c. search needs)

@@ -1,51 +1,35 @@
 -- `sorted::rising::comes_before` meets its contract: the rooms are the same up to `at`. The measure is what is left of them. Assumes nothing.
-use mathlib.Core.Path.{sym, _∙_}
-use mathlib.Core.Logic.{⊎-elim}
 use Prim.Native.Nat.{_≤_, _-_}
 use native.Mathlib.Omega.{arith}
 use borrow.Author.Tests.{ltb-true}
 use Rattle.rules.specs.SettingsAndUnitTable.{name-size}
-use Rattle.sorted.specs.Rooms.{Alike, alike-none, alike-next, alike-word, byte-decides, size-decides}
+use Rattle.sorted.specs.Rooms.{Alike, alike-next, byte-decides, size-decides}
 use Rattle.sorted.proofs.rising.comes_before.Statement.{statement}
 use Rattle.sorted.proofs.rising.comes_before.Tie as tie
 
 abbrev Inv-loop : tie.InvT-loop
-Inv-loop row other at₀ at = (1 ≤ at) × (at ≤ 17) × Alike row other at
+Inv-loop row other at₀ at = (1 ≤ at) × (at ≤ 33) × Alike row other at
 
 abbrev μ-loop : tie.MeasureT-loop
-μ-loop row other at₀ at = 17 - at
-
-loop-holds : tie.Need-loop-holds Inv-loop μ-loop
-loop-holds c =
-    let known = c .before .before .before in
-    let start = known .before .before in
-    ⊎-elim
-    (λ w. rw (w .1) (
-      omega arith,
-      omega arith,
-      alike-word (start .args .row .now) (start .args .other .now) (start .pre .0 .0) (start .pre .1 .0) (λ k. known .before .shared-slice-known .given k .fits) (λ k. known .shared-slice-known2 .given k .fits)
-          (sym (c .before .before .word-at .ensures) ∙ w .0 .taken ∙ c .before .word-at2 .ensures),
-    ))
-    (λ w. rw (w .1) (omega arith, omega arith, alike-none (start .args .row .now) (start .args .other .now)))
-    (c .if1 .came)
+μ-loop row other at₀ at = 33 - at
 
 returns : tie.Need-returns Inv-loop μ-loop
 returns c =
     let at = c .before .before .before .before .before .before in
-    let start = at .before .before .before .before .before .before in
+    let start = at .before .before .before .before in
     λ less. byte-decides (start .args .row .now) (start .args .other .now) (start .pre .0 .0) (start .pre .0 .1) (start .pre .1 .0) (start .pre .1 .1) (at .loop .at) (at .loop .inv .0) (omega arith) (at .loop .inv .2) (ltb-true _ _ less)
 
 loop-again : tie.Need-loop-again Inv-loop μ-loop
 loop-again c =
-    let loop = c .before .before .before .before .before .loop in
-    let start = c .before .before .before .before .before .before .before .before .before .before .before in
-    (omega arith, omega arith, alike-next (start .args .row .now) (start .args .other .now) (loop .at) (loop .inv .2) (c .before .if2 .left))
+    let loop = c .before .before .before .before .loop in
+    let start = c .before .before .before .before .before .before .before .before in
+    (omega arith, omega arith, alike-next (start .args .row .now) (start .args .other .now) (loop .at) (loop .inv .2) (c .if1 .left))
 
 returns-2 : tie.Need-returns-2 Inv-loop μ-loop
 unfolding name-size
 returns-2 c =
     let at = c .before .before .before in
-    let start = at .before .before .before .before .before .before in
+    let start = at .before .before .before .before in
     λ less. size-decides (start .args .row .now) (start .args .other .now) (start .pre .0 .0) (start .pre .0 .1) (start .pre .1 .0) (start .pre .1 .1) (at .loop .at) (c .before .before .loop-test .left) (at .loop .inv .2) (ltb-true _ _ less)
 
 pub comes-before-spec : {M : Type 1} → statement M
@@ -54,9 +38,8 @@ comes-before-spec =
     (tie.spec
     Inv-loop
     μ-loop
-    (λ c κs. omega arith)
-    (λ c κs. omega arith)
-    loop-holds
+    (λ c κs. (c .before .before .pre .0 .0, c .before .before .pre .1 .0))
+    (λ c. c .alike-until .ensures)
     (λ c. omega arith)
     (λ c. omega arith)
     (λ c. omega arith)

@@ -1,24 +1,24 @@
 -- `sorted::true_order::index_found` meets its contract: the length, then the first wrong entry. Assumes nothing.
 use native.Mathlib.Omega.{arith}
-use Rattle.rules.specs.SettingsAndUnitTable.{rows}
+use Rattle.rules.specs.SettingsAndUnitTable.{rows-in}
 use Rattle.sorted.specs.Found.{wrong-length, wrong-entry, no-wrong-entry}
 use Rattle.sorted.proofs.true_order.index_found.Statement.{statement}
 use Rattle.sorted.proofs.true_order.index_found.Tie as tie
 
 returns : tie.Need-returns
-unfolding rows
+unfolding rows-in
 returns c = λ wrong. wrong-length wrong _ _ (c .if1 .taken)
 
 returns-2 : tie.Need-returns-2
-unfolding rows
+unfolding rows-in
 returns-2 c = λ wrong. wrong-entry wrong _ _ (c .before .before .if1 .left) (c .before .first-wrong .ensures) (c .if2 .taken)
 
 returns-3 : tie.Need-returns-3
-unfolding rows
+unfolding rows-in
 returns-3 c = λ wrong. no-wrong-entry wrong _ _ (c .before .before .if1 .left) (c .before .first-wrong .ensures) (c .if2 .left)
 
 pub index-found-spec : {M : Type 1} → statement M
-unfolding rows
+unfolding rows-in
 index-found-spec =
     tie.close
     (tie.spec

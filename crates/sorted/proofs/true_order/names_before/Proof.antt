@@ -5,7 +5,7 @@ use Prim.Native.Nat.{_≤_, _-_}
 use native.Mathlib.Omega.{arith}
 use borrow.Author.Needs.{needs}
 use lib.ListN.{length}
-use Rattle.rules.specs.SettingsAndUnitTable.{rows, row, name}
+use Rattle.rules.specs.SettingsAndUnitTable.{rows, rows-in, row, name}
 use Rattle.rows.specs.Laws.Rows.{length-row}
 use Rattle.index.specs.TheSortedIndex.{before, count, names-before}
 use Rattle.sorted.specs.Found.{count-next, count-same}
@@ -20,7 +20,7 @@ abbrev μ-loop : tie.MeasureT-loop
 μ-loop table wanted rows-of found₀ i₀ found i = rows-of - i
 
 loop-holds : tie.Need-loop-holds Inv-loop μ-loop
-unfolding rows count
+unfolding rows-in count
 loop-holds c = (refl, omega arith, omega arith, refl)
 
 row-at-requires : tie.Need-row-at-requires Inv-loop μ-loop

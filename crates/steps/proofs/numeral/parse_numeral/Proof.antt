@@ -10,7 +10,7 @@ use Rattle.rules.specs.SettingsAndUnitTable.{lookup}
 use Rattle.index.specs.declared.Searched.{Searched}
 use Rattle.index.specs.Laws.Searches.{row-search-finds}
 use Rattle.steps.specs.Outcomes.{next}
-use Rattle.steps.specs.Units.{stretch-part}
+use Rattle.steps.specs.Stretches.{stretch-part}
 use Rattle.steps.specs.Numerals.{numerals-none, numeral-from, numeral-ends, numeral-nowhere, delimiter-behind, numeral-refused, numeral-got}
 use Rattle.steps.proofs.numeral.parse_numeral.Statement.{statement}
 use Rattle.steps.proofs.numeral.parse_numeral.Tie as tie
@@ -25,11 +25,11 @@ from c = numeral-from (settings-of (start c .args .settings .now)) (start c .arg
 -- what was looked up is the stretch
 looked-up :
     (c : tie.After-find)
-    → let args = start (c .before .before .before) .args in
-    c .find .result .found ≡ lookup (args .numerals .now) (slice (args .place) (c .before .before .before .past .result) (args .text .now))
+    → let args = start (c .before .before .before .before) .args in
+    c .find .result .found ≡ lookup (args .numerals .now) (slice (args .place) (c .before .before .before .before .past .result) (args .text .now))
 unfolding start
 looked-up c =
-    ap (λ (s : Searched). s .found) (c .find .ensures) ∙ row-search-finds _ _ ∙ ap (lookup _) (stretch-part _ _ _ (from (c .before .before .before)))
+    ap (λ (s : Searched). s .found) (c .find .ensures) ∙ row-search-finds _ _ ∙ ap (lookup _) (stretch-part _ _ _ (from (c .before .before .before .before)))
 
 returns : tie.Need-returns
 returns c = numerals-none (settings-of (c .before .before .before .args .settings .now)) _ _ _ (c .if1 .taken)
@@ -39,26 +39,26 @@ unfolding start
 returns-2 c =
     numeral-ends (settings-of (start (c .before) .args .settings .now)) _ _ _ (c .before .before .inner-delimiters .ensures) (c .before .past .ensures) (c .if2 .taken)
 
-sub-find : tie.Need-sub-find
+sub-word : tie.Need-sub-word
 unfolding start
-sub-find c = omega (arith, from (c .before))
+sub-word c = omega (arith, from (c .before))
 
-part-find-start : tie.Need-part-find-start
+part-word-start : tie.Need-part-word-start
 unfolding start
-part-find-start c = omega (arith, from (c .before))
+part-word-start c = omega (arith, from (c .before))
 
-part-find-end : tie.Need-part-find-end
+part-word-end : tie.Need-part-word-end
 unfolding start
-part-find-end c = omega (arith, from (c .before))
+part-word-end c = omega (arith, from (c .before))
 
 find-requires : tie.Need-find-requires
-find-requires c κs = c .before .before .before .before .before .before .before .pre .1 .sizes
+find-requires c κs = (c .before .before .before .before .before .before .before .before .pre .1 .rooms, c .first-word .ensures)
 
 returns-3 : tie.Need-returns-3
 unfolding start
 returns-3 c =
     let found = c .before .before in
-    let ended = found .before .before .before in
+    let ended = found .before .before .before .before in
     numeral-nowhere (settings-of (start ended .args .settings .now)) _ _ _ (ended .before .inner-delimiters .ensures) (ended .past .ensures)
     (looked-up found) (c .enum-told .given .1)
 
@@ -66,9 +66,9 @@ try-consume-delimiter-requires : tie.Need-try-consume-delimiter-requires
 unfolding start
 try-consume-delimiter-requires c κs =
     let found = c .before .before .before in
-    let ended = found .before .before .before in
+    let ended = found .before .before .before .before in
     delimiter-behind (settings-of (start ended .args .settings .now)) _ _ _ (ended .before .inner-delimiters .ensures) (ended .past .ensures)
-    (looked-up found) (found .before .before .if2 .left)
+    (looked-up found) (found .before .before .before .if2 .left)
 
 returns-4 : tie.Need-returns-4
 unfolding start
@@ -76,9 +76,9 @@ returns-4 c =
     let asked = c .before .before .before in
     let row = asked .before .before in
     let found = row .before .before in
-    let ended = found .before .before .before in
+    let ended = found .before .before .before .before in
     numeral-refused (settings-of (start ended .args .settings .now)) _ _ _ (ended .before .inner-delimiters .ensures) (ended .past .ensures)
-    (looked-up found) (found .before .before .if2 .left) (row .found .given .1)
+    (looked-up found) (found .before .before .before .if2 .left) (row .found .given .1)
     (sym (asked .try-consume-delimiter .ensures) ∙ ap next (c .before .cause .given .1))
 
 returns-5 : tie.Need-returns-5
@@ -87,9 +87,9 @@ returns-5 c =
     let asked = c .before .before .before in
     let row = asked .before .before in
     let found = row .before .before in
-    let ended = found .before .before .before in
+    let ended = found .before .before .before .before in
     numeral-got (settings-of (start ended .args .settings .now)) _ _ _ (ended .before .inner-delimiters .ensures) (ended .past .ensures)
-    (looked-up found) (found .before .before .if2 .left) (row .found .given .1)
+    (looked-up found) (found .before .before .before .if2 .left) (row .found .given .1)
     (sym (asked .try-consume-delimiter .ensures) ∙ ap next (c .before .next .given .1))
 
 pub parse-numeral-spec : {M : Type 1} → statement M
@@ -100,9 +100,10 @@ parse-numeral-spec =
     (λ c κs. c .before .before .before .pre .0)
     (λ c κs. tt)
     returns-2
-    sub-find
-    part-find-start
-    part-find-end
+    sub-word
+    part-word-start
+    part-word-end
+    (λ c κs. tt)
     find-requires
     (λ c. search needs)
     (λ c. search needs)

@@ -3,7 +3,7 @@ use mathlib.Core.Path.{_≡_, ap, _∙_}
 use native.Mathlib.Omega.{arith}
 use borrow.Author.Needs.{needs}
 use lib.ListN.{length}
-use Rattle.rules.specs.SettingsAndUnitTable.{row-size, kind}
+use Rattle.rules.specs.SettingsAndUnitTable.{row-size, kind-in}
 use Rattle.rows.specs.Laws.Lookup.{found-whole}
 use Rattle.steps.specs.Units.{unit-read, read-nothing, read-row}
 use Rattle.steps.proofs.unit.parse_time_unit.Statement.{statement}
@@ -19,7 +19,7 @@ long c =
     ap length found ∙ found-whole _ _ _ (λ none. c .if1 .left (ap length found ∙ none))
 
 returns-2 : tie.Need-returns-2
-unfolding kind
+unfolding kind-in
 returns-2 c =
     let found = c .before .before .before in
     rw (c .row-multiplier .ensures) (read-row _ (c .before .before .if1 .left) ∙ ap unit-read (found .find-unit .ensures))
