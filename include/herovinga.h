@@ -1,11 +1,11 @@
 /* Herovinga for C99 and C++: timings that are read exactly.
  *
- * Fourteen functions, over numbers and bytes: a part of a text, a text's total, a length written, a shift total added to, an ISO 8601 duration
+ * Sixteen functions, over numbers and bytes: a part of a text, a text's total, a length written, a shift total added to, an ISO 8601 duration
  * read, and a length written as one; an index beside a unit table made, checked, and kept while a row is replaced; part, total and shift total
- * through such indexes; and a name looked up without them and through them. They keep nothing between calls, so any number of threads may call
- * them. The library is target/staticlib/libherovinga.a (./library), for Linux on x86-64; every function in it is proved to answer
- * as document 01 and the requests that followed it say, whatever it is passed. Eight more stand here in C and only call those of the library
- * that read a text or look up a name: they take what it is read under as one card.
+ * through such indexes; a name looked up without them and through them; and stored rows moved from their old form to the new one and back. They
+ * keep nothing between calls, so any number of threads may call them. The library is target/staticlib/libherovinga.a (./library), for Linux on
+ * x86-64; every function in it is proved to answer as document 01 and the requests that followed it say, whatever it is passed. Eight more stand
+ * here in C and only call those of the library that read a text or look up a name: they take what it is read under as one card.
  *
  * Each function returns a number of enum herovinga_number and writes the whole answer. On 0 the answer has the position and the length
  * that stand at the function below; on a refusal it has the position that stands at the number, and a length of zero with a plus, and
@@ -15,10 +15,10 @@
  * What a caller owes:
  * - A pointer to a card, settings, a length, a total, an answer or what is found points to one, and is not null.
  * - A pointer to bytes points to as many as the size beside it says. With size 0 it may be null.
- * - What a function writes (answer, found, total, buffer, the index that it makes, the table and the index of which it replaces a row) overlaps
- *   nothing else that the call is passed. So the length to be written is not the one within the answer, and a new row is not one of the table
- *   that it goes into. What it only reads (card, settings, tables, indexes, text, name, length) may overlap, and no other thread changes it
- *   meanwhile.
+ * - What a function writes (answer, found, total, buffer, the index that it makes, the table and the index of which it replaces a row, the
+ *   target of a move) overlaps nothing else that the call is passed. So the length to be written is not the one within the answer, a new row is
+ *   not one of the table that it goes into, and lines are not moved in place. What it only reads (card, settings, tables, indexes, text, name,
+ *   length, source) may overlap, and no other thread changes it meanwhile.
  * Nothing else: every value of every word, byte, size and place has an answer.
  */
 #ifndef HEROVINGA_H
@@ -34,9 +34,10 @@ extern "C" {
 /* What is handed back, and the position that then stands in the answer; places are counted from the start of the text, also where a part is
  * read from further on. The first test that fails decides, in the order 7, 23, 11, 8, 10 and then left to right through the text, with 16 and 5
  * last in their part; the writer's order is 11, 10, 9. For an ISO text it is 8, then 12 and 13 left to right, and 14 last; for the ISO
- * writer 11, 5, 10, 9. For an index by itself it is 7, 23, and where a row is replaced then 10, and 7 again. */
+ * writer 11, 5, 10, 9. For an index by itself it is 7, 23, and where a row is replaced then 10, and 7 again. For a move it is 24 and 25, the
+ * first line that has one of them deciding, and 9 last. */
 enum herovinga_number {
-    HEROVINGA_DONE = 0,           /* read or written: the next place, or the text's size for a total and for an ISO text */
+    HEROVINGA_DONE = 0,           /* read, written or moved: the next place, or the text's size for a total and for an ISO text */
     HEROVINGA_NOTHING = 1,        /* nothing at the place: the place */
     HEROVINGA_EXPONENT_ABOVE = 3, /* an exponent above 32767: the digit with which it passes that */
     HEROVINGA_EXPONENT_BELOW = 4, /* an exponent below -32768: the digit with which it passes that */
@@ -44,7 +45,7 @@ enum herovinga_number {
     HEROVINGA_NO_NUMBER = 6,      /* a part begins with no number, and with no numeral that delimiters follow: that byte */
     HEROVINGA_CARD = 7,           /* settings or a table are wrong: one of enum herovinga_wrong, or the number of the hall's first bad row */
     HEROVINGA_TEXT_TOO_LONG = 8,  /* a text of more than 4,096 bytes: 4096 */
-    HEROVINGA_NO_ROOM = 9,        /* the buffer has fewer bytes left than the length needs: the place */
+    HEROVINGA_NO_ROOM = 9,        /* the buffer has fewer bytes left than the length needs: the place; the target than the moved lines have: 0 */
     HEROVINGA_BEYOND = 10,        /* a place beyond the text or the buffer: the place; a row to be replaced past the last: its number */
     HEROVINGA_MALFORMED = 11,     /* no length: 1,000,000,000 nanoseconds or more, or zero with a minus: 0 */
     HEROVINGA_NOT_ISO = 12,       /* no right ISO text has this byte here, or it ends too soon: that place */
@@ -63,8 +64,13 @@ enum herovinga_number {
     HEROVINGA_INFINITY = 22,       /* the text ends within "infinity", as in "infi": its first byte, and the whole word is wanted; or a letter of
                                       it is wrong, as in "infix", or no outer delimiter is behind it, as in "inf+1": that byte */
 
-    HEROVINGA_INDEX = 23 /* an index is not its table's, and is to be made anew: the number of rows, if it has another length; else its first entry
-                            that is not the one of the true order. The hall's index is looked at first; 128 more for the line's */
+    HEROVINGA_INDEX = 23, /* an index is not its table's, and is to be made anew: the number of rows, if it has another length; else its first entry
+                             that is not the one of the true order. The hall's index is looked at first; 128 more for the line's */
+
+    /* A line of stored rows that cannot be moved: its number, the first line being 0. */
+    HEROVINGA_NO_STORED_ROW = 24, /* it has another length than a row's line, or a byte that is no digit; or the size of its name is wrong, or a byte
+                                     behind the name or at the row's end is not zero */
+    HEROVINGA_NAME_TOO_LONG = 25  /* its name has more than 16 bytes, and the old form has no room for it */
 };
 
 /* Positions of number 7 beside those of the hall's rows, which are 0 to 63. What is wrong is looked for in the order settings, hall, line,
@@ -94,18 +100,27 @@ enum herovinga_kind {
 
 /* The rows of units and of numerals: where each field of a row stands, and how many bytes it has. */
 enum herovinga_row {
-    HEROVINGA_NAME_SIZE_AT = 0, /* one byte: how many bytes the name has, 1 to 16 */
+    HEROVINGA_NAME_SIZE_AT = 0, /* one byte: how many bytes the name has, 1 to 32 */
     HEROVINGA_NAME_AT = 1,
-    HEROVINGA_NAME_ROOM = 16, /* zeros behind the name */
-    HEROVINGA_KIND_AT = 17,   /* one byte */
-    HEROVINGA_COEFFICIENT_AT = 18,
+    HEROVINGA_NAME_ROOM = 32, /* zeros behind the name */
+    HEROVINGA_KIND_AT = 33,   /* one byte */
+    HEROVINGA_COEFFICIENT_AT = 34,
     HEROVINGA_COEFFICIENT_SIZE = 8, /* two's complement, low byte first */
-    HEROVINGA_POWER_AT = 26,
+    HEROVINGA_POWER_AT = 42,
     HEROVINGA_POWER_SIZE = 2, /* the same */
-    HEROVINGA_ZEROS_AT = 28,  /* zeros up to the row's end */
-    HEROVINGA_ROW_SIZE = 32,
+    HEROVINGA_ZEROS_AT = 44,  /* zeros up to the row's end */
+    HEROVINGA_ROW_SIZE = 48,
     HEROVINGA_MOST_ROWS = 64, /* of each unit table */
     HEROVINGA_MOST_NUMERALS = 32
+};
+
+/* The stored form of a row: two lower-case hexadecimal digits for each byte, and a newline. A row was stored in 32 bytes before, with 16 for the
+ * name and the other fields in the same order behind them. */
+enum herovinga_stored {
+    HEROVINGA_OLD_NAME_ROOM = 16,
+    HEROVINGA_OLD_ROW_SIZE = 32,
+    HEROVINGA_OLD_LINE_SIZE = 65, /* bytes of a line of the old form, the newline included */
+    HEROVINGA_LINE_SIZE = 97      /* the same of the new form, which is that of the rows above */
 };
 
 /* The tables that a lookup can find a name in. */
@@ -200,7 +215,7 @@ typedef struct herovinga_indexed_card {
  * A delimiter is below 128 and is no letter, digit, '+', '-' or '.'. Where several conjunctions fit, the first listed one is taken,
  * and not the longest. Letters behind a conjunction's size and conjunctions behind the count are not looked at.
  *
- * A table of units is up to 64 rows of 32 bytes, one behind another, and its size is 32 times their number. A row names a unit: its kind,
+ * A table of units is up to 64 rows of 48 bytes, one behind another, and its size is 48 times their number. A row names a unit: its kind,
  * times its coefficient, times ten to its power. So with the name "ms", HEROVINGA_MILLISECOND, 1 and 0 are a millisecond, and with the
  * name "turn", HEROVINGA_MILLISECOND, 123 and -1 are 12.3 of them:
  *
@@ -218,13 +233,14 @@ typedef struct herovinga_indexed_card {
  * rows win: with a row "turn" of 15 ms in c.line, "1turn" is that, and behind it all else is the hall's. Each table is checked by itself,
  * and may have up to 64 rows beside the other's; a name may stand in both.
  *
- * A name holds no delimiter of either set, no digit, no '+', '-' or '.', and no two rows of a table have the same. Names are compared byte
- * for byte, so "S" is not "s". A name led by 'e' or 'E' needs exponents on ("3e0eon"), or before_unit on and an inner set that is not empty
- * ("3 eon"): straight after a number such a letter begins an exponent, and nobody could type the unit. Kind times row, coefficients
- * multiplied and powers added, lies within plus or minus 9223372036854775807 and -32768 to 32767.
+ * A name has 1 to 32 bytes, so sixteen letters of two bytes each fill it. It holds no delimiter of either set, no digit, no '+', '-' or '.', and
+ * no two rows of a table have the same. Names are compared byte for byte, so "S" is not "s". A name led by 'e' or 'E' needs exponents on
+ * ("3e0eon"), or before_unit on and an inner set that is not empty ("3 eon"): straight after a number such a letter begins an exponent, and
+ * nobody could type the unit. Kind times row, coefficients multiplied and powers added, lies within plus or minus 9223372036854775807 and -32768
+ * to 32767.
  *
- * Numerals are words for numbers: up to 32 rows of the same form, or none. A numeral's name is ASCII letters alone, its kind is
- * HEROVINGA_SECOND, and it stands for its coefficient times ten to its power, in the same ranges: with the name "half", 5 and -1 are 0.5. No
+ * Numerals are words for numbers: up to 32 rows of the same form, or none. A numeral's name is 1 to 32 ASCII letters and nothing else, its kind
+ * is HEROVINGA_SECOND, and it stands for its coefficient times ten to its power, in the same ranges: with the name "half", 5 and -1 are 0.5. No
  * two have the same name, but a unit may have it too. A text has a numeral in the place of a number, behind it inner delimiters, whatever
  * before_unit is, and then a unit: "five min", "-five min ago". Numeral times kind, and that times the unit's row, are in those ranges, or the
  * reading is refused by 16.
@@ -314,7 +330,7 @@ uint8_t herovinga_check_index(const herovinga_settings *settings, const uint8_t 
                               size_t index_size, herovinga_answer *answer);
 
 /* Puts a new row in the place of one of a unit table, by its number from 0 on, and makes the table's index the one of the new table. Both are
- * lent, and right before. A row past the last is refused by 10. A new row that has not 32 bytes, or with which the table would not pass,
+ * lent, and right before. A row past the last is refused by 10. A new row that has not 48 bytes, or with which the table would not pass,
  * whichever row is then bad, is refused by 7 at the number of the row that was to be replaced. Position: the number of rows. Length: zero. */
 uint8_t herovinga_replace_row(const herovinga_settings *settings, uint8_t *table, size_t table_size, uint8_t *index, size_t index_size,
                               size_t row, const uint8_t *new_row, size_t new_row_size, herovinga_answer *answer);
@@ -384,6 +400,25 @@ static inline uint8_t herovinga_indexed_card_look_up(const herovinga_indexed_car
     return herovinga_look_up_indexed(&card->card.settings, card->card.hall, card->card.hall_size, card->hall_index, card->hall_index_size,
                                      card->card.line, card->card.line_size, card->line_index, card->line_index_size, name, name_size, found);
 }
+
+/* How stored rows are moved.
+ *
+ * A stored row is a line: HEROVINGA_LINE_SIZE bytes, or HEROVINGA_OLD_LINE_SIZE in the form that was before it. The entries above know the new
+ * form alone, as bytes. The two below move lines that stand one behind another, as a file has them, from one form to the other. Size of the name,
+ * name, kind, coefficient and power are carried as they are, whatever they are: no card is asked. Moved there and back, lines have the bytes that
+ * they had; from the new form every line whose name has at most 16 bytes can be.
+ *
+ * Bytes behind the last newline are a line of wrong length. No bytes at all are no lines, and 0 at 0.
+ */
+
+/* Moves lines of the old form to the new one, from the target's first byte on: HEROVINGA_LINE_SIZE bytes for each HEROVINGA_OLD_LINE_SIZE.
+ * Position: the place behind the last byte written. Length: zero. No other byte of the target changes, and none on a refusal. The first line that
+ * is not of the old form is refused by 24 at its number; then a target that is too short for all of them by 9 at 0. */
+uint8_t herovinga_move_to_new(const uint8_t *source, size_t source_size, uint8_t *target, size_t target_size, herovinga_answer *answer);
+
+/* Moves lines of the new form to the old one in the same way. The first bad line may then also be one whose name has more than 16 bytes, which is
+ * refused by 25. */
+uint8_t herovinga_move_to_old(const uint8_t *source, size_t source_size, uint8_t *target, size_t target_size, herovinga_answer *answer);
 
 #ifdef __cplusplus
 }

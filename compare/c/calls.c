@@ -1,7 +1,7 @@
 /* Calls the entries as C calls them, with what only C can pass (null, odd switches, counts that no byte holds, words that are no length) and
- * with every number that is handed back, and holds each answer, the buffer, the total, the table and the index to what must be there. Those that
- * take a card are called by their own parameters and by the card's functions, without indexes and through them. Prints how many answers were
- * held so, and each that is wrong; exits 1 if one is. */
+ * with every number that is handed back, and holds each answer, the buffer, the total, the table, the index and the target to what must be
+ * there. Those that take a card are called by their own parameters and by the card's functions, without indexes and through them. Prints how
+ * many answers were held so, and each that is wrong; exits 1 if one is. */
 #include <inttypes.h>
 #include <stdint.h>
 #include <stdio.h>
@@ -11,10 +11,14 @@
 #include "herovinga.h"
 
 #define LARGEST UINT64_MAX
-#define NUMBERS 24
+#define NUMBERS 26
 
 /* What was one number for syntax. */
 #define NOT_GIVEN 2
+
+/* The longest name, of letters, and sixteen letters of two bytes each. */
+#define LONGEST "abcdefghijklmnopqrstuvwxyzABCDEF"
+#define CYRILLIC "\320\260\320\261\320\262\320\263\320\264\320\265\320\266\320\267\320\270\320\271\320\272\320\273\320\274\320\275\320\276\320\277"
 
 static unsigned long checks, wrong, answers[NUMBERS];
 
@@ -701,6 +705,39 @@ static void names_led_by_e(const card_a *a)
     reads(&c, "3neon", 0, 15, 0);
 }
 
+/* Names of up to 32 bytes, of letters of one byte and of two: each is read, and none that is longer or shorter. A size that no name has is refused,
+ * and so is each byte behind a name. */
+static void long_names(const card_a *a)
+{
+    static const size_t sizes[] = {8, 9, 16, 17, 24, 25, 31, 32}, wrong_sizes[] = {0, 33, 34, 47, 48, 255};
+    card_a c = *a;
+    uint8_t *row = c.hall + 2 * HEROVINGA_ROW_SIZE;
+    size_t i, at;
+    for (i = 0; i < sizeof sizes / sizeof sizes[0]; i++) {
+        char name[HEROVINGA_NAME_ROOM + 1] = {0}, text[HEROVINGA_NAME_ROOM + 8];
+        memcpy(name, LONGEST, sizes[i]);
+        put_row(row, name, HEROVINGA_SECOND, 5, 0);
+        snprintf(text, sizeof text, "3%s", name);
+        reads(&c, text, 0, 15, 0);
+        snprintf(text, sizeof text, "3%sx", name);
+        fails(&c, text, HEROVINGA_NO_NUMBER, 1);
+        snprintf(text, sizeof text, "3%s", name + 1);
+        fails(&c, text, HEROVINGA_NO_NUMBER, 1);
+        for (at = HEROVINGA_NAME_AT + sizes[i]; at < HEROVINGA_KIND_AT; at++) {
+            row[at] = 1;
+            fails(&c, "1ms", HEROVINGA_CARD, 2);
+            row[at] = 0;
+        }
+    }
+    put_row(row, CYRILLIC, HEROVINGA_SECOND, 5, 0);
+    reads(&c, "3" CYRILLIC, 0, 15, 0);
+    fails(&c, "3" CYRILLIC "\321\200", HEROVINGA_NO_NUMBER, 1);
+    for (i = 0; i < sizeof wrong_sizes / sizeof wrong_sizes[0]; i++) {
+        row[HEROVINGA_NAME_SIZE_AT] = (uint8_t)wrong_sizes[i];
+        fails(&c, "1ms", HEROVINGA_CARD, 2);
+    }
+}
+
 /* Rows with the names "aA" to "zA", "aB" and on, all of the same worth. */
 static void put_rows(uint8_t *table, size_t first, size_t count, int64_t seconds)
 {
@@ -1014,9 +1051,9 @@ static void numeral_tables(const card_a *a)
     refused(with_numerals(c, many, sizeof many), HEROVINGA_WRONG_NUMERALS_SIZE);
     numeral_rows(a);
 
-    put_row(longest, "ABCXYZabcdefgxyz", HEROVINGA_SECOND, -INT64_MAX, 0);
-    check_total(with_numerals(c, longest, sizeof longest), "the longest name", "ABCXYZabcdefgxyz s", 18, HEROVINGA_DONE, 18, minus);
-    put_row(longest, "ABCXYZabcdefgxyz", HEROVINGA_SECOND, INT64_MIN, 0);
+    put_row(longest, LONGEST, HEROVINGA_SECOND, -INT64_MAX, 0);
+    check_total(with_numerals(c, longest, sizeof longest), "the longest name", LONGEST " s", 34, HEROVINGA_DONE, 34, minus);
+    put_row(longest, LONGEST, HEROVINGA_SECOND, INT64_MIN, 0);
     refused(with_numerals(c, longest, sizeof longest), HEROVINGA_FIRST_NUMERAL);
 
     /* The size comes before the rows, all else of the card_a before both. */
@@ -1274,7 +1311,9 @@ static void checks_index(herovinga_card c, const uint8_t *index, size_t size, ui
 
 static void order_of_names(const card_a *a)
 {
-    static const char *const names[] = {"\001", "A", "Z", "a", "ab", "abcdefghijklmnop", "b", "m", "min", "ms", "\177", "\200", "\302\265s", "\377"};
+    static const char *const names[] = {"\001", "A", "Z", "a", "ab", "abcdefgh", "abcdefghi", "abcdefghijklmnop", "abcdefghijklmnopq",
+                                        "abcdefghijklmnopqrstuvwx", "abcdefghijklmnopqrstuvwxyzABCDE", "abcdefghijklmnopqrstuvwxyzABCDEE", LONGEST,
+                                        "abcdefgi", "b", "m", "min", "ms", "\177", "\200", "\302\265s", CYRILLIC, "\377"};
     enum { COUNT = sizeof names / sizeof names[0] };
     uint8_t table[COUNT * HEROVINGA_ROW_SIZE], index[COUNT];
     size_t shift, i;
@@ -1311,7 +1350,7 @@ static void made_indexes(const card_a *a)
 
     /* A wrong table and wrong settings come first; a wrong table of the line's, or wrong numerals, are not passed. */
     makes(with_hall(c, table, MORE), HEROVINGA_MOST_ROWS + 1, HEROVINGA_CARD, HEROVINGA_WRONG_HALL_SIZE, NULL);
-    makes(with_hall(c, table, 31), 0, HEROVINGA_CARD, HEROVINGA_WRONG_HALL_SIZE, NULL);
+    makes(with_hall(c, table, HEROVINGA_ROW_SIZE - 1), 0, HEROVINGA_CARD, HEROVINGA_WRONG_HALL_SIZE, NULL);
     worse.hall[5 * HEROVINGA_ROW_SIZE + HEROVINGA_KIND_AT] = 8;
     makes(of(&worse), 6, HEROVINGA_CARD, 5, NULL);
     makes(of(&worse), 0, HEROVINGA_CARD, 5, NULL);
@@ -1420,7 +1459,8 @@ static void replaced_rows(const card_a *a)
 static void rows_not_replaced(const card_a *a)
 {
     static const uint8_t swapped[6] = {5, 3, 1, 0, 4, 2};
-    static const size_t past[] = {6, 7, 64, 256, SIZE_MAX / 32 + 1, SIZE_MAX};
+    /* So many times 48 bytes are 0 and 32 in a size_t. */
+    static const size_t past[] = {6, 7, 64, 256, SIZE_MAX / 16 + 1, SIZE_MAX / HEROVINGA_ROW_SIZE + 1, SIZE_MAX};
     const herovinga_card c = of(a);
     uint8_t two[2 * HEROVINGA_ROW_SIZE], bad[HEROVINGA_ROW_SIZE];
     card_a worse = *a;
@@ -1544,14 +1584,16 @@ static void lookups(const card_a *a)
     finds(seven, "pouch", HEROVINGA_NO_TABLE, 0, 8, 5);
     finds(seven, "", HEROVINGA_NO_TABLE, 0, 8, 5);
     finds(with_hall(seven, NULL, 0), "s", HEROVINGA_NO_TABLE, 0, 2, 2);
-    finds(with_numerals(seven, seven.hall, 31), "jaw", HEROVINGA_LINE, 0, 1, 2);
+    finds(with_numerals(seven, seven.hall, HEROVINGA_ROW_SIZE - 1), "jaw", HEROVINGA_LINE, 0, 1, 2);
 
     /* A longer name is not cut to the size of a row's. */
-    put_row(line, "abcdefghijklmnop", HEROVINGA_SECOND, 1, 0);
+    put_row(line, LONGEST, HEROVINGA_SECOND, 1, 0);
     c = with_line(seven, line, HEROVINGA_ROW_SIZE);
-    finds(c, "abcdefghijklmnop", HEROVINGA_LINE, 0, 1, 1);
-    finds(c, "abcdefghijklmnopq", HEROVINGA_NO_TABLE, 0, 7, 4);
-    finds_bytes(c, "abcdefghijklmnop\003", 17, HEROVINGA_NO_TABLE, 0, 7, 4);
+    finds(c, LONGEST, HEROVINGA_LINE, 0, 1, 1);
+    finds_bytes(c, LONGEST, 31, HEROVINGA_NO_TABLE, 0, 7, 4);
+    finds_bytes(c, LONGEST, 16, HEROVINGA_NO_TABLE, 0, 7, 4);
+    finds(c, LONGEST "G", HEROVINGA_NO_TABLE, 0, 7, 4);
+    finds_bytes(c, LONGEST "\003", 33, HEROVINGA_NO_TABLE, 0, 7, 4);
 
     /* Both full: at most 64 of each one by one, and 7 by halving. */
     put_rows(line, 0, HEROVINGA_MOST_ROWS, 1);
@@ -1650,7 +1692,7 @@ static void numerals_before_indexes(const card_a *a)
 {
     herovinga_indexed_card i = indexed(&(const herovinga_card){0});
     int way;
-    i.card = with_numerals(line_7(a), own, 31);
+    i.card = with_numerals(line_7(a), own, HEROVINGA_ROW_SIZE - 1);
     for (way = BY_INDEXES; way < WAYS; way++) {
         herovinga_answer answer;
         herovinga_found found;
@@ -1659,6 +1701,166 @@ static void numerals_before_indexes(const card_a *a)
         got = look_up(way, &i, "s", 1, &found);
         check_found("no numerals of a lookup", got, found, HEROVINGA_INDEX, 6, HEROVINGA_NO_TABLE, 0, 0);
     }
+}
+
+/* ---- stored rows moved from one form to the other */
+
+enum { MOST_LINES = 4, TARGET = (MOST_LINES + 1) * HEROVINGA_LINE_SIZE };
+
+/* A form of rows, by its room for the name, and the entry that moves its lines to the other form. */
+typedef struct form {
+    size_t room;
+    uint8_t (*move)(const uint8_t *source, size_t source_size, uint8_t *target, size_t target_size, herovinga_answer *answer);
+} form;
+
+static const form old_form = {HEROVINGA_OLD_NAME_ROOM, herovinga_move_to_new}, new_form = {HEROVINGA_NAME_ROOM, herovinga_move_to_old};
+
+static size_t line_size(const form *f)
+{
+    return f->room == HEROVINGA_NAME_ROOM ? HEROVINGA_LINE_SIZE : HEROVINGA_OLD_LINE_SIZE;
+}
+
+/* A row's line in a form: a name, and behind its room kind, coefficient and power of no unit, and four zeros. */
+static void put_line(const form *f, uint8_t *line, const char *name)
+{
+    static const uint8_t behind[15] = {255, 1, 2, 3, 4, 5, 6, 7, 8, 0x9a, 0xbc, 0, 0, 0, 0};
+    uint8_t row[HEROVINGA_ROW_SIZE] = {0};
+    const size_t size = 1 + f->room + sizeof behind;
+    size_t i;
+    row[0] = (uint8_t)strlen(name);
+    memcpy(row + 1, name, strlen(name));
+    memcpy(row + 1 + f->room, behind, sizeof behind);
+    for (i = 0; i < size; i++) {
+        line[2 * i] = (uint8_t)"0123456789abcdef"[row[i] / 16];
+        line[2 * i + 1] = (uint8_t)"0123456789abcdef"[row[i] % 16];
+    }
+    line[2 * size] = '\n';
+}
+
+/* Lines of a form by their names, one behind another; returns their size. */
+static size_t put_lines(const form *f, uint8_t *lines, const char *const *names, size_t count)
+{
+    size_t i;
+    for (i = 0; i < count; i++)
+        put_line(f, lines + i * line_size(f), names[i]);
+    return count * line_size(f);
+}
+
+/* Lines of a form, moved into so much of a guarded target: what is handed back, and what the target then begins with, nothing if they are refused. */
+static void moves(const form *f, const uint8_t *source, size_t size, size_t room, uint8_t number, uint64_t position, const uint8_t *wanted)
+{
+    static uint8_t target[TARGET], target_then[TARGET];
+    herovinga_answer answer = unwritten();
+    uint8_t got;
+    put_guarded(target, sizeof target, NULL, 0);
+    put_guarded(target_then, sizeof target_then, wanted, wanted == NULL ? 0 : (size_t)position);
+    got = f->move(size == 0 ? NULL : source, size, room == 0 ? NULL : target, room, &answer);
+    check_answer("lines moved", got, answer, number, position, zero);
+    check("the target then", memcmp(target, target_then, sizeof target) == 0);
+}
+
+/* There and back, into targets that are just large enough, larger, too short by one byte and by all of them. */
+static void moved_lines(void)
+{
+    static const char *const names[MOST_LINES] = {"s", "\302\265s", "abcdefghijklmno", "abcdefghijklmnop"};
+    uint8_t old_lines[TARGET], new_lines[TARGET];
+    size_t count;
+    for (count = 0; count <= MOST_LINES; count++) {
+        const size_t old_size = put_lines(&old_form, old_lines, names, count), new_size = put_lines(&new_form, new_lines, names, count);
+        moves(&old_form, old_lines, old_size, new_size, HEROVINGA_DONE, new_size, new_lines);
+        moves(&old_form, old_lines, old_size, TARGET, HEROVINGA_DONE, new_size, new_lines);
+        moves(&new_form, new_lines, new_size, old_size, HEROVINGA_DONE, old_size, old_lines);
+        moves(&new_form, new_lines, new_size, TARGET, HEROVINGA_DONE, old_size, old_lines);
+        if (count > 0) {
+            moves(&old_form, old_lines, old_size, new_size - 1, HEROVINGA_NO_ROOM, 0, NULL);
+            moves(&old_form, old_lines, old_size, 0, HEROVINGA_NO_ROOM, 0, NULL);
+            moves(&new_form, new_lines, new_size, old_size - 1, HEROVINGA_NO_ROOM, 0, NULL);
+            moves(&new_form, new_lines, new_size, 0, HEROVINGA_NO_ROOM, 0, NULL);
+        }
+    }
+}
+
+/* Two digits of a line changed: each line in turn is refused, whatever room there is. */
+static void no_stored_row(const form *f, size_t byte, const char *digits)
+{
+    static const char *const names[MOST_LINES] = {"s", "ms", "min", "turn"};
+    uint8_t lines[TARGET];
+    size_t line;
+    for (line = 0; line < MOST_LINES; line++) {
+        const size_t size = put_lines(f, lines, names, MOST_LINES);
+        memcpy(lines + line * line_size(f) + 2 * byte, digits, 2);
+        moves(f, lines, size, TARGET, HEROVINGA_NO_STORED_ROW, line, NULL);
+        moves(f, lines, size, 0, HEROVINGA_NO_STORED_ROW, line, NULL);
+        moves(f, lines, (line + 1) * line_size(f), TARGET, HEROVINGA_NO_STORED_ROW, line, NULL);
+    }
+}
+
+/* Lines of wrong length, by the bytes of the last; with a newline more, with one less, and the other form's. */
+static void wrong_lengths_of_lines(const form *f, const form *other)
+{
+    static const char *const names[MOST_LINES] = {"s", "ms", "min", "turn"};
+    uint8_t lines[TARGET];
+    size_t size = put_lines(f, lines, names, MOST_LINES - 1), bytes;
+    for (bytes = 1; bytes < line_size(f); bytes++)
+        moves(f, lines, size - bytes, TARGET, HEROVINGA_NO_STORED_ROW, MOST_LINES - 2, NULL);
+    lines[size] = '\n';
+    moves(f, lines, size + 1, TARGET, HEROVINGA_NO_STORED_ROW, MOST_LINES - 1, NULL);
+    lines[size] = '0';
+    moves(f, lines, size + 1, TARGET, HEROVINGA_NO_STORED_ROW, MOST_LINES - 1, NULL);
+    lines[size - 1] = '0';
+    moves(f, lines, size, TARGET, HEROVINGA_NO_STORED_ROW, MOST_LINES - 2, NULL);
+    lines[size] = '\n';
+    moves(f, lines, size + 1, TARGET, HEROVINGA_NO_STORED_ROW, MOST_LINES - 2, NULL);
+    moves(f, lines + size, 1, TARGET, HEROVINGA_NO_STORED_ROW, 0, NULL);
+    size = put_lines(other, lines, names, MOST_LINES);
+    moves(f, lines, size, TARGET, HEROVINGA_NO_STORED_ROW, 0, NULL);
+}
+
+/* 24: bytes, the size of the name, the zeros behind it and those at the row's end; and lengths. */
+static void lines_not_moved(void)
+{
+    static const form *const forms[2] = {&old_form, &new_form};
+    size_t i, byte;
+    for (i = 0; i < 2; i++) {
+        const form *f = forms[i];
+        const size_t zeros = 1 + f->room + 11;
+        char too_long[3];
+        static const char *const no_digits[] = {"0A", "F0", "g0", "0/", ":0", "0`", " 0", "0\n", "\n0", "0\377"};
+        for (byte = 0; byte < sizeof no_digits / sizeof no_digits[0]; byte++) {
+            no_stored_row(f, 0, no_digits[byte]);
+            no_stored_row(f, 1 + f->room, no_digits[byte]);
+            no_stored_row(f, zeros + 3, no_digits[byte]);
+        }
+        snprintf(too_long, sizeof too_long, "%02x", (unsigned)f->room + 1);
+        no_stored_row(f, 0, "00");
+        no_stored_row(f, 0, too_long);
+        no_stored_row(f, 0, "ff");
+        for (byte = 5; byte <= f->room; byte++)
+            no_stored_row(f, byte, "01");
+        for (byte = 0; byte < 4; byte++)
+            no_stored_row(f, zeros + byte, "80");
+        wrong_lengths_of_lines(f, forms[1 - i]);
+    }
+}
+
+/* 25 at each line, by names of 17 bytes and of 32; the first bad line decides between 24 and 25, and both come before 9. */
+static void order_of_lines(void)
+{
+    static const char *const names[MOST_LINES] = {"s", "ms", "min", "turn"}, *const long_names[] = {"abcdefghijklmnopq", LONGEST, CYRILLIC};
+    uint8_t lines[TARGET];
+    size_t size, line, later, name;
+    for (line = 0; line < MOST_LINES; line++)
+        for (name = 0; name < sizeof long_names / sizeof long_names[0]; name++) {
+            size = put_lines(&new_form, lines, names, MOST_LINES);
+            put_line(&new_form, lines + line * HEROVINGA_LINE_SIZE, long_names[name]);
+            moves(&new_form, lines, size, TARGET, HEROVINGA_NAME_TOO_LONG, line, NULL);
+            moves(&new_form, lines, size, 0, HEROVINGA_NAME_TOO_LONG, line, NULL);
+            for (later = 0; later < MOST_LINES; later++) {
+                lines[later * HEROVINGA_LINE_SIZE] = 'x';
+                moves(&new_form, lines, size, 0, later <= line ? HEROVINGA_NO_STORED_ROW : HEROVINGA_NAME_TOO_LONG, later <= line ? later : line, NULL);
+                lines[later * HEROVINGA_LINE_SIZE] = later == line && name > 0 ? '2' : later == line ? '1' : '0';
+            }
+        }
 }
 
 int main(void)
@@ -1689,6 +1891,7 @@ int main(void)
     too_large(&a);
     cards(&a);
     names_led_by_e(&a);
+    long_names(&a);
     tables(&a);
     line_wins(&a);
     line_names(&a);
@@ -1712,6 +1915,9 @@ int main(void)
     lookups_refused(&a);
     order_of_indexes(&a);
     numerals_before_indexes(&a);
+    moved_lines();
+    lines_not_moved();
+    order_of_lines();
     check("the card is as it was", memcmp(&a, &before, sizeof a) == 0);
     check("the line's table is as it was", memcmp(own, own_before, sizeof own) == 0);
     check("the numerals are as they were", memcmp(words, words_before, sizeof words) == 0);

@@ -5,6 +5,7 @@ mod all_texts;
 mod found;
 mod indexes_beside;
 mod made_texts;
+mod moves_beside;
 mod port_side;
 mod progress;
 mod side_by_side;
@@ -30,6 +31,10 @@ mod make_card;
 mod make_indexes;
 #[allow(dead_code)]
 mod make_text;
+#[allow(dead_code)]
+mod move_limits;
+#[allow(dead_code)]
+mod moves;
 #[allow(dead_code)]
 mod nanoseconds;
 #[allow(dead_code)]
@@ -94,6 +99,7 @@ fn seed_and_count(words: &[&str], count: u64) -> Result<(u64, u64), String> {
 fn made(seed: u64, count: u64, spoiler: Option<Spoiler>) -> Result<bool, String> {
     let mut found = Found::new(format!("seed {seed}"), count, spoiler);
     indexes_beside::hold_limits(&mut found);
+    moves_beside::hold_limits(&mut found);
     made_texts::ask(&mut found, seed, count)?;
     Ok(found.end())
 }
@@ -102,6 +108,7 @@ fn all() -> Result<bool, String> {
     let name = "all texts of up to five bytes".to_string();
     let mut found = Found::new(name, all_texts::count(), None);
     indexes_beside::hold_limits(&mut found);
+    moves_beside::hold_limits(&mut found);
     all_texts::ask(&mut found)?;
     Ok(found.end())
 }

@@ -7,11 +7,15 @@ use crate::card_a::same_answer;
 use crate::crate_side::CrateAnswer;
 use crate::index_request::{IndexRequest, Outcome};
 use crate::left_out::LeftOut;
+use crate::moves::Moved;
 use crate::progress::Progress;
-use crate::request::{Answer, Card, NUMBERS};
+use crate::request::{Answer, Card, NUMBERS, bytes_field};
 use crate::slips::SLIPS;
 use crate::spoil::Spoiler;
 use crate::table::{MOST_ROWS, ROW_BYTES, merged};
+
+/// The numbers that moves alone hand back, behind all others.
+const OF_MOVES: usize = 2;
 
 /// So many differing requests are shown in full.
 const MOST_SHOWN: u64 = 50;
@@ -44,6 +48,9 @@ pub struct Found {
     /// the name of the request; and what of it had been written by hand.
     indexes: BTreeMap<&'static str, HeldAgainstPlain>,
     index_limits: HeldAgainstPlain,
+    /// Moves of stored rows, which the crate does not have either.
+    moves: HeldAgainstPlain,
+    move_limits: HeldAgainstPlain,
     /// What the port was asked about itself: texts, their parts, and lengths
     /// written and read back.
     pub texts: u64,
@@ -55,7 +62,7 @@ pub struct Found {
 
 /// How many answers there are of each number.
 #[derive(Default)]
-struct Numbers([u64; NUMBERS]);
+struct Numbers([u64; NUMBERS + OF_MOVES]);
 
 impl Numbers {
     fn count(&mut self, number: u8) {
@@ -114,6 +121,11 @@ fn number_of(outcome: &Outcome) -> u8 {
         | Outcome::Shifted { answer, .. } => answer.number,
         Outcome::LookedUp(found) => found.number,
     }
+}
+
+/// The answer of a move, and the target then.
+fn told(moved: &Moved) -> String {
+    format!("{} {}", moved.answer, bytes_field(&moved.target))
 }
 
 /// What is counted again of the cards that have something.
@@ -208,6 +220,8 @@ impl Found {
             slips: HeldAgainstPlain::default(),
             indexes: BTreeMap::new(),
             index_limits: HeldAgainstPlain::default(),
+            moves: HeldAgainstPlain::default(),
+            move_limits: HeldAgainstPlain::default(),
             texts: 0,
             parts_of_texts: 0,
             written: 0,
@@ -285,6 +299,21 @@ impl Found {
         }
     }
 
+    /// Counts a move of the port's, compares answer and target with what is wanted and
+    /// shows it if they differ.
+    pub fn hold_move(&mut self, request: &impl fmt::Display, plain: &Moved, port: &Moved) {
+        if !self.moves.count(port.answer.number, plain == port) {
+            self.show(request, [("port", told(port)), ("plain", told(plain))]);
+        }
+    }
+
+    /// The same with what was written by hand.
+    pub fn hold_move_limit(&mut self, request: &impl fmt::Display, hand: &Moved, port: &Moved) {
+        if !self.move_limits.count(port.answer.number, hand == port) {
+            self.show(request, [("port", told(port)), ("limit", told(hand))]);
+        }
+    }
+
     /// Counts something in which the port differs from itself.
     pub fn differs_from_itself(&mut self) {
         self.differing_itself += 1;
@@ -295,7 +324,8 @@ impl Found {
     }
 
     fn differing_from_plain(&self) -> u64 {
-        self.places.differing + self.slips.differing + self.differing_indexes()
+        let moves = self.moves.differing + self.move_limits.differing;
+        self.places.differing + self.slips.differing + self.differing_indexes() + moves
     }
 
     fn differing_indexes(&self) -> u64 {
@@ -370,6 +400,18 @@ impl Found {
                 held.numbers
             );
         }
+        println!(
+            "moves at their limits: {} held against what was written by hand, {} differ; by number: {}",
+            self.move_limits.numbers.all(),
+            self.move_limits.differing,
+            self.move_limits.numbers
+        );
+        println!(
+            "moves: {} held against the plain way, {} differ; by number: {}",
+            self.moves.numbers.all(),
+            self.moves.differing,
+            self.moves.numbers
+        );
         println!(
             "by the port alone: {} texts read in parts and added to a total, {} parts, {} lengths written and read back; {} differ",
             self.texts, self.parts_of_texts, self.written, self.differing_itself

@@ -1,13 +1,13 @@
 //! Cases at the limits of indexes and lookups, with answers written by hand from
-//! request seven: the order of names, each length and each entry of an index, 23
-//! between 7 and all else, a row replaced, and the names that a lookup compares.
-//! Each rule is tried from both sides.
+//! request seven: the order of names of up to 32 bytes, each length and each entry
+//! of an index, 23 between 7 and all else, a row replaced, and the names that a
+//! lookup compares. Each rule is tried from both sides.
 
 use crate::card_a::{card_a, line_7, row};
 use crate::index_request::{Found, IndexRequest, Indexes, Outcome};
 use crate::plain_index;
 use crate::request::{Answer, ByteSet, Card, Length};
-use crate::table::{ROW_BYTES, Row, table_bytes};
+use crate::table::{KIND_PLACE, ROW_BYTES, Row, table_bytes};
 
 /// Card A's index: block, min, ms, ns, s, turn. Line 7's: jaw, turn.
 const RIGHT: [u8; 6] = [5, 3, 1, 0, 2, 4];
@@ -18,6 +18,14 @@ const BEFORE: u8 = 99;
 
 /// The number of an index.
 const WRONG: u8 = 23;
+
+/// 48 times this is 2 to the 64th and 32.
+const WRAPS_TO_32: u64 = 384_307_168_202_282_326;
+
+/// The longest name, and sixteen letters of two bytes each.
+const LONGEST: &[u8; 32] = b"abcdefghijklmnopqrstuvwxyzABCDEF";
+const CYRILLIC: &str = "абвгдежзийклмноп";
+const GREEK: &str = "αβγδεζηθικλμνξοπ";
 
 pub struct Case {
     pub name: String,
@@ -147,7 +155,7 @@ fn with_numerals(card: Card, rows: &[Row]) -> Card {
 /// Card A with its third row's kind wrong, and with `turn` twice.
 fn bad_row() -> Card {
     let mut card = card_a();
-    card.hall[2 * ROW_BYTES + 17] = 8;
+    card.hall[2 * ROW_BYTES + KIND_PLACE] = 8;
     card
 }
 
@@ -431,12 +439,29 @@ fn plus(seconds: u64, nanos: u64) -> Length {
 // Byte by byte as numbers from 0 to 255, a prefix first; each pair in both orders of rows.
 #[rustfmt::skip]
 fn order_of_names() -> Vec<Case> {
-    let pairs: [(&str, &[u8], &[u8]); 19] = [
+    let pairs: [(&str, &[u8], &[u8]); 46] = [
         ("a prefix", b"m", b"ms"),
         ("a longer prefix", b"abcdefgh", b"abcdefghi"),
-        ("the longest name and a byte less", b"abcdefghijklmno", b"abcdefghijklmnop"),
+        ("16 bytes and a byte less", b"abcdefghijklmno", b"abcdefghijklmnop"),
+        ("the longest name and a byte less", &LONGEST[..31], LONGEST),
+        ("the longest name and its first byte", b"a", LONGEST),
+        ("the longest name and its first 8", &LONGEST[..8], LONGEST),
+        ("the longest name and its first 16", &LONGEST[..16], LONGEST),
+        ("the longest name and its first 24", &LONGEST[..24], LONGEST),
+        ("8 bytes and 9", &LONGEST[..8], &LONGEST[..9]),
+        ("16 bytes and 17", &LONGEST[..16], &LONGEST[..17]),
+        ("24 bytes and 25", &LONGEST[..24], &LONGEST[..25]),
+        ("8 bytes and 16", &LONGEST[..8], &LONGEST[..16]),
+        ("16 bytes and 24", &LONGEST[..16], &LONGEST[..24]),
         ("a prefix and byte 0", b"m", b"m\0"),
         ("byte 0 once and twice", b"\0", b"\0\0"),
+        ("byte 0 31 times and 32", &[0; 31], &[0; 32]),
+        ("byte 0 once and 32 times", b"\0", &[0; 32]),
+        ("8 bytes and byte 0", b"abcdefgh", b"abcdefgh\0"),
+        ("16 bytes and byte 0", b"abcdefghijklmnop", b"abcdefghijklmnop\0"),
+        ("24 bytes and byte 0", b"abcdefghijklmnopqrstuvwx", b"abcdefghijklmnopqrstuvwx\0"),
+        ("31 bytes and byte 0", &LONGEST[..31], b"abcdefghijklmnopqrstuvwxyzABCDE\0"),
+        ("byte 0 inside, and a longer name", b"a\0b", b"a\x01"),
         ("first byte", b"as", b"bs"),
         ("second byte", b"min", b"ms"),
         ("a shorter name behind", b"az", b"b"),
@@ -444,11 +469,21 @@ fn order_of_names() -> Vec<Case> {
         ("capitals before small letters", b"Z", b"a"),
         ("eighth byte", b"abcdefgha", b"abcdefgia"),
         ("ninth byte", b"abcdefgha", b"abcdefghb"),
-        ("last byte", b"abcdefghijklmnop", b"abcdefghijklmnoq"),
+        ("16th byte", b"abcdefghijklmnop", b"abcdefghijklmnoq"),
+        ("17th byte", b"abcdefghijklmnopa", b"abcdefghijklmnopb"),
+        ("24th byte", b"abcdefghijklmnopqrstuvwxz", b"abcdefghijklmnopqrstuvwya"),
+        ("25th byte", b"abcdefghijklmnopqrstuvwxa", b"abcdefghijklmnopqrstuvwxb"),
+        ("31st byte", b"abcdefghijklmnopqrstuvwxyzABCDAz", b"abcdefghijklmnopqrstuvwxyzABCDBa"),
+        ("last byte", b"abcdefghijklmnopqrstuvwxyzABCDEA", b"abcdefghijklmnopqrstuvwxyzABCDEB"),
+        ("last byte, above 127", b"abcdefghijklmnopqrstuvwxyzABCDE\x7f", b"abcdefghijklmnopqrstuvwxyzABCDE\x80"),
+        ("an early byte of the longest", b"abcdefgAijklmnopqrstuvwxyz\xff\xff\xff\xff\xff\xff", b"abcdefgBijklmnopqrstuvwxyz\0\0\0\0\0\0"),
         ("0 and 255", b"\0", b"\xff"),
         ("127 and 128", b"\x7f", b"\x80"),
         ("128 and 255", b"\x80", b"\xff"),
         ("a letter and a byte above 127", b"z", b"\xc2\xb5"),
+        ("us and \u{b5}s", b"us", b"\xc2\xb5s"),
+        ("Greek and Cyrillic", GREEK.as_bytes(), CYRILLIC.as_bytes()),
+        ("15 letters and 16 of two bytes", &CYRILLIC.as_bytes()[..30], CYRILLIC.as_bytes()),
         ("a later byte above 127", b"ab\x7fz", b"ab\x80a"),
         ("an early byte decides", b"a\xff\xff", b"b\0\0"),
     ];
@@ -583,7 +618,7 @@ fn cards_before_indexes() -> Vec<Case> {
     for (name, card, position) in [
         ("delimiters", Card { inner: ByteSet::of(b"+"), ..card_a() }, 65),
         ("kind", with_kind(card_a(), 8), 67),
-        ("table size", cut(card_a(), 191), 64),
+        ("table size", cut(card_a(), 287), 64),
         ("table of 65", seconds(&many(65)), 64),
         ("bad row", bad_row(), 2),
         ("name twice", twice(), 1),
@@ -640,15 +675,15 @@ fn order_of_refusals() -> Vec<Case> {
     cases.extend(refused("the hall's index", &line_7(), &both_wrong, WRONG, 0));
     let card = with_numerals(line_7(), std::slice::from_ref(&bad));
     cases.extend(refused("numerals", &card, &both_wrong, 7, 68));
-    let card = Card { numerals: vec![0; 31], ..card };
+    let card = Card { numerals: vec![0; 47], ..card };
     cases.extend(refused("size of the numerals", &card, &both_wrong, 7, 100));
     let card = with_line(card, &[row("jaw", 2, 40, 0), bad.clone()]);
     cases.extend(refused("the line's row", &card, &both_wrong, 7, 129));
-    let card = Card { line: vec![0; 33], ..card };
+    let card = Card { line: vec![0; 49], ..card };
     cases.extend(refused("size of the line's", &card, &both_wrong, 7, 192));
     let card = Card { hall: table_bytes(&[row("s", 3, 1, 0), row("t", 3, 1, 0), bad]), ..card };
     cases.extend(refused("the hall's row", &card, &both_wrong, 7, 2));
-    let card = cut(card, 33);
+    let card = cut(card, 49);
     cases.extend(refused("size of the hall's", &card, &both_wrong, 7, 64));
     let card = with_kind(card, 8);
     cases.extend(refused("kind", &card, &both_wrong, 7, 67));
@@ -699,6 +734,10 @@ fn rows_replaced() -> Vec<Case> {
         replaces("ms keeps its name", card_a(), &RIGHT, 1, row("ms", 2, 2, 0), &RIGHT),
         replaces("by itself", card_a(), &RIGHT, 4, row("turn", 2, 123, -1), &RIGHT),
         replaces("a byte above 127", card_a(), &RIGHT, 5, second(b"\xc2\xb5s"), &[3, 1, 0, 2, 4, 5]),
+        replaces("the longest name", card_a(), &RIGHT, 2, second(LONGEST), &[2, 5, 3, 1, 0, 4]),
+        replaces("sixteen letters of two bytes", card_a(), &RIGHT, 5, second(CYRILLIC.as_bytes()), &[3, 1, 0, 2, 4, 5]),
+        replaces("the longest name by one that differs last", seconds(&[LONGEST, b"abcdefghijklmnopqrstuvwxyzABCDEH"]), &[0, 1], 0,
+            second(b"abcdefghijklmnopqrstuvwxyzABCDEI"), &[1, 0]),
         replaces("byte 0", card_a(), &RIGHT, 4, second(b"\0"), &[4, 5, 3, 1, 0, 2]),
         replaces("one row", seconds(&["s"]), &[0], 0, row("t", 3, 1, 0), &[0]),
         replaces("two rows, first", seconds(&["a", "b"]), &[0, 1], 0, row("c", 3, 1, 0), &[1, 0]),
@@ -719,13 +758,15 @@ fn rows_not_replaced() -> Vec<Case> {
         replaces_not("past the last", card_a(), &RIGHT, (6, &good), 10, 6),
         replaces_not("further on", card_a(), &RIGHT, (7, &good), 10, 7),
         replaces_not("256 rows on", card_a(), &RIGHT, (256, &good), 10, 256),
-        replaces_not("2 to the 59th, which is 0 in bytes", card_a(), &RIGHT, (1 << 59, &good), 10, 1 << 59),
+        replaces_not("2 to the 60th, which is 0 in bytes", card_a(), &RIGHT, (1 << 60, &good), 10, 1 << 60),
+        replaces_not("the same and one, which is 48 in bytes", card_a(), &RIGHT, ((1 << 60) + 1, &good), 10, (1 << 60) + 1),
+        replaces_not("a row that is 32 in bytes", card_a(), &RIGHT, (WRAPS_TO_32, &good), 10, WRAPS_TO_32),
         replaces_not("the largest", card_a(), &RIGHT, (u64::MAX, &good), 10, u64::MAX),
         replaces_not("no rows", hall(&[]), &[], (0, &good), 10, 0),
         replaces_not("one row", seconds(&["s"]), &[0], (1, &good), 10, 1),
         replaces_not("64 rows", full.clone(), &rising(64), (64, &good), 10, 64),
         replaces_not("no bytes", card_a(), &RIGHT, (0, b""), 7, 0),
-        replaces_not("a byte less", card_a(), &RIGHT, (0, &good[..31]), 7, 0),
+        replaces_not("a byte less", card_a(), &RIGHT, (0, &good[..47]), 7, 0),
         replaces_not("a byte more", card_a(), &RIGHT, (5, &[&good[..], &[0]].concat()), 7, 5),
         replaces_not("two rows", card_a(), &RIGHT, (1, &[good, row("y", 3, 1, 0).to_bytes()].concat()), 7, 1),
         replaces_not("a row less in one of two", seconds(&["a", "b"]), &[0, 1], (1, b""), 7, 1),
@@ -733,10 +774,12 @@ fn rows_not_replaced() -> Vec<Case> {
         replaces_not("the name of the last row", card_a(), &RIGHT, (4, &row("block", 3, 1, 0).to_bytes()), 7, 4),
         replaces_not("the name of an earlier row", card_a(), &RIGHT, (4, &row("s", 3, 1, 0).to_bytes()), 7, 4),
         replaces_not("the name of the first row", card_a(), &RIGHT, (5, &row("ns", 3, 1, 0).to_bytes()), 7, 5),
+        replaces_not("the name of another row, 32 bytes", seconds(&[&LONGEST[..31], LONGEST]), &[0, 1], (0, &second(LONGEST).to_bytes()), 7, 0),
+        replaces_not("an old row of 32 bytes", card_a(), &RIGHT, (3, b"\x04zone\0\0\0\0\0\0\0\0\0\0\0\0\x03\x01\0\0\0\0\0\0\0\0\0\0\0\0\0"), 7, 3),
         replaces_not("a digit", card_a(), &RIGHT, (3, &row("1", 3, 1, 0).to_bytes()), 7, 3),
         replaces_not("a delimiter", card_a(), &RIGHT, (2, &row("a b", 3, 1, 0).to_bytes()), 7, 2),
         replaces_not("kind 8", card_a(), &RIGHT, (5, &row("x", 8, 1, 0).to_bytes()), 7, 5),
-        replaces_not("all zeros", card_a(), &RIGHT, (0, &[0; 32]), 7, 0),
+        replaces_not("all zeros", card_a(), &RIGHT, (0, &[0; ROW_BYTES]), 7, 0),
         replaces_not("the product", card_a(), &RIGHT, (1, &row("x", 7, i64::MAX, 0).to_bytes()), 7, 1),
         replaces_not("64 rows, the last", full, &rising(64), (63, &row("aa", 3, 1, 0).to_bytes()), 7, 63),
         replaces("led by e, exponents on", card_a(), &RIGHT, 0, row("eon", 3, 1, 0), &[5, 0, 3, 1, 2, 4]),
@@ -751,7 +794,7 @@ fn rows_not_replaced() -> Vec<Case> {
 // 7, 23, 10, 7: each has all wrong that comes behind it.
 #[rustfmt::skip]
 fn order_of_a_replacement() -> Vec<Case> {
-    let bad = [0; 31];
+    let bad = [0; 47];
     vec![
         replaces_not("the new row", card_a(), &RIGHT, (5, &bad), 7, 5),
         replaces_not("the row's number", card_a(), &RIGHT, (6, &bad), 10, 6),
@@ -762,8 +805,8 @@ fn order_of_a_replacement() -> Vec<Case> {
         replaces_not("an index that would be right then", card_a(), &[3, 1, 0, 2, 4, 5], (5, &row("zone", 3, 1, 0).to_bytes()), WRONG, 0),
         replaces_not("a row of the table", bad_row(), &[], (6, &bad), 7, 2),
         replaces_not("a row of the table that the new one would mend", bad_row(), &RIGHT, (2, &row("s", 3, 1, 0).to_bytes()), 7, 2),
-        replaces_not("the table's size", cut(card_a(), 193), &[], (1_000, &bad), 7, 64),
-        replaces_not("settings", with_kind(cut(card_a(), 193), 8), &[], (1_000, &bad), 7, 67),
+        replaces_not("the table's size", cut(card_a(), 289), &[], (1_000, &bad), 7, 64),
+        replaces_not("settings", with_kind(cut(card_a(), 289), 8), &[], (1_000, &bad), 7, 67),
     ]
 }
 
@@ -774,7 +817,10 @@ fn looked_up() -> Vec<Case> {
     let (none, empty) = (hall(&[]), indexes(&[], &[]));
     let (one, first) = (seconds(&["s"]), indexes(&[0], &[]));
     let (two, both) = (seconds(&["b", "a"]), indexes(&[1, 0], &[]));
-    let longest = seconds(&["abcdefghijklmnop"]);
+    let longest = seconds(&[LONGEST]);
+    let letters = (seconds(&[CYRILLIC, GREEK, "µs"]), indexes(&[2, 1, 0], &[]));
+    // Its rooms differ in nothing; sizes decide.
+    let zeros = (seconds(&[&[0; 32][..], &[0; 1], &[0; 8], &[0; 31], &[0; 9]]), indexes(&[1, 2, 4, 3, 0], &[]));
     [
         finds(&a, &right, b"ns", (1, 0), 1, 1),
         finds(&a, &right, b"ms", (1, 1), 2, 3),
@@ -800,13 +846,35 @@ fn looked_up() -> Vec<Case> {
         finds(&a, &right, b"\xff", (0, 0), 6, 2),
         finds(&a, &right, b"s\0", (0, 0), 6, 3),
         finds(&a, &right, b"block\0\0\0\0\0\0\0\0\0\0\0", (0, 0), 6, 3),
+        finds(&a, &right, &[&b"block"[..], &[0; 27]].concat(), (0, 0), 6, 3),
         finds(&a, &right, b"nnnnnnnnnnnnnnnnn", (0, 0), 6, 3),
+        finds(&a, &right, &[b'n'; 32], (0, 0), 6, 3),
+        finds(&a, &right, &[b'n'; 33], (0, 0), 6, 3),
         finds(&a, &right, &[b'x'; 5_000], (0, 0), 6, 2),
         finds(&a, &right, &[&b"s"[..], &[0; 256]].concat(), (0, 0), 6, 3),
-        finds(&longest, &first, b"abcdefghijklmnop", (1, 0), 1, 1),
-        finds(&longest, &first, b"abcdefghijklmno", (0, 0), 1, 1),
-        finds(&longest, &first, b"abcdefghijklmnopq", (0, 0), 1, 1),
-        finds(&longest, &first, b"abcdefghijklmnop\x03", (0, 0), 1, 1),
+        finds(&longest, &first, LONGEST, (1, 0), 1, 1),
+        finds(&longest, &first, &LONGEST[..31], (0, 0), 1, 1),
+        finds(&longest, &first, &LONGEST[..24], (0, 0), 1, 1),
+        finds(&longest, &first, &LONGEST[..16], (0, 0), 1, 1),
+        finds(&longest, &first, &LONGEST[..8], (0, 0), 1, 1),
+        finds(&longest, &first, b"abcdefghijklmnopqrstuvwxyzABCDEG", (0, 0), 1, 1),
+        finds(&longest, &first, b"abcdefghijklmnopqrstuvwxyzABCDEFG", (0, 0), 1, 1),
+        finds(&longest, &first, b"abcdefghijklmnopqrstuvwxyzABCDEF\x03", (0, 0), 1, 1),
+        finds(&letters.0, &letters.1, CYRILLIC.as_bytes(), (1, 0), 1, 2),
+        finds(&letters.0, &letters.1, GREEK.as_bytes(), (1, 1), 2, 1),
+        finds(&letters.0, &letters.1, "µs".as_bytes(), (1, 2), 3, 2),
+        finds(&letters.0, &letters.1, "абвгдежзийклмноо".as_bytes(), (0, 0), 3, 2),
+        finds(&letters.0, &letters.1, "абвгдежзийклмнопр".as_bytes(), (0, 0), 3, 2),
+        finds(&letters.0, &letters.1, &CYRILLIC.as_bytes()[..31], (0, 0), 3, 2),
+        finds(&letters.0, &letters.1, &GREEK.as_bytes()[..16], (0, 0), 3, 2),
+        finds(&letters.0, &letters.1, b"us", (0, 0), 3, 2),
+        finds(&zeros.0, &zeros.1, &[0; 32], (1, 0), 1, 2),
+        finds(&zeros.0, &zeros.1, &[0; 31], (1, 3), 4, 3),
+        finds(&zeros.0, &zeros.1, &[0; 9], (1, 4), 5, 1),
+        finds(&zeros.0, &zeros.1, &[0; 8], (1, 2), 3, 2),
+        finds(&zeros.0, &zeros.1, &[0; 1], (1, 1), 2, 3),
+        finds(&zeros.0, &zeros.1, &[0; 33], (0, 0), 5, 2),
+        finds(&zeros.0, &zeros.1, &[0; 16], (0, 0), 5, 3),
         finds(&none, &empty, b"s", (0, 0), 0, 0),
         finds(&none, &empty, b"", (0, 0), 0, 0),
         finds(&one, &first, b"s", (1, 0), 1, 1),
@@ -902,7 +970,7 @@ fn lookups_refused() -> Vec<Case> {
     let refused = |name: &str, card: &Card, position| case(name, look_up(card.clone()), not_found(7, position));
     let bad = row("1", 3, 1, 0);
     let card = with_line(line_7(), &[row("jaw", 2, 40, 0), bad.clone()]);
-    let line_size = Card { line: vec![0; 31], ..line_7() };
+    let line_size = Card { line: vec![0; 47], ..line_7() };
     vec![
         refused("the line's row", &card, 129),
         refused("size of the line's", &line_size, 192),

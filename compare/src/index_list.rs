@@ -13,16 +13,13 @@ use crate::plain_index::{self, indexes_of};
 use crate::request::{Answer, Card};
 use crate::rng::Random;
 use crate::stored::{self, card_lines};
+use crate::sums::Sum;
 use crate::table::{MOST_ROWS, NAME_BYTES, ROW_BYTES, Row, rows_of, table_bytes};
 
 const SEED: u64 = 2_027;
 
 /// What the program has room for.
 const ROOM: usize = 16_384;
-
-/// A check sum stays below the prime, and is multiplied before a number is added.
-const BELOW: u64 = 4_294_967_291;
-const FACTOR: u64 = 65_599;
 
 /// What keeps the program from dividing by no rows; no table has so many.
 const MORE_THAN_ROWS: usize = 128;
@@ -57,7 +54,7 @@ enum Names {
     SameBeginnings,
     /// A byte of any value.
     OneByte,
-    /// Bytes above 127, and some below.
+    /// Bytes above 127, and some below; or letters of two bytes.
     HighBytes,
 }
 
@@ -116,14 +113,26 @@ fn make_name(random: &mut Random, names: Names) -> Vec<u8> {
             (0..size).map(|_| letter(random)).collect()
         }
         Names::SameBeginnings => {
-            let beginning = b"abcdefghijklmno";
-            let mut name = beginning[..random.below(16) as usize].to_vec();
+            let beginning = b"abcdefghijklmnopqrstuvwxyzABCDE";
+            let same = match random.below(3) {
+                0 => *random.pick(&[7, 8, 15, 16, 23, 24, 31]),
+                _ => random.below(NAME_BYTES as u64),
+            };
+            let mut name = beginning[..same as usize].to_vec();
             if name.is_empty() || random.chance(80) {
                 name.push(letter(random));
             }
             name
         }
         Names::OneByte => vec![any_byte(random)],
+        Names::HighBytes if random.chance(40) => {
+            let letters = *random.pick(&["абвгдежзийклмноп", "αβγδεζηθικλμνξοπ"]);
+            let most = letters.chars().count() as u64;
+            let same = random.below(most) as usize;
+            let mut name: String = letters.chars().take(same).collect();
+            name.extend(letters.chars().nth(random.below(most) as usize));
+            name.into_bytes()
+        }
         Names::HighBytes => {
             let size = 1 + random.below(4);
             let byte = |random: &mut Random| match random.chance(80) {
@@ -166,40 +175,6 @@ fn make_text(random: &mut Random, card: &Card) -> Vec<u8> {
 }
 
 // What the program does.
-
-/// A check sum, in which each number counts by its value and by its turn.
-struct Sum(u64);
-
-impl Sum {
-    /// It begins with 1, so that zeros count too.
-    fn begin() -> Self {
-        Self(1)
-    }
-
-    fn number(&mut self, number: u64) {
-        self.0 = (self.0 * FACTOR + number % BELOW) % BELOW;
-    }
-
-    fn answer(&mut self, answer: &Answer) {
-        self.number(answer.number.into());
-        self.number(answer.position.unwrap_or_default());
-        self.number(answer.length.seconds);
-        self.number(answer.length.nanos);
-    }
-
-    fn found(&mut self, found: Found) {
-        self.number(found.number.into());
-        for number in [found.position, found.table, found.row, found.compared] {
-            self.number(number);
-        }
-    }
-
-    fn bytes(&mut self, bytes: &[u8]) {
-        for byte in bytes {
-            self.number((*byte).into());
-        }
-    }
-}
 
 /// What was done with all cards.
 #[derive(Default)]

@@ -1,8 +1,9 @@
-//! Cases at the limits, with answers written by hand from document 01 and
-//! requests two to six: for the numbers the crate does not have, 7 to 11 and the
-//! six slips, 17 to 22, for the places of 3 and 4, which it does not have either,
-//! for spoken numbers, for the line's own units, and for what a lent record or
-//! buffer holds afterwards. Each limit is tried from both sides.
+//! Cases at the limits, with answers written by hand from document 01, requests
+//! two to six and request eight: for the numbers the crate does not have, 7 to 11
+//! and the six slips, 17 to 22, for the places of 3 and 4, which it does not have
+//! either, for spoken numbers, for the line's own units, for names of up to 32
+//! bytes, and for what a lent record or buffer holds afterwards. Each limit is
+//! tried from both sides.
 
 use std::fmt::Write as _;
 use std::fs;
@@ -13,11 +14,18 @@ use crate::plain;
 use crate::request::{
     Answer, ByteSet, Card, Conjunctions, Length, Request, bytes_field, parse_bytes,
 };
-use crate::table::ROW_BYTES;
+use crate::table::{KIND_PLACE, NAME_BYTES, ROW_BYTES, ZEROS_PLACE};
 
-/// The place of the kind in a row, and of the first of the four zeros.
-const KIND: usize = 17;
-const ZEROS: usize = 28;
+/// As many letters as the longest name has, and one more.
+const LETTERS: &str = "abcdefghijklmnopqrstuvwxyzABCDEFG";
+
+/// Sixteen letters of two bytes each, which fill a row's room for the name, and
+/// one more.
+const CYRILLIC: &str = "абвгдежзийклмнопр";
+const GREEK: &str = "αβγδεζηθικλμνξοπρ";
+
+/// Sizes of names on both sides of each eighth byte, and the two longest.
+const SIZES_AT_EDGES: [usize; 9] = [7, 8, 9, 16, 17, 24, 25, 31, 32];
 
 /// The seconds of MAX, and its nanoseconds.
 const MOST: u64 = 18_446_744_073_709_551_615;
@@ -46,6 +54,12 @@ fn cases() -> Vec<Case> {
         ("table size", table_size()),
         ("row layout", row_layout()),
         ("row name", row_names()),
+        ("zeros after the name", zeros_after_names()),
+        ("two-byte letters", two_byte_letters()),
+        ("place of a name", places_of_names()),
+        ("names at words' edges", names_at_edges()),
+        ("beginning of a name", beginnings_of_names()),
+        ("zero bytes of a name", zero_bytes_of_names()),
         ("name led by e", names_led_by_e()),
         ("name not led by e", names_not_led_by_e()),
         ("row led by e", rows_led_by_e()),
@@ -68,6 +82,9 @@ fn cases() -> Vec<Case> {
         ("numeral table size", numeral_table_size()),
         ("numeral layout", numeral_layout()),
         ("numeral name", numeral_names()),
+        ("place of a numeral's name", places_of_numerals()),
+        ("numerals at words' edges", numerals_at_edges()),
+        ("beginning of a numeral", beginnings_of_numerals()),
         ("numeral with another's name", names_that_others_have()),
         ("equal numerals", equal_numerals()),
         (
@@ -90,6 +107,23 @@ fn cases() -> Vec<Case> {
         ("line's table size", on_the_line(table_size())),
         ("line's row layout", on_the_line(row_layout())),
         ("line's row name", on_the_line(row_names())),
+        (
+            "line's zeros after the name",
+            on_the_line(zeros_after_names()),
+        ),
+        ("line's two-byte letters", on_the_line(two_byte_letters())),
+        (
+            "line's names at words' edges",
+            on_the_line(names_at_edges()),
+        ),
+        (
+            "line's beginning of a name",
+            on_the_line(beginnings_of_names()),
+        ),
+        (
+            "line's zero bytes of a name",
+            on_the_line(zero_bytes_of_names()),
+        ),
         ("line's name led by e", on_the_line(names_led_by_e())),
         (
             "line's name not led by e",
@@ -418,7 +452,22 @@ fn unit(kind: u8, coefficient: i64, power: i16) -> [u8; ROW_BYTES] {
     row("x", kind, coefficient, power).to_bytes()
 }
 
-/// A second by another name, of 1 to 16 bytes.
+/// So many letters, no two of them equal.
+fn letters(size: usize) -> &'static str {
+    &LETTERS[..size]
+}
+
+/// The first so many of a text's letters, of whatever size each is.
+fn beginning(text: &str, size: usize) -> String {
+    text.chars().take(size).collect()
+}
+
+/// A text with another letter at a place.
+fn with_letter(text: &str, place: usize, letter: &str) -> String {
+    [&text[..place], letter, &text[place + 1..]].concat()
+}
+
+/// A second by another name, of 1 to 32 bytes.
 fn named(name: &str) -> [u8; ROW_BYTES] {
     row(name, 3, 1, 0).to_bytes()
 }
@@ -594,14 +643,14 @@ fn table_size() -> Vec<Case> {
         case("no rows", total(card().with_size(0), "1"), "0 1 + 1 0"),
         case("no rows, a name", total(card().with_size(0), "1s"), "6 1 + 0 0"),
         case("1 byte", total(card().with_size(1), "1"), "7 64 + 0 0"),
-        case("31 bytes", total(card().with_size(31), "1"), "7 64 + 0 0"),
-        case("1 row", total(card().with_size(32), "1aa"), "0 3 + 1 0"),
-        case("33 bytes", total(card().with_size(33), "1"), "7 64 + 0 0"),
-        case("9 rows", total(card().with_size(288), "1ai"), "0 3 + 1 0"),
-        case("2047 bytes", total(card().with_size(2047), "1"), "7 64 + 0 0"),
+        case("47 bytes", total(card().with_size(47), "1"), "7 64 + 0 0"),
+        case("1 row", total(card().with_size(48), "1aa"), "0 3 + 1 0"),
+        case("49 bytes", total(card().with_size(49), "1"), "7 64 + 0 0"),
+        case("9 rows", total(card().with_size(432), "1ai"), "0 3 + 1 0"),
+        case("3071 bytes", total(card().with_size(3071), "1"), "7 64 + 0 0"),
         case("64 rows", total(card().with_rows(&rows(64)), "1cl"), "0 3 + 1 0"),
         case("64 rows, part", part(0, card().with_rows(&rows(64)), "1cl"), "0 3 + 1 0"),
-        case("2049 bytes", total(card().with_size(2049), "1"), "7 64 + 0 0"),
+        case("3073 bytes", total(card().with_size(3073), "1"), "7 64 + 0 0"),
         case("65 rows", total(card().with_rows(&rows(65)), "1"), "7 64 + 0 0"),
         case("65 rows, part", part(0, card().with_rows(&rows(65)), "1"), "7 64 + 0 0"),
         case("256 rows", total(card().with_rows(&rows(256)), "1"), "7 64 + 0 0"),
@@ -611,14 +660,14 @@ fn table_size() -> Vec<Case> {
 // 7 at a row: lengths, bytes that must be zero, kinds; first four rows byte by byte.
 #[rustfmt::skip]
 fn row_layout() -> Vec<Case> {
-    let turn = b"\x04turn\0\0\0\0\0\0\0\0\0\0\0\0\x02\x7b\0\0\0\0\0\0\0\xff\xff\0\0\0\0";
-    let low_first = b"\x01x\0\0\0\0\0\0\0\0\0\0\0\0\0\0\0\x03\x08\x07\x06\x05\x04\x03\x02\x01\0\0\0\0\0\0";
-    let minus_two = b"\x01x\0\0\0\0\0\0\0\0\0\0\0\0\0\0\0\x03\xfe\xff\xff\xff\xff\xff\xff\xff\0\0\0\0\0\0";
-    let power_258 = b"\x01x\0\0\0\0\0\0\0\0\0\0\0\0\0\0\0\x03\x01\0\0\0\0\0\0\0\x02\x01\0\0\0\0";
+    let turn = b"\x04turn\0\0\0\0\0\0\0\0\0\0\0\0\0\0\0\0\0\0\0\0\0\0\0\0\0\0\0\0\x02\x7b\0\0\0\0\0\0\0\xff\xff\0\0\0\0";
+    let low_first = b"\x01x\0\0\0\0\0\0\0\0\0\0\0\0\0\0\0\0\0\0\0\0\0\0\0\0\0\0\0\0\0\0\0\x03\x08\x07\x06\x05\x04\x03\x02\x01\0\0\0\0\0\0";
+    let minus_two = b"\x01x\0\0\0\0\0\0\0\0\0\0\0\0\0\0\0\0\0\0\0\0\0\0\0\0\0\0\0\0\0\0\0\x03\xfe\xff\xff\xff\xff\xff\xff\xff\0\0\0\0\0\0";
+    let power_258 = b"\x01x\0\0\0\0\0\0\0\0\0\0\0\0\0\0\0\0\0\0\0\0\0\0\0\0\0\0\0\0\0\0\0\x03\x01\0\0\0\0\0\0\0\x02\x01\0\0\0\0";
     let one = |row| card().with_rows(&[row]);
     let x = named("x");
-    let longest = named("abcdefghijklmnop");
-    let fifteen = named("abcdefghijklmno");
+    let longest = named(letters(32));
+    let thirty_one = named(letters(31));
     vec![
         case("turn", total(one(*turn), "3turn"), "0 5 + 0 36900000"),
         case("coefficient low byte first", total(one(*low_first), "1x"), "0 2 + 72623859790382856 0"),
@@ -627,27 +676,33 @@ fn row_layout() -> Vec<Case> {
 
         case("name length 0", total(one(changed(x, &[(0, 0), (1, 0)])), "1"), "7 0 + 0 0"),
         case("name length 0, a letter", total(one(changed(x, &[(0, 0)])), "1"), "7 0 + 0 0"),
-        case("all zeros", total(one([0; 32]), "1"), "7 0 + 0 0"),
+        case("all zeros", total(one([0; ROW_BYTES]), "1"), "7 0 + 0 0"),
         case("name length 1", total(one(x), "1x"), "0 2 + 1 0"),
-        case("name length 16", total(one(longest), "1abcdefghijklmnop"), "0 17 + 1 0"),
-        case("name length 17", total(one(changed(longest, &[(0, 17)])), "1"), "7 0 + 0 0"),
+        case("name length 15", total(one(named(letters(15))), "1abcdefghijklmno"), "0 16 + 1 0"),
+        case("name length 16", total(one(named(letters(16))), "1abcdefghijklmnop"), "0 17 + 1 0"),
+        case("name length 17", total(one(named(letters(17))), "1abcdefghijklmnopq"), "0 18 + 1 0"),
+        case("name length 32", total(one(longest), "1abcdefghijklmnopqrstuvwxyzABCDEF"), "0 33 + 1 0"),
+        case("name length 33", total(one(changed(longest, &[(0, 33)])), "1"), "7 0 + 0 0"),
+        case("name length 33, the kind a letter", total(one(changed(longest, &[(0, 33), (KIND_PLACE, b'G')])), "1"), "7 0 + 0 0"),
+        case("name length 47", total(one(changed(longest, &[(0, 47)])), "1"), "7 0 + 0 0"),
+        case("name length 48", total(one(changed(longest, &[(0, 48)])), "1"), "7 0 + 0 0"),
         case("name length 255", total(one(changed(longest, &[(0, 255)])), "1"), "7 0 + 0 0"),
 
         case("letter after the name", total(one(changed(x, &[(2, b'y')])), "1"), "7 0 + 0 0"),
         case("letter in the name", total(one(changed(x, &[(0, 2), (2, b'y')])), "1xy"), "0 3 + 1 0"),
-        case("last name byte, x", total(one(changed(x, &[(16, 1)])), "1"), "7 0 + 0 0"),
-        case("name length 15", total(one(fifteen), "1abcdefghijklmno"), "0 16 + 1 0"),
-        case("last name byte, 15", total(one(changed(fifteen, &[(16, 255)])), "1"), "7 0 + 0 0"),
+        case("last name byte, x", total(one(changed(x, &[(32, 1)])), "1"), "7 0 + 0 0"),
+        case("name length 31", total(one(thirty_one), "1abcdefghijklmnopqrstuvwxyzABCDE"), "0 32 + 1 0"),
+        case("last name byte, 31", total(one(changed(thirty_one, &[(32, 255)])), "1"), "7 0 + 0 0"),
 
         case("kind 0", total(one(unit(0, 1, 0)), "1x"), "0 2 + 0 1"),
         case("kind 7", total(one(unit(7, 1, 0)), "1x"), "0 2 + 604800 0"),
         case("kind 8", total(one(unit(8, 1, 0)), "1"), "7 0 + 0 0"),
         case("kind 255", total(one(unit(255, 1, 0)), "1"), "7 0 + 0 0"),
 
-        case("first zero", total(one(changed(x, &[(ZEROS, 1)])), "1"), "7 0 + 0 0"),
-        case("second zero", total(one(changed(x, &[(ZEROS + 1, 1)])), "1"), "7 0 + 0 0"),
-        case("third zero", total(one(changed(x, &[(ZEROS + 2, 1)])), "1"), "7 0 + 0 0"),
-        case("fourth zero", total(one(changed(x, &[(ZEROS + 3, 255)])), "1"), "7 0 + 0 0"),
+        case("first zero", total(one(changed(x, &[(ZEROS_PLACE, 1)])), "1"), "7 0 + 0 0"),
+        case("second zero", total(one(changed(x, &[(ZEROS_PLACE + 1, 1)])), "1"), "7 0 + 0 0"),
+        case("third zero", total(one(changed(x, &[(ZEROS_PLACE + 2, 1)])), "1"), "7 0 + 0 0"),
+        case("fourth zero", total(one(changed(x, &[(ZEROS_PLACE + 3, 255)])), "1"), "7 0 + 0 0"),
     ]
 }
 
@@ -677,12 +732,151 @@ fn row_names() -> Vec<Case> {
         case("plus, alone", total(one("+"), "1"), "7 0 + 0 0"),
         case("minus", total(one("a-b"), "1"), "7 0 + 0 0"),
         case("minus, last of 16", total(one("abcdefghijklmno-"), "1"), "7 0 + 0 0"),
+        case("minus, last of 32", total(one("abcdefghijklmnopqrstuvwxyzABCDE-"), "1"), "7 0 + 0 0"),
         case("point", total(one("a.b"), "1"), "7 0 + 0 0"),
         case("point, first", total(one(".a"), "1"), "7 0 + 0 0"),
         case("beside them", total(one("*,/:"), "1*,/:"), "0 5 + 1 0"),
         case("over 127", total(one("µs"), "1µs"), "0 4 + 1 0"),
         case("byte 0", total(one("\0"), "1\0"), "0 2 + 1 0"),
     ]
+}
+
+// 7 at a row: each byte of the name's room behind a name of one byte, of eight and of all but one, whatever the others are.
+#[rustfmt::skip]
+fn zeros_after_names() -> Vec<Case> {
+    let mut cases = Vec::new();
+    for size in [1, 8, 16, 31] {
+        let row = named(letters(size));
+        for place in size + 1..=NAME_BYTES {
+            let one = card().with_rows(&[changed(row, &[(place, 1)])]);
+            cases.push(case(format!("byte {place} behind {size}"), total(one, "1"), "7 0 + 0 0"));
+        }
+    }
+    cases
+}
+
+// Names of two-byte letters, by their bytes: sixteen fill the room, one more has no place in it; a letter may be cut in two.
+#[rustfmt::skip]
+fn two_byte_letters() -> Vec<Case> {
+    let one = |row| card().with_rows(&[row]);
+    let both = |first: &str, second: &str| card().with_rows(&[named(first), five(second)]);
+    let micro = b"\x03\xc2\xb5s\0\0\0\0\0\0\0\0\0\0\0\0\0\0\0\0\0\0\0\0\0\0\0\0\0\0\0\0\0\x01\x01\0\0\0\0\0\0\0\0\0\0\0\0\0";
+    let full = named(&CYRILLIC[..32]);
+    let mut cases = vec![
+        case("µs by its bytes", total(one(*micro), b"5\xc2\xb5s"), "0 4 + 0 5000"),
+        case("µs", total(one(row("µs", 1, 1, 0).to_bytes()), "61.7µs"), "0 7 + 0 61700"),
+        case("µs, the first byte alone", total(one(*micro), b"5\xc2"), "6 1 + 0 0"),
+        case("µs, the second byte alone", total(one(*micro), b"5\xb5s"), "6 1 + 0 0"),
+        case("µs, another letter's second byte", total(one(*micro), b"5\xc2\xb4s"), "6 1 + 0 0"),
+        case("µs beside us", total(both("us", "µs"), "1us 1µs"), "0 8 + 6 0"),
+        case("µ beside µs", total(both("µ", "µs"), "1µ 1µs"), "0 8 + 6 0"),
+        case("µs and µ of other bytes", total(both("µs", "μs"), "1µs 2μs"), "0 9 + 11 0"),
+        case("cut in two", total(one(changed(full, &[(0, 31), (32, 0)])), [b"1", &CYRILLIC.as_bytes()[..31]].concat()), "0 32 + 1 0"),
+        case("17 letters of two rows", total(both("р", &CYRILLIC[..32]), format!("1{CYRILLIC}")), "6 1 + 0 0"),
+        case("the last letters differ in a byte", total(both(&(beginning(CYRILLIC, 15) + "о"), &CYRILLIC[..32]), format!("1{}", &CYRILLIC[..32])), "0 33 + 5 0"),
+        case("the last letters differ in both", total(both(&(beginning(CYRILLIC, 15) + "р"), &CYRILLIC[..32]), format!("1{}", &CYRILLIC[..32])), "0 33 + 5 0"),
+    ];
+    for (script, text) in [("Cyrillic", CYRILLIC), ("Greek", GREEK)] {
+        let row = named(&text[..32]);
+        for size in [1, 4, 5, 8, 9, 12, 13, 15, 16] {
+            let name = beginning(text, size);
+            cases.push(case(format!("{size} {script} letters"), total(one(five(&name)), format!("1{name}")), format!("0 {} + 5 0", 1 + 2 * size)));
+        }
+        let last = &text.as_bytes()[32..];
+        cases.push(case(format!("17 {script} letters, typed"), total(one(row), format!("1{text}")), "6 1 + 0 0"));
+        cases.push(case(format!("17 {script} letters by the size"), total(one(changed(row, &[(0, 34)])), "1"), "7 0 + 0 0"));
+        cases.push(case(format!("17 {script} letters, over the kind"), total(one(changed(row, &[(0, 34), (33, last[0]), (34, last[1])])), "1"), "7 0 + 0 0"));
+        cases.push(case(format!("17 {script} letters, a size of letters"), total(one(changed(row, &[(0, 17)])), "1"), "7 0 + 0 0"));
+        cases.push(case(format!("16 {script} letters, a size of letters"), total(one(changed(row, &[(0, 16)])), "1"), "7 0 + 0 0"));
+        cases.push(case(format!("15 {script} letters and a byte"), total(one(five(&(beginning(text, 15) + "s"))), format!("1{}s", beginning(text, 15))), "0 32 + 5 0"));
+    }
+    cases
+}
+
+// 7 at a row: a byte that no name may hold at each place of the longest name; and one that it may.
+#[rustfmt::skip]
+fn places_of_names() -> Vec<Case> {
+    let one = |name: &str| card().with_rows(&[named(name)]);
+    let mut cases = Vec::new();
+    for place in 0..NAME_BYTES {
+        for (what, byte) in [("digit", "5"), ("minus", "-"), ("point", "."), ("delimiter", " ")] {
+            cases.push(case(format!("{what} at {place}"), total(one(&with_letter(letters(32), place, byte)), "1"), "7 0 + 0 0"));
+        }
+        let name = with_letter(letters(32), place, "/");
+        cases.push(case(format!("slash at {place}"), total(one(&name), format!("1{name}")), "0 33 + 1 0"));
+    }
+    cases
+}
+
+/// Two names of a size that differ at the last byte, and at the bytes on both
+/// sides of each eighth, with the number of the byte.
+fn pairs_at_edges(size: usize) -> Vec<(usize, String)> {
+    let places = [0, 6, 7, 8, 15, 16, 23, 24, 30, 31];
+    let within = places.into_iter().filter(|place| *place < size);
+    within
+        .map(|place| (place, with_letter(letters(size), place, "Z")))
+        .collect()
+}
+
+// Names of eight bytes, of sixteen, and so on, and of one more: equal ones, and ones that differ in one byte.
+#[rustfmt::skip]
+fn names_at_edges() -> Vec<Case> {
+    let two = |first: &str, second: &str| card().with_rows(&[named(first), five(second)]);
+    let mut cases = Vec::new();
+    for size in SIZES_AT_EDGES {
+        let name = letters(size);
+        let end = size + 1;
+        cases.push(case(format!("{size} bytes, equal"), total(two(name, name), "1"), "7 1 + 0 0"));
+        cases.push(case(format!("{size} bytes, one more typed"), total(two(name, "x"), format!("1{}", letters(size + 1))), "6 1 + 0 0"));
+        cases.push(case(format!("{size} bytes, one less typed"), total(two(name, "x"), format!("1{}", letters(size - 1))), "6 1 + 0 0"));
+        for (place, other) in pairs_at_edges(size) {
+            let both = two(name, &other);
+            cases.push(case(format!("{size} bytes but {place}, the first"), total(both.clone(), format!("1{name}")), format!("0 {end} + 1 0")));
+            cases.push(case(format!("{size} bytes but {place}, the second"), total(both, format!("1{other}")), format!("0 {end} + 5 0")));
+            cases.push(case(format!("{size} bytes but {place}, missing"), total(two(name, "x"), format!("1{other}")), "6 1 + 0 0"));
+        }
+    }
+    cases
+}
+
+// A name and its own first bytes as another name, in both orders.
+#[rustfmt::skip]
+fn beginnings_of_names() -> Vec<Case> {
+    let two = |first: &str, second: &str| card().with_rows(&[named(first), five(second)]);
+    let mut cases = Vec::new();
+    for (size, short) in [(9, 8), (16, 8), (17, 16), (24, 16), (25, 24), (32, 8), (32, 16), (32, 24), (32, 31)] {
+        let (long, start) = (letters(size), letters(short));
+        cases.push(case(format!("{short} of {size}, the long one"), total(two(long, start), format!("1{long}")), format!("0 {} + 1 0", size + 1)));
+        cases.push(case(format!("{short} of {size}, the short one"), total(two(long, start), format!("1{start}")), format!("0 {} + 5 0", short + 1)));
+        cases.push(case(format!("{short} of {size}, turned, the long one"), total(two(start, long), format!("1{long}")), format!("0 {} + 5 0", size + 1)));
+        cases.push(case(format!("{short} of {size}, turned, the short one"), total(two(start, long), format!("1{start}")), format!("0 {} + 1 0", short + 1)));
+        cases.push(case(format!("{short} of {size}, one less"), total(two(start, long), format!("1{}", letters(short - 1))), "6 1 + 0 0"));
+    }
+    cases
+}
+
+// Names with bytes 0 beside the same without them: the rooms are then equal, and the sizes tell them apart.
+#[rustfmt::skip]
+fn zero_bytes_of_names() -> Vec<Case> {
+    let two = |first: &str, second: &str| card().with_rows(&[named(first), five(second)]);
+    let zeros = |size| "\0".repeat(size);
+    let mut cases = vec![
+        case("zeros alone, equal", total(two(&zeros(32), &zeros(32)), "1"), "7 1 + 0 0"),
+        case("one inside and none", total(two("ab", "a\0b"), "1a\0b"), "0 4 + 5 0"),
+        case("one inside and its beginning", total(two("a", "a\0b"), "1a\0b 1a"), "0 7 + 6 0"),
+        case("a zero typed too many", total(two("a", "b"), "1a\0"), "6 1 + 0 0"),
+        case("a zero typed too few", total(two("a\0", "b"), "1a"), "6 1 + 0 0"),
+    ];
+    for (size, more) in [(1, 1), (7, 1), (8, 1), (8, 8), (15, 1), (16, 1), (16, 16), (23, 1), (24, 1), (24, 8), (30, 1), (31, 1), (1, 31)] {
+        let (short, long) = (letters(size).to_string(), letters(size).to_string() + &zeros(more));
+        cases.push(case(format!("{more} behind {size}, with them"), total(two(&short, &long), format!("1{long}")), format!("0 {} + 5 0", 1 + long.len())));
+        cases.push(case(format!("{more} behind {size}, without"), total(two(&short, &long), format!("1{short}")), format!("0 {} + 1 0", 1 + size)));
+        cases.push(case(format!("{more} behind {size}, equal"), total(two(&long, &long), "1"), "7 1 + 0 0"));
+        let alone = two(&zeros(size), &zeros(size + more));
+        cases.push(case(format!("{more} behind {size} of them"), total(alone.clone(), format!("1{}", zeros(size + more))), format!("0 {} + 5 0", 1 + size + more)));
+        cases.push(case(format!("{size} of {} of them", size + more), total(alone, format!("1{}", zeros(size))), format!("0 {} + 1 0", 1 + size)));
+    }
+    cases
 }
 
 // 7 at a row: a name led by `e` or `E` under each switch, with inner delimiters and without, and the texts that find it.
@@ -698,7 +892,7 @@ fn names_led_by_e() -> Vec<Case> {
         case("inner, no outer", total(no_exponents("eon").with_outer(b""), "3 eon"), "0 5 + 15 0"),
         case("unused inner, no outer", total(neither("eon").with_outer(b""), "1"), "7 0 + 0 0"),
         case("inner after a sign only", total(neither("eon").with_sign_delimiter(), "1"), "7 0 + 0 0"),
-        case("all bytes of 16", total(neither("eEeEeEeEeEeEeEeE"), "1"), "7 0 + 0 0"),
+        case("all bytes of 32", total(neither("eEeEeEeEeEeEeEeEeEeEeEeEeEeEeEeE"), "1"), "7 0 + 0 0"),
 
         // What else is read of an accepted one: a number's own `e` comes first.
         case("exponents off, no delimiter typed", total(no_exponents("eon"), "3eon"), "21 1 + 0 0"),
@@ -819,6 +1013,8 @@ fn equal_names() -> Vec<Case> {
             "0 17 + 1 0"),
         case("16 bytes but the first", total(names(&["abcdefghijklmnop", "bbcdefghijklmnop"]), "1bbcdefghijklmnop"),
             "0 17 + 1 0"),
+        case("32 bytes", total(names(&[letters(32), letters(32)]), "1"), "7 1 + 0 0"),
+        case("32 bytes of two-byte letters", total(names(&[&CYRILLIC[..32], &GREEK[..32], &CYRILLIC[..32]]), "1"), "7 2 + 0 0"),
         case("last byte", total(names(&["ab", "ac"]), "1ac"), "0 3 + 1 0"),
         case("longer", total(names(&["ab", "abc"]), "1abc"), "0 4 + 1 0"),
         case("shorter", total(names(&["abc", "ab"]), "1ab"), "0 3 + 1 0"),
@@ -908,7 +1104,7 @@ fn first_bad_row() -> Vec<Case> {
 // The order 7 (65, 66, 67, 64, rows), 11, 8, 10: each card has all that the one before has wrong, and more.
 #[rustfmt::skip]
 fn order_of_refusals() -> Vec<Case> {
-    let bad_row = changed(named("x"), &[(KIND, 8)]);
+    let bad_row = changed(named("x"), &[(KIND_PLACE, 8)]);
     let row = card().with_rows(&[bad_row]);
     let size = card().with_rows(&[vec![bad_row], rows(64)].concat());
     let kind = size.clone().with_kind(8);
@@ -1230,39 +1426,39 @@ fn numeral_table_size() -> Vec<Case> {
         case("none, a name", total(size(0), "aa s"), "6 0 + 0 0"),
         case("none, a name and a delimiter", total(size(0), "aa "), "6 0 + 0 0"),
         case("1 byte", total(size(1), "1s"), "7 100 + 0 0"),
-        case("31 bytes", total(size(31), "1s"), "7 100 + 0 0"),
-        case("1 numeral", total(size(32), "aa s"), "0 4 + 1 0"),
-        case("1 numeral, another", total(size(32), "ab s"), "6 0 + 0 0"),
-        case("33 bytes", total(size(33), "1s"), "7 100 + 0 0"),
-        case("2 numerals", total(size(64), "ab s"), "0 4 + 1 0"),
-        case("1023 bytes", total(size(1023), "1s"), "7 100 + 0 0"),
-        case("32 numerals", total(size(1024), "bf s"), "0 4 + 1 0"),
-        case("32 numerals, another", total(size(1024), "bg s"), "6 0 + 0 0"),
-        case("32 numerals, part", part(0, size(1024), "bf s"), "0 4 + 1 0"),
-        case("32 numerals, shift", shift(plus(1, 0), size(1024), "bf s"), "0 4 + 2 0 + 2 0"),
-        case("1025 bytes", total(size(1025), "1s"), "7 100 + 0 0"),
-        case("33 numerals", total(size(1056), "1s"), "7 100 + 0 0"),
-        case("33 numerals, part", part(0, size(1056), "1s"), "7 100 + 0 0"),
-        case("33 numerals, shift", shift(plus(1, 0), size(1056), "1s"), "7 100 + 0 0 + 1 0"),
-        case("64 numerals", total(size(2048), "1s"), "7 100 + 0 0"),
-        case("256 numerals", total(size(8192), "1s"), "7 100 + 0 0"),
+        case("47 bytes", total(size(47), "1s"), "7 100 + 0 0"),
+        case("1 numeral", total(size(48), "aa s"), "0 4 + 1 0"),
+        case("1 numeral, another", total(size(48), "ab s"), "6 0 + 0 0"),
+        case("49 bytes", total(size(49), "1s"), "7 100 + 0 0"),
+        case("2 numerals", total(size(96), "ab s"), "0 4 + 1 0"),
+        case("1535 bytes", total(size(1535), "1s"), "7 100 + 0 0"),
+        case("32 numerals", total(size(1536), "bf s"), "0 4 + 1 0"),
+        case("32 numerals, another", total(size(1536), "bg s"), "6 0 + 0 0"),
+        case("32 numerals, part", part(0, size(1536), "bf s"), "0 4 + 1 0"),
+        case("32 numerals, shift", shift(plus(1, 0), size(1536), "bf s"), "0 4 + 2 0 + 2 0"),
+        case("1537 bytes", total(size(1537), "1s"), "7 100 + 0 0"),
+        case("33 numerals", total(size(1584), "1s"), "7 100 + 0 0"),
+        case("33 numerals, part", part(0, size(1584), "1s"), "7 100 + 0 0"),
+        case("33 numerals, shift", shift(plus(1, 0), size(1584), "1s"), "7 100 + 0 0 + 1 0"),
+        case("64 numerals", total(size(3072), "1s"), "7 100 + 0 0"),
+        case("256 numerals", total(size(12288), "1s"), "7 100 + 0 0"),
     ]
 }
 
 // 7 at 68 and the numeral's row: lengths, bytes that must be zero, kinds; first five rows byte by byte.
 #[rustfmt::skip]
 fn numeral_layout() -> Vec<Case> {
-    let five = b"\x04five\0\0\0\0\0\0\0\0\0\0\0\0\x03\x05\0\0\0\0\0\0\0\0\0\0\0\0\0";
-    let half = b"\x04half\0\0\0\0\0\0\0\0\0\0\0\0\x03\x05\0\0\0\0\0\0\0\xff\xff\0\0\0\0";
-    let low_first = b"\x01x\0\0\0\0\0\0\0\0\0\0\0\0\0\0\0\x03\x08\x07\x06\x05\x04\x03\x02\x01\0\0\0\0\0\0";
-    let minus_two = b"\x01x\0\0\0\0\0\0\0\0\0\0\0\0\0\0\0\x03\xfe\xff\xff\xff\xff\xff\xff\xff\0\0\0\0\0\0";
-    let power_258 = b"\x01x\0\0\0\0\0\0\0\0\0\0\0\0\0\0\0\x03\x01\0\0\0\0\0\0\0\x02\x01\0\0\0\0";
+    let five = b"\x04five\0\0\0\0\0\0\0\0\0\0\0\0\0\0\0\0\0\0\0\0\0\0\0\0\0\0\0\0\x03\x05\0\0\0\0\0\0\0\0\0\0\0\0\0";
+    let half = b"\x04half\0\0\0\0\0\0\0\0\0\0\0\0\0\0\0\0\0\0\0\0\0\0\0\0\0\0\0\0\x03\x05\0\0\0\0\0\0\0\xff\xff\0\0\0\0";
+    let low_first = b"\x01x\0\0\0\0\0\0\0\0\0\0\0\0\0\0\0\0\0\0\0\0\0\0\0\0\0\0\0\0\0\0\0\x03\x08\x07\x06\x05\x04\x03\x02\x01\0\0\0\0\0\0";
+    let minus_two = b"\x01x\0\0\0\0\0\0\0\0\0\0\0\0\0\0\0\0\0\0\0\0\0\0\0\0\0\0\0\0\0\0\0\x03\xfe\xff\xff\xff\xff\xff\xff\xff\0\0\0\0\0\0";
+    let power_258 = b"\x01x\0\0\0\0\0\0\0\0\0\0\0\0\0\0\0\0\0\0\0\0\0\0\0\0\0\0\0\0\0\0\0\x03\x01\0\0\0\0\0\0\0\x02\x01\0\0\0\0";
     let one = |row| card().with_numerals(&[row]);
     let back = |row| one(row).with_rows(&[times("b", 1, -258)]);
     let x = named("x");
-    let longest = named("abcdefghijklmnop");
-    let fifteen = named("abcdefghijklmno");
-    let kind = |kind| one(changed(x, &[(KIND, kind)]));
+    let longest = named(letters(32));
+    let thirty_one = named(letters(31));
+    let kind = |kind| one(changed(x, &[(KIND_PLACE, kind)]));
     vec![
         case("five", total(one(*five), "five min"), "0 8 + 300 0"),
         case("half", total(one(*half), "half s"), "0 6 + 0 500000000"),
@@ -1272,17 +1468,21 @@ fn numeral_layout() -> Vec<Case> {
 
         case("name length 0", total(one(changed(x, &[(0, 0), (1, 0)])), "1"), "7 68 + 0 0"),
         case("name length 0, a letter", total(one(changed(x, &[(0, 0)])), "1"), "7 68 + 0 0"),
-        case("all zeros", total(one([0; 32]), "1"), "7 68 + 0 0"),
+        case("all zeros", total(one([0; ROW_BYTES]), "1"), "7 68 + 0 0"),
         case("name length 1", total(one(x), "x s"), "0 3 + 1 0"),
-        case("name length 16", total(one(longest), "abcdefghijklmnop s"), "0 18 + 1 0"),
-        case("name length 17", total(one(changed(longest, &[(0, 17)])), "1"), "7 68 + 0 0"),
+        case("name length 15", total(one(named(letters(15))), "abcdefghijklmno s"), "0 17 + 1 0"),
+        case("name length 16", total(one(named(letters(16))), "abcdefghijklmnop s"), "0 18 + 1 0"),
+        case("name length 17", total(one(named(letters(17))), "abcdefghijklmnopq s"), "0 19 + 1 0"),
+        case("name length 32", total(one(longest), "abcdefghijklmnopqrstuvwxyzABCDEF s"), "0 34 + 1 0"),
+        case("name length 33", total(one(changed(longest, &[(0, 33)])), "1"), "7 68 + 0 0"),
+        case("name length 33, the kind a letter", total(one(changed(longest, &[(0, 33), (KIND_PLACE, b'G')])), "1"), "7 68 + 0 0"),
         case("name length 255", total(one(changed(longest, &[(0, 255)])), "1"), "7 68 + 0 0"),
 
         case("letter after the name", total(one(changed(x, &[(2, b'y')])), "1"), "7 68 + 0 0"),
         case("letter in the name", total(one(changed(x, &[(0, 2), (2, b'y')])), "xy s"), "0 4 + 1 0"),
-        case("last name byte, x", total(one(changed(x, &[(16, b'y')])), "1"), "7 68 + 0 0"),
-        case("name length 15", total(one(fifteen), "abcdefghijklmno s"), "0 17 + 1 0"),
-        case("last name byte, 15", total(one(changed(fifteen, &[(16, b'p')])), "1"), "7 68 + 0 0"),
+        case("last name byte, x", total(one(changed(x, &[(32, b'y')])), "1"), "7 68 + 0 0"),
+        case("name length 31", total(one(thirty_one), "abcdefghijklmnopqrstuvwxyzABCDE s"), "0 33 + 1 0"),
+        case("last name byte, 31", total(one(changed(thirty_one, &[(32, b'p')])), "1"), "7 68 + 0 0"),
 
         case("kind 0", total(kind(0), "1"), "7 68 + 0 0"),
         case("kind 2", total(kind(2), "1"), "7 68 + 0 0"),
@@ -1293,10 +1493,10 @@ fn numeral_layout() -> Vec<Case> {
         case("kind 131", total(kind(131), "1"), "7 68 + 0 0"),
         case("kind 255", total(kind(255), "1"), "7 68 + 0 0"),
 
-        case("first zero", total(one(changed(x, &[(ZEROS, 1)])), "1"), "7 68 + 0 0"),
-        case("second zero", total(one(changed(x, &[(ZEROS + 1, 1)])), "1"), "7 68 + 0 0"),
-        case("third zero", total(one(changed(x, &[(ZEROS + 2, 1)])), "1"), "7 68 + 0 0"),
-        case("fourth zero", total(one(changed(x, &[(ZEROS + 3, 255)])), "1"), "7 68 + 0 0"),
+        case("first zero", total(one(changed(x, &[(ZEROS_PLACE, 1)])), "1"), "7 68 + 0 0"),
+        case("second zero", total(one(changed(x, &[(ZEROS_PLACE + 1, 1)])), "1"), "7 68 + 0 0"),
+        case("third zero", total(one(changed(x, &[(ZEROS_PLACE + 2, 1)])), "1"), "7 68 + 0 0"),
+        case("fourth zero", total(one(changed(x, &[(ZEROS_PLACE + 3, 255)])), "1"), "7 68 + 0 0"),
         case("part", part(0, kind(2), "1"), "7 68 + 0 0"),
         case("shift", shift(minus(7, 5), kind(2), "1"), "7 68 + 0 0 - 7 5"),
     ]
@@ -1308,6 +1508,7 @@ fn numeral_names() -> Vec<Case> {
     let one = |row| card().with_numerals(&[row]);
     let mut cases = vec![
         case("digit of 16", total(one(named("abcdefgh1jklmnop")), "1"), "7 68 + 0 0"),
+        case("two-byte letters of 32", total(one(named(&CYRILLIC[..32])), "1"), "7 68 + 0 0"),
         case("comma, a unit's too", total(one(named("a,b")).with_rows(&[named("a,b")]), "1a,b"), "7 68 + 0 0"),
         case("comma, of a unit alone", total(one(named("ab")).with_rows(&[named("a,b")]), "ab a,b"), "0 6 + 1 0"),
         case("two bytes", total(one(named("µ")), "1"), "7 68 + 0 0"),
@@ -1323,6 +1524,60 @@ fn numeral_names() -> Vec<Case> {
         let (first, last) = (changed(named("nn"), &[(1, byte)]), changed(named("nn"), &[(2, byte)]));
         cases.push(case(format!("first {byte}"), total(one(first), "1"), "7 68 + 0 0"));
         cases.push(case(format!("last {byte}"), total(one(last), "1"), "7 68 + 0 0"));
+    }
+    cases
+}
+
+// 7 at 68 and the numeral's row: a byte that is no letter at each place of the longest word; and one that is.
+#[rustfmt::skip]
+fn places_of_numerals() -> Vec<Case> {
+    let one = |name: &str| card().with_numerals(&[named(name)]);
+    let mut cases = Vec::new();
+    for place in 0..NAME_BYTES {
+        for (what, byte) in [("digit", "5"), ("slash", "/"), ("delimiter", " "), ("byte 0", "\0"), ("at sign", "@")] {
+            cases.push(case(format!("{what} at {place}"), total(one(&with_letter(letters(32), place, byte)), "1"), "7 68 + 0 0"));
+        }
+        let name = with_letter(letters(32), place, "Z");
+        cases.push(case(format!("a letter at {place}"), total(one(&name), format!("{name} s")), "0 34 + 1 0"));
+    }
+    for size in [1, 8, 16, 31] {
+        for place in size + 1..=NAME_BYTES {
+            let row = changed(named(letters(size)), &[(place, b'y')]);
+            cases.push(case(format!("byte {place} behind {size}"), total(card().with_numerals(&[row]), "1"), "7 68 + 0 0"));
+        }
+    }
+    cases
+}
+
+// The same of numerals as of names: equal ones, ones that differ in one byte, and their first bytes as words of their own.
+#[rustfmt::skip]
+fn numerals_at_edges() -> Vec<Case> {
+    let two = |first: &str, second: &str| card().with_numerals(&[named(first), five(second)]);
+    let mut cases = Vec::new();
+    for size in SIZES_AT_EDGES {
+        let name = letters(size);
+        let end = size + 2;
+        cases.push(case(format!("{size} bytes, equal"), total(two(name, name), "1"), "7 69 + 0 0"));
+        cases.push(case(format!("{size} bytes, one more typed"), total(two(name, "x"), format!("{} s", letters(size + 1))), "6 0 + 0 0"));
+        for (place, other) in pairs_at_edges(size) {
+            let both = two(name, &other);
+            cases.push(case(format!("{size} bytes but {place}, the first"), total(both.clone(), format!("{name} s")), format!("0 {end} + 1 0")));
+            cases.push(case(format!("{size} bytes but {place}, the second"), total(both, format!("{other} s")), format!("0 {end} + 5 0")));
+            cases.push(case(format!("{size} bytes but {place}, missing"), total(two(name, "x"), format!("{other} s")), "6 0 + 0 0"));
+        }
+    }
+    cases
+}
+
+#[rustfmt::skip]
+fn beginnings_of_numerals() -> Vec<Case> {
+    let two = |first: &str, second: &str| card().with_numerals(&[named(first), five(second)]);
+    let mut cases = Vec::new();
+    for (size, short) in [(9, 8), (17, 16), (25, 24), (32, 8), (32, 16), (32, 24), (32, 31)] {
+        let (long, start) = (letters(size), letters(short));
+        cases.push(case(format!("{short} of {size}, the long one"), total(two(long, start), format!("{long} s")), format!("0 {} + 1 0", size + 2)));
+        cases.push(case(format!("{short} of {size}, the short one"), total(two(long, start), format!("{start} s")), format!("0 {} + 5 0", short + 2)));
+        cases.push(case(format!("{short} of {size}, turned, the short one"), total(two(start, long), format!("{start} s")), format!("0 {} + 1 0", short + 2)));
     }
     cases
 }
@@ -1381,6 +1636,7 @@ fn equal_numerals() -> Vec<Case> {
             "0 18 + 1 0"),
         case("16 bytes but the first", total(names(&["abcdefghijklmnop", "bbcdefghijklmnop"]), "bbcdefghijklmnop s"),
             "0 18 + 1 0"),
+        case("32 bytes", total(names(&[letters(32), letters(32)]), "1"), "7 69 + 0 0"),
         case("last byte", total(names(&["ab", "ac"]), "ac s"), "0 4 + 1 0"),
         case("longer", total(names(&["ab", "abc"]), "abc s"), "0 5 + 1 0"),
         case("shorter", total(names(&["abc", "ab"]), "ab s"), "0 4 + 1 0"),
@@ -1441,7 +1697,7 @@ fn order_with_numerals() -> Vec<Case> {
     let kind = table.clone().with_kind(8);
     let words = kind.clone().with_word(b"an1");
     let inner = words.clone().with_inner(b"0");
-    let ragged = numeral.clone().with_numeral_size(33);
+    let ragged = numeral.clone().with_numeral_size(49);
     let malformed = plus(0, 1_000_000_000);
     let long = text(4097);
     vec![
@@ -1913,23 +2169,23 @@ fn line_size() -> Vec<Case> {
         case("none", total(size(0), "1turn"), "0 5 + 0 12300000"),
         case("none, a name", total(size(0), "1aa"), "6 1 + 0 0"),
         case("1 byte", total(size(1), "1s"), "7 192 + 0 0"),
-        case("31 bytes", total(size(31), "1s"), "7 192 + 0 0"),
-        case("31 bytes, part", part(0, size(31), "1s"), "7 192 + 0 0"),
-        case("31 bytes, shift", shift(plus(1, 0), size(31), "1s"), "7 192 + 0 0 + 1 0"),
-        case("1 row", total(size(32), "1aa"), "0 3 + 1 0"),
-        case("1 row, another", total(size(32), "1ab"), "6 1 + 0 0"),
-        case("1 row, the hall's", total(size(32), "1turn"), "0 5 + 0 12300000"),
-        case("33 bytes", total(size(33), "1s"), "7 192 + 0 0"),
-        case("2047 bytes", total(size(2047), "1s"), "7 192 + 0 0"),
-        case("64 rows", total(size(2048), "1cl"), "0 3 + 1 0"),
-        case("64 rows, the hall's", total(size(2048), "1turn"), "0 5 + 0 12300000"),
-        case("64 rows, part", part(0, size(2048), "1cl"), "0 3 + 1 0"),
-        case("64 rows, shift", shift(plus(1, 0), size(2048), "1cl"), "0 3 + 2 0 + 2 0"),
-        case("2049 bytes", total(size(2049), "1s"), "7 192 + 0 0"),
+        case("47 bytes", total(size(47), "1s"), "7 192 + 0 0"),
+        case("47 bytes, part", part(0, size(47), "1s"), "7 192 + 0 0"),
+        case("47 bytes, shift", shift(plus(1, 0), size(47), "1s"), "7 192 + 0 0 + 1 0"),
+        case("1 row", total(size(48), "1aa"), "0 3 + 1 0"),
+        case("1 row, another", total(size(48), "1ab"), "6 1 + 0 0"),
+        case("1 row, the hall's", total(size(48), "1turn"), "0 5 + 0 12300000"),
+        case("49 bytes", total(size(49), "1s"), "7 192 + 0 0"),
+        case("3071 bytes", total(size(3071), "1s"), "7 192 + 0 0"),
+        case("64 rows", total(size(3072), "1cl"), "0 3 + 1 0"),
+        case("64 rows, the hall's", total(size(3072), "1turn"), "0 5 + 0 12300000"),
+        case("64 rows, part", part(0, size(3072), "1cl"), "0 3 + 1 0"),
+        case("64 rows, shift", shift(plus(1, 0), size(3072), "1cl"), "0 3 + 2 0 + 2 0"),
+        case("3073 bytes", total(size(3073), "1s"), "7 192 + 0 0"),
         case("65 rows", total(size(2080), "1s"), "7 192 + 0 0"),
         case("65 rows, part", part(0, size(2080), "1s"), "7 192 + 0 0"),
         case("65 rows, shift", shift(plus(1, 0), size(2080), "1s"), "7 192 + 0 0 + 1 0"),
-        case("256 rows", total(size(8192), "1s"), "7 192 + 0 0"),
+        case("256 rows", total(size(12288), "1s"), "7 192 + 0 0"),
     ]
 }
 
@@ -2005,7 +2261,7 @@ fn order_with_a_line() -> Vec<Case> {
     let last_of_line = numerals.clone().with_line(&[rows(63), vec![bad]].concat());
     let line_row = numerals.clone().with_line(&[bad]);
     let line = numerals.clone().with_line(&[vec![bad], rows(64)].concat());
-    let ragged = numerals.clone().with_line_size(33);
+    let ragged = numerals.clone().with_line_size(49);
     let last_of_hall = line.clone().with_rows(&[rows(63), vec![bad]].concat());
     let hall_row = line.clone().with_rows(&[bad]);
     let hall = line.clone().with_rows(&[vec![bad], rows(64)].concat());
@@ -2032,10 +2288,10 @@ fn order_with_a_line() -> Vec<Case> {
         case("line's row alone", total(card().with_line(&[bad]), "1"), "7 128 + 0 0"),
         case("line's row, hall's", total(card().with_line(&[bad]).with_rows(&[bad]), "1"), "7 0 + 0 0"),
         case("line's row, hall's last", total(card().with_line(&[bad]).with_more_rows(&[bad]), "1"), "7 6 + 0 0"),
-        case("line's row, hall's size", total(card().with_line(&[bad]).with_size(31), "1"), "7 64 + 0 0"),
-        case("line's size, hall's row", total(card().with_line_size(31).with_rows(&[bad]), "1"), "7 0 + 0 0"),
+        case("line's row, hall's size", total(card().with_line(&[bad]).with_size(47), "1"), "7 64 + 0 0"),
+        case("line's size, hall's row", total(card().with_line_size(47).with_rows(&[bad]), "1"), "7 0 + 0 0"),
         case("line's row, numeral", total(numeral.clone().with_line(&[bad]), "1"), "7 128 + 0 0"),
-        case("line's size, numeral", total(numeral.with_line_size(31), "1"), "7 192 + 0 0"),
+        case("line's size, numeral", total(numeral.with_line_size(47), "1"), "7 192 + 0 0"),
         case("line's row, numerals' size, part", part(0, line_row.clone(), "1"), "7 128 + 0 0"),
         case("line's row, long text, place", part(4098, line_row.clone(), &long), "7 128 + 0 0"),
         case("line's size, long text, place", part(4098, line.clone(), &long), "7 192 + 0 0"),

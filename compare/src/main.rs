@@ -28,6 +28,10 @@ mod make_card;
 mod make_indexes;
 mod make_odd;
 mod make_text;
+mod move_antt;
+mod move_limits;
+mod move_list;
+mod moves;
 mod nanoseconds;
 mod natural;
 mod plain;
@@ -41,6 +45,7 @@ mod round;
 mod slips;
 mod spoken;
 mod stored;
+mod sums;
 mod table;
 mod tally;
 mod untypable;
@@ -64,8 +69,8 @@ usage: compare make SEED COUNT          make requests
        compare untypable                all short texts with a unit that nobody could type, of the crate alone
        compare evaluations              numbers and multipliers with the crate's lengths
        compare tally REQUESTS ANSWERS   count the lines of two files
-       compare limits                   the hand-written cases at the limits, those of indexes too, against plain
-       compare limits REQUESTS ANSWERS  the same cases but those of indexes, written into two files
+       compare limits                   the hand-written cases at the limits, those of indexes and moves too, against plain
+       compare limits REQUESTS ANSWERS  the same cases but those of indexes and moves, written into two files
        compare cards CARDS FOUND        cards, and what the plain reading finds of each
        compare day TEXTS FOUND          a day's texts on line 7, and the shift total after each
        compare readings TEXTS FOUND     texts under card A, and what is read of each
@@ -76,11 +81,13 @@ usage: compare make SEED COUNT          make requests
        compare scale SEED COUNT FOUND   the same made on the fly, the list on standard output
        compare iso TEXTS FOUND          texts for the reader of ISO timings, and what iso_list prints
        compare index CARDS FOUND        cards for indexes and lookups, and what index_list prints
+       compare moves ROWS FOUND         stored rows to be moved, and what moves_list prints of them
        compare antt REQUESTS ANSWERS DIR  both as antt modules in the folder DIR
        compare antt iso-texts DIR       ISO timings with the plain way's answers, the same
        compare antt iso-lengths DIR     lengths written as ISO timings, the same
        compare antt index-limits DIR    indexes and lookups at their limits, the same
        compare antt index-made DIR      made ones with the plain reading's answers, the same
+       compare antt move-limits DIR     moves of stored rows at their limits, the same
 ";
 
 fn main() -> ExitCode {
@@ -112,10 +119,12 @@ fn main() -> ExitCode {
         ["scale", seed, count, found] => print_requests(seed, count, found),
         ["iso", texts, found] => iso_list::write_files(texts, found),
         ["index", cards, found] => index_list::write_files(cards, found),
+        ["moves", rows, found] => move_list::write_files(rows, found),
         ["antt", "iso-texts", folder] => told(iso_antt::write_texts(Path::new(folder))),
         ["antt", "iso-lengths", folder] => told(iso_antt::write_lengths(Path::new(folder))),
         ["antt", "index-limits", folder] => told(index_antt::write_limits(Path::new(folder))),
         ["antt", "index-made", folder] => told(index_antt::write_made(Path::new(folder))),
+        ["antt", "move-limits", folder] => told(move_antt::write_limits(Path::new(folder))),
         ["antt", requests, answers, folder] => write_antt(requests, answers, folder),
         _ => Err(USAGE.to_string()),
     };
@@ -181,9 +190,9 @@ fn plain_line(line: &str) -> Result<String, String> {
     })
 }
 
-/// Both lists are told, also where something of the first differs.
+/// All three lists are told, also where something of the first differs.
 fn check_limits() -> Result<bool, String> {
-    Ok(limits::check()? & index_limits::check()?)
+    Ok(limits::check()? & index_limits::check()? & move_limits::check())
 }
 
 /// Answers each request on standard input by one line, in order.

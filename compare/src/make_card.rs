@@ -1,5 +1,5 @@
-//! Making cards and tables that document 01 accepts, requests two, four and five
-//! counted in.
+//! Making cards and tables that document 01 accepts, requests two, four, five and
+//! eight counted in.
 
 use crate::request::{ByteSet, Card, Conjunctions, Switches};
 use crate::rng::Random;
@@ -58,10 +58,28 @@ const COMMON_NAMES: &[&str] = &[
     "😀",
     "abcdefghijklmnop",
     "éééééééé",
+    "мкс",
+    "оборот",
+    "миллисекунда",
+    "миллисекунды",
+    "микросекунда",
+    "ώρα",
+    "λεπτό",
+    "δευτερόλεπτο",
+    "χιλιοστοδευτερόλ",
+    "абвгдежзийклмноп",
+    "abcdefghijklmnopqrstuvwxyzABCDEF",
 ];
 
+/// What names begin with that differ only behind it, each of 24 bytes: letters of
+/// one byte, and Cyrillic and Greek ones of two.
+const LONG_BEGINNINGS: &[&str] = &["abcdefghijklmnopqrstuvwx", "абвгдежзийкл", "αβγδεζηθικλμ"];
+
+/// What stands behind such a beginning: few letters, so that names meet.
+const LAST_LETTERS: &[&str] = &["a", "b", "B", "µ", "я", "ω"];
+
 /// Numerals that get in the way of units, words, infinity, `ago`, exponents and
-/// each other: prefixes, other cases, one letter, sixteen.
+/// each other: prefixes, other cases, one letter, sixteen, thirty-two.
 const COMMON_NUMERALS: &[&str] = &[
     "five",
     "fiv",
@@ -94,6 +112,10 @@ const COMMON_NUMERALS: &[&str] = &[
     "abcdefghijklmnop",
     "abcdefghijklmno",
     "ABCDEFGHIJKLMNOP",
+    "abcdefghijklmnopq",
+    "abcdefghijklmnopqrstuvwxyzABCDEF",
+    "abcdefghijklmnopqrstuvwxyzABCDEG",
+    "abcdefghijklmnopqrstuvwxyzABCDE",
 ];
 
 /// Signs that may stand in a name as long as they are no delimiters.
@@ -341,7 +363,7 @@ fn beside_a_name(random: &mut Random, name: Vec<u8>) -> Vec<u8> {
 }
 
 fn make_name(random: &mut Random, words: &[Vec<u8>]) -> Vec<u8> {
-    match random.below(20) {
+    match random.below(26) {
         0..=11 => random.pick(COMMON_NAMES).as_bytes().to_vec(),
         12..=14 if !words.is_empty() => {
             let mut name = random.pick(words).clone();
@@ -359,8 +381,38 @@ fn make_name(random: &mut Random, words: &[Vec<u8>]) -> Vec<u8> {
             name.into_bytes()
         }
         16..=17 => random_letters(random, NAME_BYTES as u64),
+        18..=21 => make_long_name(random),
+        22..=23 => two_byte_letters(random),
         _ => random_letters(random, 4),
     }
+}
+
+/// A name that begins as others do for 8, 16 or 24 bytes, and goes on for no
+/// more than another 8.
+fn make_long_name(random: &mut Random) -> Vec<u8> {
+    let same = *random.pick(&[8, 16, 24]);
+    let mut name = random.pick(LONG_BEGINNINGS).as_bytes()[..same].to_vec();
+    let room = same + random.below(9) as usize;
+    while name.len() < room {
+        name.extend(random.pick(LAST_LETTERS).as_bytes());
+    }
+    // The last letter may be one byte too long.
+    if name.len() > NAME_BYTES {
+        name.truncate(name.len() - 2);
+    }
+    name
+}
+
+/// One to sixteen letters of two bytes each: Cyrillic ones, or Greek ones.
+fn two_byte_letters(random: &mut Random) -> Vec<u8> {
+    let first = *random.pick(&['а', 'α']);
+    let mut name = String::new();
+    for _ in 0..=random.below(NAME_BYTES as u64 / 2 - 1) {
+        // Both scripts have more small letters than these behind the first.
+        let letter = u32::from(first) + random.below(16) as u32;
+        name.extend(char::from_u32(letter));
+    }
+    name.into_bytes()
 }
 
 /// Whether a row with the name may stand behind the rows.

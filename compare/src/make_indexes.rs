@@ -7,7 +7,7 @@ use crate::index_request::{IndexRequest, Indexes, Outcome};
 use crate::plain_index::{self, index_of, indexes_of};
 use crate::request::{Card, Length};
 use crate::rng::Random;
-use crate::table::{ROW_BYTES, Row, rows_of};
+use crate::table::{NAME_BYTES, ROW_BYTES, Row, ZEROS_PLACE, rows_of};
 
 /// So many names of each table are looked up, with others beside each.
 const NAMES: usize = 6;
@@ -212,7 +212,7 @@ fn row_to_replace(random: &mut Random, rows: usize) -> u64 {
     let rows = rows as u64;
     match random.below(12) {
         0 => rows,
-        1 => *random.pick(&[rows + 1, 64, 255, 256, 1 << 59, u64::MAX]),
+        1 => *random.pick(&[rows + 1, 64, 255, 256, 1 << 60, u64::MAX]),
         _ => random.below(rows.max(1)),
     }
 }
@@ -239,16 +239,16 @@ fn make_new_row(random: &mut Random, card: &Card) -> Vec<u8> {
         _ => {}
     }
     // A row has room for no other names.
-    row.name.truncate(16);
+    row.name.truncate(NAME_BYTES);
     if row.name.is_empty() {
         row.name.push(b'm');
     }
     let mut bytes = row.to_bytes().to_vec();
     match random.below(20) {
-        0 => bytes.truncate(31),
+        0 => bytes.truncate(ROW_BYTES - 1),
         1 => bytes.push(0),
         2 => bytes.clear(),
-        3 => bytes[28] = 1,
+        3 => bytes[ZEROS_PLACE] = 1,
         _ => {}
     }
     bytes
@@ -276,9 +276,12 @@ fn beside(random: &mut Random, name: &[u8]) -> Vec<u8> {
     name
 }
 
-/// A few bytes of any value.
+/// A few bytes of any value, or as many as a row has room for.
 fn any_name(random: &mut Random) -> Vec<u8> {
-    let size = random.below(5);
+    let size = match random.below(4) {
+        0 => random.below(NAME_BYTES as u64 + 1),
+        _ => random.below(5),
+    };
     (0..size).map(|_| random.below(256) as u8).collect()
 }
 
@@ -289,8 +292,8 @@ fn names_to_look_up(random: &mut Random, card: &Card) -> Vec<Vec<u8>> {
         Vec::new(),
         vec![0],
         vec![255],
-        vec![255; 16],
-        vec![b'm'; 17],
+        vec![255; NAME_BYTES],
+        vec![b'm'; NAME_BYTES + 1],
         any_name(random),
     ];
     for table in [&card.hall, &card.line, &card.numerals] {

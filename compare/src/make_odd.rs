@@ -7,7 +7,10 @@ use crate::make::Maker;
 use crate::plain::MOST_TEXT_BYTES;
 use crate::request::{ByteSet, Card, Request};
 use crate::rng::Random;
-use crate::table::{MOST_NUMERALS, MOST_ROWS, NUMERAL_KIND, ROW_BYTES, Row};
+use crate::table::{
+    KIND_PLACE, MOST_NUMERALS, MOST_ROWS, NAME_BYTES, NAME_PLACE, NUMERAL_KIND, ROW_BYTES, Row,
+    ZEROS_PLACE,
+};
 
 /// Names that are not of letters alone.
 const ODD_NUMERALS: &[&str] = &["fi ve", "f1", "+", "a.", "µs", "a@", "`"];
@@ -57,7 +60,7 @@ impl Iterator for OddMaker {
 fn spoil(random: &mut Random, card: &mut Card) {
     let byte = random.below(256) as u8;
     let slot = random.below(4) as usize;
-    match random.below(22) {
+    match random.below(28) {
         0 => card.inner = with_byte(&card.inner, byte),
         1 => card.outer = with_byte(&card.outer, byte),
         2 => card.conjunctions.count = *random.pick(&[1, 2, 3, 4, 5, 6, byte]),
@@ -77,7 +80,7 @@ fn spoil(random: &mut Random, card: &mut Card) {
         }
         18 => {
             let size = match random.below(4) {
-                0 => random.below(1_100) as usize,
+                0 => random.below(1_650) as usize,
                 1 => ROW_BYTES * (MOST_NUMERALS + 1),
                 _ => card.numerals.len() + 1 + random.below(ROW_BYTES as u64 - 1) as usize,
             };
@@ -88,6 +91,9 @@ fn spoil(random: &mut Random, card: &mut Card) {
             card.numerals.extend_from_within(..size);
         }
         20 => put_in_a_bad_numeral(random, card),
+        21..=22 => spoil_layout(random, &mut card.hall),
+        23..=24 => spoil_layout(random, &mut card.line),
+        25..=26 => spoil_layout(random, &mut card.numerals),
         _ => change_byte(random, &mut card.numerals),
     }
 }
@@ -97,12 +103,35 @@ fn spoil(random: &mut Random, card: &mut Card) {
 fn spoil_units(random: &mut Random, table: &mut Vec<u8>) {
     let rows = table.len() / ROW_BYTES;
     match random.below(4) {
-        0 => table.resize(random.below(2_200) as usize, 0),
+        0 => table.resize(random.below(3_300) as usize, 0),
         1 => table.resize((MOST_ROWS + 1) * ROW_BYTES, 0),
         _ => {
             let size = random.below(rows as u64 + 1) as usize * ROW_BYTES;
             table.extend_from_within(..size);
         }
+    }
+}
+
+/// Breaks the layout of a row, if there is one: the size of its name, one of the
+/// zeros behind the name, or one of the four at its end.
+fn spoil_layout(random: &mut Random, table: &mut [u8]) {
+    let rows = table.len() / ROW_BYTES;
+    if rows == 0 {
+        return;
+    }
+    let start = random.below(rows as u64) as usize * ROW_BYTES;
+    let row = &mut table[start..start + ROW_BYTES];
+    let behind_name = NAME_PLACE + usize::from(row[0]);
+    let byte = *random.pick(&[1, b'a', 128, 255]);
+    match random.below(6) {
+        0 => row[0] = *random.pick(&[0, NAME_BYTES as u8 + 1, 47, 48, 255]),
+        1 => row[0] = random.below(NAME_BYTES as u64 + 1) as u8,
+        2 => row[ZEROS_PLACE + random.below(4) as usize] = byte,
+        _ if behind_name < KIND_PLACE => {
+            let room = (KIND_PLACE - behind_name) as u64;
+            row[behind_name + random.below(room) as usize] = byte;
+        }
+        _ => row[0] += 1,
     }
 }
 

@@ -1,6 +1,6 @@
 //! The points where document 01's rules are a reading of what its authors had
 //! no text of: the main driver, `POW10`, `Duration`, `Multiplier` and `Config`;
-//! and those on which requests four and five are silent. Each point is asked of the crate by short texts under card A or a card near
+//! and those on which requests four and five are silent, and names of up to 32 bytes. Each point is asked of the crate by short texts under card A or a card near
 //! it, and the answers are set against the plain reading.
 
 use crate::card_a::{card_a, line_7, row, same_answer};
@@ -24,6 +24,7 @@ pub fn ask_points() -> Result<bool, String> {
     asking.about_settings();
     asking.about_spoken_numbers();
     asking.about_two_unit_tables();
+    asking.about_long_names();
     let untypable_as_written = untypable::ask_points()?;
     let spoken_as_written = spoken::ask_points()?;
     Ok(asking.all_agree && untypable_as_written && spoken_as_written)
@@ -554,6 +555,60 @@ impl Asking {
             &[
                 "1s1S", "1mi", "1min", "1mins", "1minss", "1and and 1and", "1 and 2", "1inf inf",
                 "1ago ago", "1s ago", "1e1e", "1 e", "1e",
+            ],
+        );
+    }
+
+    fn about_long_names(&mut self) {
+        let rows = [
+            row("abcdefgh", 3, 2, 0),
+            row("abcdefghijklmnop", 3, 3, 0),
+            row("abcdefghijklmnopqrstuvwx", 3, 5, 0),
+            row("abcdefghijklmnopqrstuvwxyzABCDEF", 3, 7, 0),
+            row("abcdefghijklmnopqrstuvwxyzABCDEG", 3, 11, 0),
+            row("µs", 1, 1, 0),
+            row("абвгдежзийклмноп", 3, 13, 0),
+            row("абвгдежзийклмноо", 3, 17, 0),
+            row("a\0", 3, 19, 0),
+            row("a", 3, 23, 0),
+        ];
+        let numerals = [
+            row("abcdefghijklmnopqrstuvwxyzABCDEF", 3, 29, 0),
+            row("abcdefghijklmnopqrstuvwxyzABCDEG", 3, 31, 0),
+            row("abcdefghijklmnop", 3, 37, 0),
+        ];
+        self.ask(
+            "names of up to 32 bytes, of units and of numerals",
+            &also(&with_rows(&rows), |card| {
+                card.numerals = table_bytes(&numerals)
+            }),
+            &[
+                "1abcdefg",
+                "1abcdefgh",
+                "1abcdefghi",
+                "1abcdefghijklmnop",
+                "1abcdefghijklmnopq",
+                "1abcdefghijklmnopqrstuvwx",
+                "1abcdefghijklmnopqrstuvwxyzABCDE",
+                "1abcdefghijklmnopqrstuvwxyzABCDEF",
+                "1abcdefghijklmnopqrstuvwxyzABCDEG",
+                "1abcdefghijklmnopqrstuvwxyzABCDEH",
+                "1abcdefghijklmnopqrstuvwxyzABCDEFG",
+                "61.7µs",
+                "1us",
+                "1µ",
+                "1абвгдежзийклмноп",
+                "1абвгдежзийклмноо",
+                "1абвгдежзийклмнопр",
+                "1абвгдежзийклмно",
+                "1абвгдежзийклмноп ago and 2µs",
+                "1a",
+                "1a\0",
+                "1a\0\0",
+                "abcdefghijklmnopqrstuvwxyzABCDEF абвгдежзийклмноп",
+                "abcdefghijklmnopqrstuvwxyzABCDEG µs",
+                "abcdefghijklmnop a",
+                "abcdefghijklmnopq a",
             ],
         );
     }

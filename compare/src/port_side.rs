@@ -3,6 +3,7 @@
 use herovinga::raw;
 
 use crate::index_request::{Found, IndexRequest, Indexes, Outcome};
+use crate::moves::{Form, Moved, OLD};
 use crate::plain_index::indexes_of;
 use crate::request::{Answer, ByteSet, Card, Length};
 
@@ -242,6 +243,20 @@ fn looked_up(found: raw::Found) -> Outcome {
 
 pub fn write(length: Length, buffer: &mut [u8], place: usize) -> Answer {
     answer(raw::write(&record_of(length), buffer, place))
+}
+
+/// Lines of a form moved to the other, into a target that is lent.
+pub fn moved(from: Form, source: &[u8], target: &[u8]) -> Moved {
+    let mut target = target.to_vec();
+    let moved = if from == OLD {
+        raw::move_to_new(source, &mut target)
+    } else {
+        raw::move_to_old(source, &mut target)
+    };
+    Moved {
+        answer: answer(moved),
+        target,
+    }
 }
 
 fn record_of(length: Length) -> raw::Record {

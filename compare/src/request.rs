@@ -15,7 +15,7 @@ use std::fmt;
 /// should be an error and not an exhausted memory.
 const MOST_FIELD_BYTES: usize = 1 << 24;
 
-/// The numbers of answers are 0 to 23.
+/// The numbers of answers are 0 to 23, but for those of moves.
 pub const NUMBERS: usize = 24;
 
 /// A run of equal bytes at least this long is not written out.

@@ -1,11 +1,12 @@
 //! The port beside the crate under one card: both are asked about texts, the
 //! plain reading too where the crate gives no place or has one number for six,
 //! and then the port about itself. Before the texts the card's indexes are held
-//! against the plain reading's.
+//! against the plain reading's, and moves of its rows against the plain way's.
 
 use crate::crate_side::{self, CrateAnswer, SetUp};
 use crate::found::Found;
 use crate::indexes_beside;
+use crate::moves_beside;
 use crate::nanoseconds::{clamped_sum, nanoseconds};
 use crate::plain;
 use crate::port_side::{Port, Way};
@@ -33,6 +34,7 @@ pub fn under_card(
 ) -> Result<(), String> {
     found.begin_card(card);
     indexes_beside::hold(found, card);
+    moves_beside::hold(found, card);
     crate_side::under(card, |set_up| {
         let mut both = SideBySide {
             card,

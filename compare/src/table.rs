@@ -1,19 +1,21 @@
 //! The unit table of document 01, the numeral table of request four and the
-//! merged table of request five: rows of 32 bytes, and the eight fixed kinds.
+//! merged table of request five: rows of 48 bytes, as request eight lays them
+//! out, and the eight fixed kinds.
 
-pub const ROW_BYTES: usize = 32;
-pub const NAME_BYTES: usize = 16;
+pub const ROW_BYTES: usize = 48;
+pub const NAME_BYTES: usize = 32;
 pub const MOST_ROWS: usize = 64;
 pub const MOST_NUMERALS: usize = 32;
 
 /// The kind of every numeral.
 pub const NUMERAL_KIND: u8 = 3;
 
-const NAME_PLACE: usize = 1;
-const KIND_PLACE: usize = 17;
-const COEFFICIENT_PLACE: usize = 18;
-const POWER_PLACE: usize = 26;
-const ZEROS_PLACE: usize = 28;
+/// Where the fields of a row stand; its first byte is the length of its name.
+pub const NAME_PLACE: usize = 1;
+pub const KIND_PLACE: usize = 33;
+const COEFFICIENT_PLACE: usize = 34;
+const POWER_PLACE: usize = 42;
+pub const ZEROS_PLACE: usize = 44;
 
 /// Coefficient and power of ten of the kinds 0 to 7.
 pub const KINDS: [(i64, i16); 8] = [
@@ -36,7 +38,7 @@ pub struct Row {
 }
 
 impl Row {
-    /// The 32 bytes of a row; the name has 1 to 16 bytes.
+    /// The 48 bytes of a row; the name has 1 to 32 bytes.
     pub fn to_bytes(&self) -> [u8; ROW_BYTES] {
         let mut bytes = [0; ROW_BYTES];
         bytes[0] = self.name.len() as u8;
@@ -47,7 +49,7 @@ impl Row {
         bytes
     }
 
-    /// The row in 32 bytes, or nothing if they are not laid out as a row: the
+    /// The row in 48 bytes, or nothing if they are not laid out as a row: the
     /// name length is wrong, or a byte that must be zero is not. What the name,
     /// kind and numbers are worth is for others to judge.
     pub fn from_bytes(bytes: &[u8]) -> Option<Row> {

@@ -12,13 +12,13 @@ const CONJUNCTION_ROOM: usize = 4;
 
 /// The fields of a row: the size of its name, the name, the kind, coefficient
 /// and power, and zeros.
-const ROW_SIZE: usize = 32;
+const ROW_SIZE: usize = 48;
 const NAME_AT: usize = 1;
-const NAME_ROOM: usize = 16;
-const KIND_AT: usize = 17;
-const COEFFICIENT_AT: usize = 18;
-const POWER_AT: usize = 26;
-const ZEROS_AT: usize = 28;
+const NAME_ROOM: usize = 32;
+const KIND_AT: usize = 33;
+const COEFFICIENT_AT: usize = 34;
+const POWER_AT: usize = 42;
+const ZEROS_AT: usize = 44;
 
 /// The eight kinds of units.
 #[allow(missing_docs)] // the names say it
@@ -413,7 +413,7 @@ impl CardBuilder {
     }
 
     /// One more unit of the hall's: so many of its kind, coefficient times ten to
-    /// the power.
+    /// the power. Its name has 1 to 32 bytes.
     ///
     /// A name led by `e` or `E` needs exponents on (`3e0eon`), or the delimiters
     /// of the inner set before units (`3 eon`), or else the card is refused:
@@ -430,7 +430,7 @@ impl CardBuilder {
         self
     }
 
-    /// Rows of the hall's unit table as they are stored, 32 bytes each.
+    /// Rows of the hall's unit table as they are stored, 48 bytes each.
     pub fn rows(mut self, rows: &[u8]) -> Self {
         self.hall.extend_from_slice(rows);
         self
@@ -463,7 +463,7 @@ impl CardBuilder {
         self
     }
 
-    /// Rows of the line's unit table as they are stored, 32 bytes each.
+    /// Rows of the line's unit table as they are stored, 48 bytes each.
     pub fn line_rows(mut self, rows: &[u8]) -> Self {
         self.line.extend_from_slice(rows);
         self
@@ -472,7 +472,7 @@ impl CardBuilder {
     /// One more word for a number, coefficient times ten to the power. It stands
     /// where a number would, and inner delimiters and a unit follow it.
     ///
-    /// A card is refused if the word is not 1 to 16 ASCII letters, if it was
+    /// A card is refused if the word is not 1 to 32 ASCII letters, if it was
     /// there before, if the coefficient is [`i64::MIN`], or if there are more than
     /// 32. A unit may have the same name.
     ///

@@ -7,7 +7,7 @@ use std::ops::Neg;
 use std::time::Duration;
 
 use crate::raw::{self, Answer, Record};
-use crate::refusal::Refusal;
+use crate::refusal::{Refusal, place_after};
 
 /// The largest size of a written length: a sign, twenty digits of seconds, a
 /// point and nine decimals.
@@ -171,14 +171,6 @@ impl Length {
             0 => Ok(Self::of(answer.length)),
             _ => Err(Refusal::of(answer)),
         }
-    }
-}
-
-/// The place after what was written, or the answer's refusal.
-fn place_after(answer: &Answer) -> Result<usize, Refusal> {
-    match answer.number {
-        0 => Ok(answer.position as usize),
-        _ => Err(Refusal::of(answer)),
     }
 }
 

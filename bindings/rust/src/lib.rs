@@ -60,6 +60,12 @@
 //! // ISO 8601 texts need no card.
 //! assert_eq!(Length::from_iso("PT1M30S")?, total);
 //! assert_eq!(total.to_iso()?, "PT1M30S");
+//!
+//! // Rows that were stored with 16 bytes for the name are moved to the new form.
+//! let old = "0173000000000000000000000000000000030100000000000000000000000000\n";
+//! let new = herovinga::moves::to_new(old)?;
+//! assert_eq!((old.len(), new.len()), (65, 97));
+//! assert_eq!(herovinga::moves::to_old(&new)?, old.as_bytes());
 //! # Ok::<(), Box<dyn std::error::Error>>(())
 //! ```
 
@@ -68,6 +74,7 @@
 mod card;
 mod length;
 mod lookup;
+pub mod moves;
 mod parts;
 pub mod raw;
 mod refusal;

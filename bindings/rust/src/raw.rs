@@ -231,6 +231,20 @@ unsafe extern "C" {
         name_size: usize,
         found: *mut u64,
     ) -> u8;
+    fn herovinga_move_to_new(
+        source: *const u8,
+        source_size: usize,
+        target: *mut u8,
+        target_size: usize,
+        answer: *mut u64,
+    ) -> u8;
+    fn herovinga_move_to_old(
+        source: *const u8,
+        source_size: usize,
+        target: *mut u8,
+        target_size: usize,
+        answer: *mut u64,
+    ) -> u8;
 }
 
 /// Reads one part of a text from a place.
@@ -610,4 +624,42 @@ pub fn look_up_indexed(
         )
     };
     Found::of(number, found)
+}
+
+/// Moves stored rows from the old form to the new one. After a refusal the target
+/// is as it was.
+pub fn move_to_new(source: &[u8], target: &mut [u8]) -> Answer {
+    let mut answer = [0; 4];
+    // SAFETY: the source is a slice lent with its size; the target is a slice lent
+    // with its size and, like the four words of the answer, the entry's alone for
+    // the call. It writes within these two only and keeps no pointer.
+    let number = unsafe {
+        herovinga_move_to_new(
+            source.as_ptr(),
+            source.len(),
+            target.as_mut_ptr(),
+            target.len(),
+            answer.as_mut_ptr(),
+        )
+    };
+    Answer::of(number, answer)
+}
+
+/// Moves stored rows from the new form to the old one. After a refusal the target
+/// is as it was.
+pub fn move_to_old(source: &[u8], target: &mut [u8]) -> Answer {
+    let mut answer = [0; 4];
+    // SAFETY: the source is a slice lent with its size; the target is a slice lent
+    // with its size and, like the four words of the answer, the entry's alone for
+    // the call. It writes within these two only and keeps no pointer.
+    let number = unsafe {
+        herovinga_move_to_old(
+            source.as_ptr(),
+            source.len(),
+            target.as_mut_ptr(),
+            target.len(),
+            answer.as_mut_ptr(),
+        )
+    };
+    Answer::of(number, answer)
 }

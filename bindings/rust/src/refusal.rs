@@ -10,7 +10,7 @@ use crate::raw::Answer;
 /// number; `Display` says it in a sentence.
 #[derive(Clone, Copy, PartialEq, Eq, Hash, Debug)]
 pub struct Refusal {
-    /// 1 to 23. 2 is no longer given: 17 to 22 tell apart what it was for.
+    /// 1 to 25. 2 is no longer given: 17 to 22 tell apart what it was for.
     pub number: u8,
     /// A place of the text or buffer, the number of a row that is not there, 0, or
     /// for 7 what is wrong: 65 the delimiters, 66 the conjunctions, 67 the default
@@ -19,7 +19,7 @@ pub struct Refusal {
     /// 128; 100 the size of the numeral table, 68 to 99 its first bad row, counted
     /// from 68. It is the first of them in this order. For 23 it is the first wrong
     /// entry of an index, or the number of rows if it has another length; for the
-    /// line's index counted from 128.
+    /// line's index counted from 128. For 24 and 25 it is the number of a line.
     pub position: usize,
 }
 
@@ -58,9 +58,9 @@ impl Refusal {
                 "there are more than four conjunctions, or one is not 1 to 8 ASCII letters",
             ),
             67 => out.write_str("the default kind is not one of 0 to 7"),
-            64 => out.write_str("the hall's unit table is not 0 to 64 rows of 32 bytes"),
-            192 => out.write_str("the line's unit table is not 0 to 64 rows of 32 bytes"),
-            100 => out.write_str("the numeral table is not 0 to 32 rows of 32 bytes"),
+            64 => out.write_str("the hall's unit table is not 0 to 64 rows of 48 bytes"),
+            192 => out.write_str("the line's unit table is not 0 to 64 rows of 48 bytes"),
+            100 => out.write_str("the numeral table is not 0 to 32 rows of 48 bytes"),
             position => {
                 let (row, table) = match position {
                     FIRST_OF_THE_LINE.. => (position - FIRST_OF_THE_LINE, "line's unit"),
@@ -120,6 +120,14 @@ impl Refusal {
     }
 }
 
+/// The place behind what was written, or the answer's refusal.
+pub(crate) fn place_after(answer: &Answer) -> Result<usize, Refusal> {
+    match answer.number {
+        0 => Ok(answer.position as usize),
+        _ => Err(Refusal::of(answer)),
+    }
+}
+
 impl fmt::Display for Refusal {
     fn fmt(&self, out: &mut fmt::Formatter<'_>) -> fmt::Result {
         let position = self.position;
@@ -159,6 +167,14 @@ impl fmt::Display for Refusal {
             ),
             17..=22 => self.describe_slip(out),
             23 => self.describe_index(out),
+            24 => write!(
+                out,
+                "line {position} is no stored row: its length, a digit, the size of its name, or a byte that must be zero is wrong"
+            ),
+            25 => write!(
+                out,
+                "the name in line {position} has more than 16 bytes, and the old form has no room for it"
+            ),
             number => write!(out, "refusal {number} at {position}"),
         }
     }

@@ -11,6 +11,9 @@ const INDEX_A: [u8; 6] = [5, 3, 1, 0, 2, 4];
 const LONG: [u8; 4_097] = [b'1'; 4_097];
 const BEYOND: usize = usize::MAX;
 
+/// A name of 33 bytes.
+const TOO_LONG: &str = "abcdefghijklmnopqrstuvwxyzABCDEFG";
+
 fn refusal(number: u8, position: usize) -> Refusal {
     Refusal { number, position }
 }
@@ -277,10 +280,10 @@ fn made_whole_or_not_at_all() {
 
     // A wrong table, and wrong settings, come first.
     let mut index = [9; 6];
-    let bad = &a.hall()[..33];
+    let bad = &a.hall()[..49];
     let made = raw::make_index(a.settings(), bad, &mut index);
     assert_eq!(made, answer(7, 64));
-    let twice = [&a.hall()[..32], &a.hall()[..32]].concat();
+    let twice = [&a.hall()[..48], &a.hall()[..48]].concat();
     let made = raw::make_index(a.settings(), &twice, &mut index[..2]);
     assert_eq!(made, answer(7, 1));
     let mut settings = *a.settings();
@@ -379,16 +382,16 @@ fn the_order_of_refusals() {
     let settings = card.settings();
     for (settings, line, numerals, position) in [
         (&wrong, line, numerals, 67),
-        (settings, &line[..63], numerals, 192),
-        (settings, line, &numerals[..31], 100),
+        (settings, &line[..95], numerals, 192),
+        (settings, line, &numerals[..47], 100),
     ] {
         let read = raw::read_total_indexed(settings, hall, &[], line, &[], numerals, b"1");
         assert_eq!((read.number, read.position), (7, position));
     }
     // Of numerals a lookup is told nothing.
-    let looked_up = raw::look_up(settings, hall, &line[..63], b"s");
+    let looked_up = raw::look_up(settings, hall, &line[..95], b"s");
     assert_eq!((looked_up.number, looked_up.position), (7, 192));
-    let looked_up = raw::look_up_indexed(settings, &hall[..31], &[], line, &[], b"s");
+    let looked_up = raw::look_up_indexed(settings, &hall[..47], &[], line, &[], b"s");
     assert_eq!((looked_up.number, looked_up.position), (7, 64));
 }
 
@@ -445,7 +448,7 @@ fn a_unit_not_replaced() {
         let replaced = card.replace_unit(row, name, Kind::Second, 1, 0);
         assert_eq!(replaced, Err(refusal(7, row)), "`{name}`");
     }
-    for name in ["", "1", "a b", "a.b", "seventeen letters"] {
+    for name in ["", "1", "a b", "a.b", TOO_LONG] {
         let replaced = card.replace_unit(3, name, Kind::Second, 1, 0);
         assert_eq!(replaced, Err(refusal(7, 3)), "`{name}`");
     }
@@ -464,7 +467,7 @@ fn a_unit_not_replaced() {
     assert_eq!(replaced, Err(refusal(10, 0)));
 }
 
-/// A row as it is lent: 7 and 23 before 10, and a size that is not 32.
+/// A row as it is lent: 7 and 23 before 10, and a size that is not 48.
 #[test]
 fn a_row_replaced_as_it_is_lent() {
     let a = Card::a();
@@ -478,7 +481,7 @@ fn a_row_replaced_as_it_is_lent() {
         assert_eq!(replaced, wanted, "{index:?}, row {row}");
         assert_eq!((&table[..], &lent[..]), (a.hall(), index));
     };
-    for new_row in [&[], &new[..31], &longer, &two] {
+    for new_row in [&[], &new[..47], &longer, &two] {
         unchanged(&INDEX_A, 5, new_row, answer(7, 5));
         unchanged(&INDEX_A, 6, new_row, answer(10, 6));
         unchanged(&[], 6, new_row, answer(23, 6));
@@ -486,14 +489,14 @@ fn a_row_replaced_as_it_is_lent() {
     unchanged(&[3, 5, 1, 0, 2, 4], 6, &new, answer(23, 0));
     unchanged(&INDEX_A, 6, &new, answer(10, 6));
 
-    let (mut table, mut index) = (a.hall()[..191].to_vec(), [9; 6]);
+    let (mut table, mut index) = (a.hall()[..287].to_vec(), [9; 6]);
     let replaced = raw::replace_row(settings, &mut table, &mut index, 6, &new);
     assert_eq!(replaced, answer(7, 64));
-    assert_eq!((&table[..], index), (&a.hall()[..191], [9; 6]));
+    assert_eq!((&table[..], index), (&a.hall()[..287], [9; 6]));
 
     let (mut table, mut index) = (a.hall().to_vec(), INDEX_A);
     let replaced = raw::replace_row(settings, &mut table, &mut index, 5, &new);
     assert_eq!(replaced, answer(0, 6));
-    assert_eq!(table, [&a.hall()[..160], &new].concat());
+    assert_eq!(table, [&a.hall()[..240], &new].concat());
     assert_eq!(index, [3, 1, 0, 2, 4, 5]);
 }

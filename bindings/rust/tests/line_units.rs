@@ -141,7 +141,7 @@ fn both_tables_full() {
     let full = |line| many(many(bare(), of_the_hall, 0..64, 1), of_the_line, line, 5);
     let seconds = |count: u64| Ok(milliseconds(1_000 * count));
     let apart = card(full(64..128));
-    assert_eq!(apart.hall().len() + apart.line().len(), 128 * 32);
+    assert_eq!(apart.hall().len() + apart.line().len(), 128 * 48);
     assert_eq!(apart.read_total("1aa1cl"), seconds(2));
     assert_eq!(apart.read_total("1cm1 ex"), seconds(10));
     assert_eq!(apart.read_total("1 ey"), Err(refusal(6, 2)));
@@ -158,7 +158,7 @@ fn the_tables_size() {
     assert!(line(64).build().is_ok());
     assert_eq!(build(line(65)), refusal(7, 192));
     let most = card(line(64));
-    for size in [1, 31, 33, 2_047, 2_049] {
+    for size in [1, 32, 47, 49, 3_071, 3_073] {
         let rows = [most.line(), &[0]].concat();
         let refused = hall().line_rows(&rows[..size]).build();
         assert_eq!(refused, Err(refusal(7, 192)), "{size} bytes");
@@ -169,10 +169,16 @@ fn the_tables_size() {
 #[test]
 fn rows() {
     let first = || hall().line_unit("jaw", Kind::Second, 1, 0);
-    for name in ["", "jaw", "a b", "a1", "a.b", "a-b", "seventeen letters"] {
+    for name in ["", "jaw", "a b", "a1", "a.b", "a-b", &"n".repeat(33)] {
         let second = first().line_unit(name, Kind::Second, 1, 0);
         assert_eq!(build(second), refusal(7, 129), "`{name}`");
     }
+    let longest = "n".repeat(32);
+    let second = card(first().line_unit(&longest, Kind::Second, 1, 0));
+    assert_eq!(
+        second.read_total(format!("1{longest}")),
+        Ok(milliseconds(1_000))
+    );
     let largest = i64::MAX / 604_800;
     let week = |coefficient| first().line_unit("w", Kind::Week, coefficient, 0);
     assert!(week(largest).build().is_ok());
@@ -183,7 +189,7 @@ fn rows() {
     assert_eq!(build(last), refusal(7, 191));
 
     let mut rows = card(first()).line().to_vec();
-    rows[17] = 8;
+    rows[33] = 8;
     assert_eq!(build(hall().line_rows(&rows)), refusal(7, 128));
 }
 

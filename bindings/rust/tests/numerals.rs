@@ -179,7 +179,7 @@ fn the_tables_size() {
         let (hall, line) = (most.hall().to_vec(), most.line().to_vec());
         Card::from_words(*most.settings(), hall, line, numerals)
     };
-    for size in [1, 31, 33, 1_023, 1_025] {
+    for size in [1, 32, 47, 49, 1_535, 1_537] {
         let numerals = [most.numerals(), &[0]].concat()[..size].to_vec();
         assert_eq!(with(numerals), Err(refusal(7, 100)), "{size} bytes");
     }
@@ -197,11 +197,13 @@ fn rows() {
             "`{name}`"
         );
     }
-    for size in [17, 256 + 4, 300] {
+    for size in [33, 256 + 4, 300] {
         let name = "n".repeat(size);
         assert_eq!(build(first().numeral(name, 6, 0)), refusal(7, 69), "{size}");
     }
-    assert!(first().numeral("n".repeat(16), 6, 0).build().is_ok());
+    for size in [16, 17, 32] {
+        assert!(first().numeral("n".repeat(size), 6, 0).build().is_ok());
+    }
     assert!(first().numeral("Five", -i64::MAX, 0).build().is_ok());
     let least = hall().numeral("least", i64::MIN, 0);
     assert_eq!(build(least), refusal(7, 68));
@@ -212,7 +214,7 @@ fn a_kind_that_is_no_second() {
     let card = spoken();
     for kind in (0..=u8::MAX).filter(|kind| *kind != 3) {
         let mut numerals = card.numerals().to_vec();
-        numerals[2 * 32 + 17] = kind;
+        numerals[2 * 48 + 33] = kind;
         let hall = card.hall().to_vec();
         let refused = Card::from_words(*card.settings(), hall, Vec::new(), numerals);
         assert_eq!(refused, Err(refusal(7, 70)), "kind {kind}");

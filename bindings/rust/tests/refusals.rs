@@ -112,18 +112,18 @@ fn the_tables_size() {
     };
     assert!(units(64).build().is_ok());
     assert_eq!(build(units(65)), refusal(7, 64));
-    assert_eq!(build(Card::builder().rows(&[1; 31])), refusal(7, 64));
+    assert_eq!(build(Card::builder().rows(&[1; 47])), refusal(7, 64));
 }
 
 #[test]
 fn rows() {
     let first = || Card::builder().outer(" ").unit("s", Kind::Second, 1, 0);
-    for name in ["", "s", "a b", "a1", "a.b", "a-b", "seventeen letters"] {
+    for name in ["", "s", "a b", "a1", "a.b", "a-b", &"n".repeat(33)] {
         let second = first().unit(name, Kind::Second, 1, 0);
         assert_eq!(build(second), refusal(7, 1), "`{name}`");
     }
     assert_eq!(
-        build(first().unit("n".repeat(272), Kind::Second, 1, 0)),
+        build(first().unit("n".repeat(256 + 32), Kind::Second, 1, 0)),
         refusal(7, 1)
     );
     let largest = i64::MAX / 604_800;
@@ -238,7 +238,7 @@ fn sentences() {
         ((7, 67), "the default kind is not one of 0 to 7"),
         (
             (7, 64),
-            "the hall's unit table is not 0 to 64 rows of 32 bytes",
+            "the hall's unit table is not 0 to 64 rows of 48 bytes",
         ),
         (
             (7, 3),
@@ -250,7 +250,7 @@ fn sentences() {
         ),
         (
             (7, 192),
-            "the line's unit table is not 0 to 64 rows of 32 bytes",
+            "the line's unit table is not 0 to 64 rows of 48 bytes",
         ),
         (
             (7, 128),
@@ -262,7 +262,7 @@ fn sentences() {
         ),
         (
             (7, 100),
-            "the numeral table is not 0 to 32 rows of 32 bytes",
+            "the numeral table is not 0 to 32 rows of 48 bytes",
         ),
         (
             (7, 68),
@@ -339,7 +339,15 @@ fn sentences() {
             (23, 130),
             "the index of the line's unit table is wrong at entry 2, or in its length if the table has 2 rows: make it anew",
         ),
-        ((24, 1), "refusal 24 at 1"),
+        (
+            (24, 3),
+            "line 3 is no stored row: its length, a digit, the size of its name, or a byte that must be zero is wrong",
+        ),
+        (
+            (25, 0),
+            "the name in line 0 has more than 16 bytes, and the old form has no room for it",
+        ),
+        ((26, 1), "refusal 26 at 1"),
     ];
     for ((number, position), sentence) in sentences {
         let error: Box<dyn std::error::Error> = Box::new(refusal(number, position));
