@@ -4,7 +4,7 @@
  *     c_indexes ROUNDS CALL ROWS [NAME]
  *
  * CALL is make, make-down, check, replace, lookup, indexed-lookup, total or indexed-total; a total is that of `1` and the name. The table's names have
- * sixteen bytes that differ in the last, as those of bench/full_table.cards have, but for the last row's, which is `s`: rows are counted upward, so
+ * 32 bytes that differ in the last, as those of bench/full_table.cards have, but for the last row's, which is `s`: rows are counted upward, so
  * that `s` is the last to be looked at and the last in order. For make-down they stand the other way round, so that each sinks below all before it. */
 #include <inttypes.h>
 #include <stdio.h>
@@ -16,16 +16,19 @@
 
 #define MOST HEROVINGA_MOST_ROWS
 
-/* The name of a row: `abcdefghijklmno` and a byte from 192 on, or `s` for the last. */
+/* What the names begin with, which leaves room for one byte. */
+static const char beginning[HEROVINGA_NAME_ROOM] = "abcdefghijklmnopqrstuvwxyzABCDE";
+
+/* The name of a row: the beginning and a byte from 192 on, or `s` for the last. */
 static size_t name_of(char *name, size_t row, size_t rows)
 {
     if (row + 1 == rows) {
         strcpy(name, "s");
         return 1;
     }
-    memcpy(name, "abcdefghijklmno", 15);
-    name[15] = (char)(192 + row);
-    return 16;
+    memcpy(name, beginning, HEROVINGA_NAME_ROOM - 1);
+    name[HEROVINGA_NAME_ROOM - 1] = (char)(192 + row);
+    return HEROVINGA_NAME_ROOM;
 }
 
 static void put_named(uint8_t *at, const char *name, size_t size)
@@ -44,7 +47,7 @@ int main(int argc, char **argv)
     herovinga_settings settings;
     herovinga_answer answer;
     herovinga_found found = {0};
-    char name[17] = "s", text[18];
+    char name[HEROVINGA_NAME_ROOM + 1] = "s", text[HEROVINGA_NAME_ROOM + 2];
     size_t rows, row, size = 1, table_size;
     uint64_t left;
     uint8_t number = 0;
