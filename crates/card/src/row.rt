@@ -5,36 +5,29 @@ ghost use Prim.Native.Nat.{_+_, _-_, _%_};
 ghost use lib.Dec.{eqb};
 ghost use lib.ListN.{length, take, drop};
 ghost use Rattle.rules.specs.Common.{all, between, same};
-ghost use Rattle.rules.specs.SettingsAndUnitTable.{LETTER, is, row-size, zeros-at, name, led-by-e};
+ghost use Rattle.rules.specs.SettingsAndUnitTable.{LETTER, is, row-size, kind-at, zeros-at, name, led-by-e};
 ghost use Rattle.settings.specs.Sets.{bytes-of, passes};
 ghost use Rattle.rows.specs.Named.{padded};
 ghost use Rattle.card.specs.Fields.{Letterless, Simple, asked-further, name-right, fields-right, alone};
 use rows::fields::KIND_AT;
+use rows::fields::LAST_WORD_AT;
 use rows::fields::NAME_AT;
+use rows::fields::NAME_ROOM;
+use rows::fields::SECOND_WORD_AT;
+use rows::fields::THIRD_WORD_AT;
 use rows::fields::ZEROS_AT;
 use rows::fields::name_of;
 use rows::fields::plainly_small;
 use rows::fields::product_in_range;
 use settings::sets::AsciiSet;
 use settings::sets::holds;
+use words::BYTE_BITS;
 use words::HIGH_BITS;
+use words::WORD;
+use words::WORD_BITS;
 use words::half_at;
 use words::letter_marks;
 use words::word_at;
-
-// Bytes of a word, and bits.
-const WORD: usize = 8;
-
-const WORD_BITS: u64 = 64;
-
-// How many bytes a name's room has, and where its words behind the first stand.
-const NAME_ROOM: u8 = 32;
-
-const SECOND_WORD_AT: usize = 9;
-
-const THIRD_WORD_AT: usize = 17;
-
-const LAST_WORD_AT: usize = 25;
 
 // Kinds as a row has them: the last of the eight, and seconds.
 const LAST_KIND: u8 = 7;
@@ -66,7 +59,7 @@ fn zeros(row: &[u8]) -> bool
 // Whether the words of the name's room are zero from this place on.
 fn zero_words(row: &[u8], from: usize) -> bool
     requires { ⌜ (length (now row) ≡ row-size) × (from % 8 ≡ 1) ⌝ }
-    ensures { λ r. ⌜ r ≡ all (eqb 0) (take (33 - from) (drop from (now (row .entry)))) ⌝ }
+    ensures { λ r. ⌜ r ≡ all (eqb 0) (take (kind-at - from) (drop from (now (row .entry)))) ⌝ }
 {
     let mut at = from;
     while at < KIND_AT {
@@ -95,7 +88,7 @@ fn padded(row: &[u8]) -> bool
     }
     let over = size % 8;
     let last = NAME_AT + (size - over) as usize;
-    if word_at(row, last) >> (8 * over as u64) != 0 {
+    if word_at(row, last) >> (BYTE_BITS * over as u64) != 0 {
         return false;
     }
     zero_words(row, last + WORD)
@@ -113,7 +106,7 @@ fn short_letters(row: &[u8]) -> bool
     if size > 7 {
         return false;
     }
-    let bits = 8 * size;
+    let bits = BYTE_BITS * size;
     if word_at(row, NAME_AT) >> bits != 0 {
         return false;
     }

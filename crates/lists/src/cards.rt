@@ -7,9 +7,11 @@ use crate::fields::further;
 use crate::fields::short_at;
 use crate::fields::word_at;
 use crate::lines::read_line;
+use rows::fields::ROW_SIZE;
 use rules::ByteSet;
 use rules::Conjunction;
 use rules::Settings;
+use stored::LINE_SIZE;
 use stored::restore_row;
 
 // Where each field of a card's line stands.
@@ -31,12 +33,8 @@ const LINE_SIZE_AT: usize = 222;
 
 const NUMERALS_SIZE_AT: usize = 226;
 
-// Bytes of a card's line, of a row and of its stored form, the newlines included.
+// Bytes of a card's line, the newline included.
 const HEAD: usize = 231;
-
-const ROW: usize = 48;
-
-const STORED: usize = 97;
 
 // The longest table of a list: four times as many rows as a unit table may have.
 pub const MOST_BYTES: usize = 12_288;
@@ -92,7 +90,7 @@ fn settings_of(line: &[u8]) -> Settings {
 
 // The next row of the list, put where it belongs in the table. False where the list ends or a line is no row.
 fn read_row(table: &mut [u8], at: usize) -> bool {
-    let mut line = [0u8; STORED];
+    let mut line = [0u8; LINE_SIZE];
     if read_line(&mut line) && at <= table.len() {
         restore_row(&line, &mut table[at..])
     } else {
@@ -107,7 +105,7 @@ fn read_table(table: &mut [u8], size: u16) -> bool {
     let mut at = 0;
     while at < end {
         more = read_row(table, at) & more;
-        at += ROW;
+        at += ROW_SIZE;
     }
     more
 }

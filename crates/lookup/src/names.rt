@@ -8,17 +8,12 @@ ghost use Rattle.rows.specs.Named.{padded};
 ghost use Rattle.index.specs.TheSortedIndex.{order, before};
 use index::Order;
 use rows::fields::NAME_AT;
+use rows::fields::SECOND_WORD_AT;
+use words::BYTE_BITS;
+use words::WORD;
+use words::WORD_BITS;
 use words::with_byte;
 use words::word_at;
-
-// Bytes of a word, how many of its bits a byte is, and where the second word of a name stands in its row.
-const WORD: usize = 8;
-
-const BYTE_BITS: u64 = 8;
-
-const WORD_BITS: u64 = 64;
-
-const SECOND_WORD_AT: usize = 9;
 
 // The first eight bytes of a name as a number, or as many as it has.
 pub fn first_word(name: &[u8]) -> u64

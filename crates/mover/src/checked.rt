@@ -4,25 +4,22 @@ ghost use Prim.Native.Nat.{_≤_};
 ghost use lib.Dec.{eqb};
 ghost use Rattle.rules.specs.Common.{all};
 ghost use Rattle.rules.specs.SettingsAndUnitTable.{name-room};
-ghost use Rattle.stored.specs.Lines.{line-accepted-in};
 ghost use Rattle.moves.specs.NamesLongerThanSixteenBytes.{line-stands};
 ghost use Rattle.moves.specs.Laws.Digits.{zero-digit};
 ghost use Rattle.mover.specs.Checked.{CheckedSo};
 use crate::form::ZERO_DIGIT;
 use crate::form::digits_up_to;
 use crate::form::line_at;
-use crate::form::line_size;
 use crate::form::name_size;
 use rules::Refusal;
-use stored::spells;
+use stored::line_accepted;
+use stored::line_size;
 
 // So many lines, all of which may be moved; or why the first that may not is refused.
 pub enum Lines {
     Right(usize),
     Wrong(Refusal),
 }
-
-const NEWLINE: u8 = 10;
 
 // Digits of the zeros at a row's end.
 const END_DIGITS: usize = 8;
@@ -40,23 +37,7 @@ fn zeros(part: &[u8]) -> bool
     true
 }
 
-// A line of the form's length: its digits and a newline.
-fn line_accepted(line: &[u8], room: usize) -> bool
-    requires { ⌜ room ≤ name-room ⌝ }
-    ensures { λ r. ⌜ r ≡ line-accepted-in room (now (line .entry)) ⌝ }
-{
-    let size = line_size(room);
-    if line.len() != size {
-        return false;
-    }
-    let digits = size - 1;
-    if line[digits] != NEWLINE {
-        return false;
-    }
-    spells(&line[..digits])
-}
-
-// And a name that has room, zeros after it, and zeros at the row's end.
+// Digits and a newline, a name that has room, zeros after it, and zeros at the row's end.
 fn line_stands(line: &[u8], room: usize) -> bool
     requires { ⌜ room ≤ name-room ⌝ }
     ensures { λ r. ⌜ r ≡ line-stands room (now (line .entry)) ⌝ }

@@ -3,12 +3,8 @@ ghost use mathlib.Core.Path.{_≡_};
 ghost use Prim.Native.Nat.{_+_, _*_, _≤_, _<_};
 ghost use lib.ListN.{length, take, drop};
 ghost use Rattle.rules.specs.SettingsAndUnitTable.{name-room};
-ghost use Rattle.stored.specs.Lines.{line-size-in};
 ghost use Rattle.moves.specs.Laws.Digits.{told};
 use stored::digit_value;
-
-// Digits of kind, coefficient, power and zeros.
-const FIELD_DIGITS: usize = 30;
 
 pub const ZERO_DIGIT: u8 = 48;
 
@@ -18,13 +14,6 @@ pub fn digits_up_to(bytes: usize) -> usize
     ensures { λ r. ⌜ r ≡ 2 * (1 + bytes) ⌝ }
 {
     2 * (1 + bytes)
-}
-
-pub fn line_size(room: usize) -> usize
-    requires { ⌜ room ≤ name-room ⌝ }
-    ensures { λ r. ⌜ r ≡ line-size-in room ⌝ }
-{
-    digits_up_to(room) + FIELD_DIGITS + 1
 }
 
 // The name's length, as the first two digits tell it.

@@ -7,10 +7,10 @@ use answers::done;
 use answers::refusal;
 use checked::Lines;
 use checked::lines_check;
-use form::line_size;
 use lengths::duration::zero;
 use rules::Answer;
 use rules::Refusal;
+use stored::line_size;
 use written::put_lines;
 
 mod checked;

@@ -11,8 +11,8 @@ ghost use Rattle.moves.specs.Laws.Moves.{line-moves, moved-line, moved-pieces, 
 use crate::form::ZERO_DIGIT;
 use crate::form::digits_up_to;
 use crate::form::line_at;
-use crate::form::line_size;
 use crate::form::name_size;
+use stored::line_size;
 
 fn copy(part: &[u8], target: &mut [u8], at: usize)
     requires { ⌜ at + length (now part) ≤ length (now target) ⌝ }

@@ -16,6 +16,15 @@ pub const ROW_SIZE: usize = 48;
 
 pub const NAME_AT: usize = 1;
 
+// How many bytes the name's room has, and where its words behind the first stand.
+pub const NAME_ROOM: u8 = 32;
+
+pub const SECOND_WORD_AT: usize = 9;
+
+pub const THIRD_WORD_AT: usize = 17;
+
+pub const LAST_WORD_AT: usize = 25;
+
 pub const KIND_AT: usize = 33;
 
 const COEFFICIENT_AT: usize = 34;

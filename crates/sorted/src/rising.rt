@@ -6,7 +6,7 @@ ghost use lib.ListN.{length};
 ghost use Prim.Native.Nat.{ℕ, _≤_, _<_};
 ghost use Rattle.rules.specs.NumbersHandedBack.{got};
 ghost use Rattle.rules.specs.SettingsAsWords.{settings-of};
-ghost use Rattle.rules.specs.SettingsAndUnitTable.{settings-check, row-size, rows, row, name};
+ghost use Rattle.rules.specs.SettingsAndUnitTable.{settings-check, row-size, kind-at, rows, row, name};
 ghost use Rattle.rows.specs.Named.{padded};
 ghost use Rattle.card.specs.Laws.Accepted.{UnitsGood};
 ghost use Rattle.index.specs.TheSortedIndex.{before};
@@ -20,15 +20,13 @@ use rows::fields::KIND_AT;
 use rows::fields::NAME_AT;
 use rows::fields::ROW_SIZE;
 use rows::fields::row_at;
+use words::WORD;
 use words::word_at;
-
-// Bytes of a word.
-const WORD: usize = 8;
 
 // Up to where the rooms of two names are the same, word by word.
 fn alike_until(row: &[u8], other: &[u8]) -> usize
     requires { ⌜ (length (now row) ≡ row-size) × (length (now other) ≡ row-size) ⌝ }
-    ensures { λ r. ⌜ (1 ≤ r) × (r ≤ 33) × Alike (now (row .entry)) (now (other .entry)) r ⌝ }
+    ensures { λ r. ⌜ (1 ≤ r) × (r ≤ kind-at) × Alike (now (row .entry)) (now (other .entry)) r ⌝ }
 {
     let mut at = NAME_AT;
     while at < KIND_AT {

@@ -29,6 +29,8 @@ use settings::sets::either;
 use settings::sets::holds;
 use settings::sets::inner_delimiters;
 use settings::sets::outer_delimiters;
+use words::BYTE_BITS;
+use words::WORD_BITS;
 use words::with_byte;
 
 // What follows a unit's name: where the unit ends, and whether `ago` negates it.
@@ -62,11 +64,6 @@ pub struct Stretch {
 
 // `+`, `-` and the digits, as bits of a set's first word.
 const NEXT_BYTES: u64 = 287_992_881_640_112_128;
-
-// Bits of a word and of a byte.
-const WORD_BITS: u64 = 64;
-
-const BYTE_BITS: u64 = 8;
 
 // Letters of `ago`.
 const AGO: usize = 3;

@@ -5,16 +5,20 @@ ghost use mathlib.Core.List.{_++_};
 ghost use Prim.Native.Nat.{_<_, _≤_};
 ghost use lib.ListN.{length, take, drop};
 ghost use Rattle.rules.specs.Common.{all};
-ghost use Rattle.rules.specs.SettingsAndUnitTable.{row-size, hexadecimal, two-digits};
-ghost use Rattle.stored.specs.Lines.{digits-size, digit-value, spells, paired, stores, line-after, restores, row-after};
+ghost use Rattle.rules.specs.SettingsAndUnitTable.{name-room, row-size, hexadecimal, two-digits};
+ghost use Rattle.stored.specs.Lines.{line-size-in, line-accepted-in, digits-size, digit-value, spells, paired, stores, line-after, restores, row-after};
+use rows::fields::NAME_ROOM;
 use rows::fields::ROW_SIZE;
 
 // How many digits a line has, how many bytes, and its last.
 const DIGITS_SIZE: usize = 96;
 
-const LINE_SIZE: usize = 97;
+pub const LINE_SIZE: usize = 97;
 
 const NEWLINE: u8 = 10;
+
+// The bytes of a row beside the room for its name.
+const BESIDE_NAME: usize = 16;
 
 fn hexadecimal(d: u8) -> u8
     requires { ⌜ d < 16 ⌝ }
@@ -66,7 +70,7 @@ pub fn digit_value(b: u8) -> u8
     }
 }
 
-pub fn spells(part: &[u8]) -> bool
+fn spells(part: &[u8]) -> bool
     ensures { λ r. ⌜ r ≡ all spells (now (part .entry)) ⌝ }
 {
     let mut i = 0;
@@ -77,6 +81,30 @@ pub fn spells(part: &[u8]) -> bool
         i += 1;
     }
     true
+}
+
+// The bytes of a line, by the room that its rows have for a name.
+pub fn line_size(room: usize) -> usize
+    requires { ⌜ room ≤ name-room ⌝ }
+    ensures { λ r. ⌜ r ≡ line-size-in room ⌝ }
+{
+    2 * (room + BESIDE_NAME) + 1
+}
+
+// A line of the form's length: its digits and a newline.
+pub fn line_accepted(line: &[u8], room: usize) -> bool
+    requires { ⌜ room ≤ name-room ⌝ }
+    ensures { λ r. ⌜ r ≡ line-accepted-in room (now (line .entry)) ⌝ }
+{
+    let size = line_size(room);
+    if line.len() != size {
+        return false;
+    }
+    let digits = size - 1;
+    if line[digits] != NEWLINE {
+        return false;
+    }
+    spells(&line[..digits])
 }
 
 // A byte for each two digits of the line, from the row's start on.
@@ -99,16 +127,10 @@ pub fn restore_row(line: &[u8], row: &mut [u8]) -> bool
     ensures { λ r. ⌜ r ≡ restores (now (line .entry)) (now (row .entry)) ⌝ }
     ensures { λ r. ⌜ now (row .exit) ≡ row-after (now (line .entry)) (now (row .entry)) ⌝ }
 {
-    if line.len() != LINE_SIZE {
-        return false;
-    }
     if row.len() < ROW_SIZE {
         return false;
     }
-    if line[DIGITS_SIZE] != NEWLINE {
-        return false;
-    }
-    if !spells(&line[..DIGITS_SIZE]) {
+    if !line_accepted(line, NAME_ROOM as usize) {
         return false;
     }
     put_bytes(line, row);

@@ -20,12 +20,13 @@ unfoldable pub repeated : ℕ → ℕ → ℕ
 repeated b zero = 0
 repeated b (suc n) = b + 256 * repeated b n
 
--- the first byte is masked apart from the others
 above : (x y : ℕ) → x + 256 * y ≡ y * 2 ^ 8 + x
 above x y = omega arith
 
-and-first : (b m rest more : ℕ) → b < 256 → m < 256 → bitAnd (b + 256 * rest) (m + 256 * more) ≡ bitAnd b m + 256 * bitAnd rest more
-and-first b m rest more p q = ap₂ bitAnd (above b rest) (above m more) ∙ and-block 8 rest more b m p q ∙ sym (above (bitAnd b m) (bitAnd rest more))
+-- an operation that goes bit by bit takes the first byte apart from the others
+module _ (op : ℕ → ℕ → ℕ) (block : (rest more b m : ℕ) → b < 256 → m < 256 → op (rest * 2 ^ 8 + b) (more * 2 ^ 8 + m) ≡ op rest more * 2 ^ 8 + op b m) where
+  first-apart : (b m rest more : ℕ) → b < 256 → m < 256 → op (b + 256 * rest) (m + 256 * more) ≡ op b m + 256 * op rest more
+  first-apart b m rest more p q = ap₂ op (above b rest) (above m more) ∙ block rest more b m p q ∙ sym (above (op b m) (op rest more))
 
 -- a byte of which the high half is 3
 high-three : (b : ℕ) → b < 256 → bitAnd b 240 ≡ 48 → b / 16 ≡ 3
@@ -53,7 +54,7 @@ halves :
     → (bitAnd b 240 ≡ 48) × (bitAnd (low-first bytes) (repeated 240 (length bytes)) ≡ repeated 48 (length bytes))
 halves b bytes here high =
     let first : bitAnd b 240 + 256 * bitAnd (low-first bytes) (repeated 240 (length bytes)) ≡ 48 + 256 * repeated 48 (length bytes) =
-    sym (and-first b 240 (low-first bytes) (repeated 240 (length bytes)) here (lit< tt)) ∙ high in
+    sym (first-apart bitAnd (and-block 8) b 240 (low-first bytes) (repeated 240 (length bytes)) here (lit< tt)) ∙ high in
     (omega (arith, and-le-r b 240), omega (arith, and-le-r b 240))
 
 -- 6 more in each carries out of none
@@ -83,7 +84,7 @@ digits-only (b ∷ bytes) p high low =
     let (here, others) = halves b bytes (p 0) high in
     let sixes : b + 256 * number + (6 + 256 * repeated 6 n) ≡ b + 6 + 256 * (number + repeated 6 n) = omega arith in
     let second : bitAnd (b + 6) 64 + 256 * bitAnd (number + repeated 6 n) (repeated 64 n) ≡ 0 =
-    sym (and-first (b + 6) 64 (number + repeated 6 n) (repeated 64 n) (omega (arith, high-three b (p 0) here)) (lit< tt))
+    sym (first-apart bitAnd (and-block 8) (b + 6) 64 (number + repeated 6 n) (repeated 64 n) (omega (arith, high-three b (p 0) here)) (lit< tt))
     ∙ ap (λ x. bitAnd x (64 + 256 * repeated 64 n)) (sym sixes)
     ∙ low in
     and-both (digit b (p 0) here (omega arith)) (digits-only bytes (λ k. p (suc k)) others (omega arith))
@@ -133,18 +134,11 @@ one-mark b h =
     let table : List ℕ = listed (λ b. if is LETTER b then 128 else 0) 0 128 in
     sym (entry mark-of 128 table refl b h) ∙ entry (λ b. if is LETTER b then 128 else 0) 128 table refl b h
 
--- the first byte apart from the others, as for the mask
-or-first : (b m rest more : ℕ) → b < 256 → m < 256 → bitOr (b + 256 * rest) (m + 256 * more) ≡ bitOr b m + 256 * bitOr rest more
-or-first b m rest more p q = ap₂ bitOr (above b rest) (above m more) ∙ or-block 8 rest more b m p q ∙ sym (above (bitOr b m) (bitOr rest more))
-
-xor-first : (b m rest more : ℕ) → b < 256 → m < 256 → bitXor (b + 256 * rest) (m + 256 * more) ≡ bitXor b m + 256 * bitXor rest more
-xor-first b m rest more p q = ap₂ bitXor (above b rest) (above m more) ∙ xor-block 8 rest more b m p q ∙ sym (above (bitXor b m) (bitXor rest more))
-
 -- none is from 128 on: the first, and the others
 below-128 : (b : ℕ) (bytes : List ℕ) → b < 256 → bitAnd (b + 256 * low-first bytes) (128 + 256 * repeated 128 (length bytes)) ≡ 0 → (b < 128) × (bitAnd (low-first bytes) (repeated 128 (length bytes)) ≡ 0)
 below-128 b bytes here e =
     let both : bitAnd b 128 + 256 * bitAnd (low-first bytes) (repeated 128 (length bytes)) ≡ 0 =
-    sym (and-first b 128 (low-first bytes) (repeated 128 (length bytes)) here (lit< tt)) ∙ e in
+    sym (first-apart bitAnd (and-block 8) b 128 (low-first bytes) (repeated 128 (length bytes)) here (lit< tt)) ∙ e in
     let bit : b / 128 % 2 * 128 ≡ 0 = sym (and-high b 1 7) ∙ (omega arith) in
     let half : b / 128 < 2 = omega arith in
     (omega (arith, mod-eq-of-lt half), omega arith)
@@ -154,7 +148,7 @@ abbrev small : List ℕ → ℕ
 small bytes = bitOr (low-first bytes) (repeated 32 (length bytes))
 
 small-first : (b : ℕ) (bytes : List ℕ) (add : ℕ) → b < 128 → bitOr (b + 256 * low-first bytes) (32 + 256 * repeated 32 (length bytes)) + (add + 256 * repeated add (length bytes)) ≡ bitOr b 32 + add + 256 * (small bytes + repeated add (length bytes))
-small-first b bytes add h = rw (or-first b 32 (low-first bytes) (repeated 32 (length bytes)) (omega arith) (lit< tt)) (omega arith)
+small-first b bytes add h = rw (first-apart bitOr (or-block 8) b 32 (low-first bytes) (repeated 32 (length bytes)) (omega arith) (lit< tt)) (omega arith)
 
 -- what is added carries out of none
 pub small-fits : (add : ℕ) → add < 128 → (bytes : List ℕ) → Bytes bytes → bitAnd (low-first bytes) (repeated 128 (length bytes)) ≡ 0 → small bytes + repeated add (length bytes) < 256 ^ length bytes
@@ -176,8 +170,8 @@ marks-are (b ∷ bytes) p e =
     let few : bitOr b 32 < 128 = or-lt 7 b 32 here (lit< tt) in
     let rest : ℕ = bitXor (small bytes + repeated 31 n) (small bytes + repeated 5 n) in
     ap₂ (λ x y. bitAnd (bitXor x y) (128 + 256 * repeated 128 n)) (small-first b bytes 31 here) (small-first b bytes 5 here)
-    ∙ ap (λ x. bitAnd x (128 + 256 * repeated 128 n)) (xor-first (bitOr b 32 + 31) (bitOr b 32 + 5) (small bytes + repeated 31 n) (small bytes + repeated 5 n) (omega arith) (omega arith))
-    ∙ and-first (bitXor (bitOr b 32 + 31) (bitOr b 32 + 5)) 128 rest (repeated 128 n) (xor-lt 8 (bitOr b 32 + 31) (bitOr b 32 + 5) (omega arith) (omega arith)) (lit< tt)
+    ∙ ap (λ x. bitAnd x (128 + 256 * repeated 128 n)) (first-apart bitXor (xor-block 8) (bitOr b 32 + 31) (bitOr b 32 + 5) (small bytes + repeated 31 n) (small bytes + repeated 5 n) (omega arith) (omega arith))
+    ∙ first-apart bitAnd (and-block 8) (bitXor (bitOr b 32 + 31) (bitOr b 32 + 5)) 128 rest (repeated 128 n) (xor-lt 8 (bitOr b 32 + 31) (bitOr b 32 + 5) (omega arith) (omega arith)) (lit< tt)
     ∙ ap₂ (λ x y. x + 256 * y) (one-mark b here) (marks-are bytes (λ k. p (suc k)) others)
 
 -- where the marks are those of the first n, these are letters

@@ -7,6 +7,13 @@ ghost use Rattle.rules.specs.Common.{all, between};
 ghost use Rattle.rules.specs.SettingsAndUnitTable.{LETTER, is, low-first};
 ghost use Rattle.words.specs.Bytewise.{repeated};
 
+// Bytes of a word, its bits, and those of a byte.
+pub const WORD: usize = 8;
+
+pub const WORD_BITS: u64 = 64;
+
+pub const BYTE_BITS: u64 = 8;
+
 // Eight bytes each: the bits of the high half, `0`, what takes the byte after `9` and no digit to 64, and 64.
 const HIGH_HALVES: u64 = 17_361_641_481_138_401_520;
 

@@ -8,7 +8,7 @@ use lib.ListN.{getD, take, drop}
 use borrow.Author.Tests.{eq-eqb, ne-eqb}
 use borrow.Author.Needs.{needs}
 use Rattle.rules.specs.Common.{all}
-use Rattle.rules.specs.SettingsAndUnitTable.{name-size}
+use Rattle.rules.specs.SettingsAndUnitTable.{kind-at, name-size}
 use Rattle.rules.specs.Laws.Tests.{between-in, between-below, between-above}
 use Rattle.rows.specs.Named.{padded}
 use Rattle.rows.specs.Laws.Rooms.{word-of, zeros-behind, zeros-none}
@@ -33,7 +33,7 @@ behind :
     → let row = c .before .before .before .before .before .before .args .row .now in
     let size = getD row 0 0 in
     let last = 1 + (size - size % 8) in
-    padded row ≡ (eqb (c .word-at .result / 2 ^ (8 * (size % 8))) 0 && all (eqb 0) (take (33 - (last + 8)) (drop (last + 8) row)))
+    padded row ≡ (eqb (c .word-at .result / 2 ^ (8 * (size % 8))) 0 && all (eqb 0) (take (kind-at - (last + 8)) (drop (last + 8) row)))
 unfolding padded name-size word-of
 behind c =
     let start = c .before .before .before .before .before .before in

@@ -5,16 +5,17 @@ use native.Mathlib.Omega.{arith}
 use lib.Dec.{eqb}
 use lib.ListN.{take, drop}
 use borrow.Author.Tests.{eq-eqb, ne-eqb}
+use Rattle.rules.specs.SettingsAndUnitTable.{kind-at}
 use Rattle.rules.specs.Common.{all}
 use Rattle.rows.specs.Laws.Rooms.{word-of, zeros-on, zeros-ended}
 use Rattle.card.proofs.row.zero_words.Statement.{statement}
 use Rattle.card.proofs.row.zero_words.Tie as tie
 
 abbrev Inv-loop : tie.InvT-loop
-Inv-loop row from at₀ at = (at % 8 ≡ 1) × (all (eqb 0) (take (33 - at) (drop at row)) ≡ all (eqb 0) (take (33 - from) (drop from row)))
+Inv-loop row from at₀ at = (at % 8 ≡ 1) × (all (eqb 0) (take (kind-at - at) (drop at row)) ≡ all (eqb 0) (take (kind-at - from) (drop from row)))
 
 abbrev μ-loop : tie.MeasureT-loop
-μ-loop row from at₀ at = 33 - at
+μ-loop row from at₀ at = kind-at - at
 
 returns : tie.Need-returns Inv-loop μ-loop
 unfolding word-of

@@ -2,15 +2,16 @@
 use mathlib.Core.Path.{_≡_, refl, sym, _∙_}
 use Prim.Native.Nat.{_≤_, _-_, _%_}
 use native.Mathlib.Omega.{arith}
+use Rattle.rules.specs.SettingsAndUnitTable.{kind-at}
 use Rattle.sorted.specs.Rooms.{Alike, alike-none, alike-word}
 use Rattle.sorted.proofs.rising.alike_until.Statement.{statement}
 use Rattle.sorted.proofs.rising.alike_until.Tie as tie
 
 abbrev Inv-loop : tie.InvT-loop
-Inv-loop row other at₀ at = (at % 8 ≡ 1) × (at ≤ 33) × Alike row other at
+Inv-loop row other at₀ at = (at % 8 ≡ 1) × (at ≤ kind-at) × Alike row other at
 
 abbrev μ-loop : tie.MeasureT-loop
-μ-loop row other at₀ at = 33 - at
+μ-loop row other at₀ at = kind-at - at
 
 loop-again : tie.Need-loop-again Inv-loop μ-loop
 loop-again c =

@@ -2,16 +2,16 @@
 use Prim.Native.Nat.{_≤_, _-_}
 use native.Mathlib.Omega.{arith}
 use borrow.Author.Tests.{ltb-true}
-use Rattle.rules.specs.SettingsAndUnitTable.{name-size}
+use Rattle.rules.specs.SettingsAndUnitTable.{kind-at, name-size}
 use Rattle.sorted.specs.Rooms.{Alike, alike-next, byte-decides, size-decides}
 use Rattle.sorted.proofs.rising.comes_before.Statement.{statement}
 use Rattle.sorted.proofs.rising.comes_before.Tie as tie
 
 abbrev Inv-loop : tie.InvT-loop
-Inv-loop row other at₀ at = (1 ≤ at) × (at ≤ 33) × Alike row other at
+Inv-loop row other at₀ at = (1 ≤ at) × (at ≤ kind-at) × Alike row other at
 
 abbrev μ-loop : tie.MeasureT-loop
-μ-loop row other at₀ at = 33 - at
+μ-loop row other at₀ at = kind-at - at
 
 returns : tie.Need-returns Inv-loop μ-loop
 returns c =

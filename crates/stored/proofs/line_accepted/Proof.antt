@@ -1,4 +1,4 @@
--- `mover::checked::line_accepted` meets its contract: its length, its newline, and its digits. Assumes nothing.
+-- `stored::line_accepted` meets its contract: its length, its newline, and its digits. Assumes nothing.
 use borrow.Author.Needs.{needs}
 use mathlib.Core.Bool.{true, false}
 use mathlib.Core.Path.{_≡_, sym, _∙_}
@@ -8,9 +8,9 @@ use lib.Dec.{eqb}
 use lib.ListN.{length, getD, length-take}
 use borrow.Author.Tests.{eq-eqb, ne-eqb}
 use Rattle.rules.specs.Laws.Tests.{and-false}
 use Rattle.stored.specs.Lines.{digits-size-in, line-size-in, line-accepted-in}
-use Rattle.mover.proofs.checked.line_accepted.Statement.{statement}
-use Rattle.mover.proofs.checked.line_accepted.Tie as tie
+use Rattle.stored.proofs.line_accepted.Statement.{statement}
+use Rattle.stored.proofs.line_accepted.Tie as tie
 
 line-size-requires : tie.Need-line-size-requires
 line-size-requires c κs = search needs
