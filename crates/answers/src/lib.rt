@@ -1,4 +1,6 @@
 // What is handed back: the number and the position of each refusal, in one place; and a length as it is found, before it is handed back.
+#![tactic(auto)]
+
 ghost use Rattle.std.specs.Prelude.{◌≡◌};
 ghost use Rattle.rules.specs.NumbersHandedBack.{number, position, refusal, done};
 
@@ -6,7 +8,7 @@ use lengths::duration::zero;
 use rules::{Answer, Length, Refusal};
 
 // What the parts of a text come to, or why they are refused.
-#[derive(Drop)]
+#[derive(Clone, Copy)]
 pub enum TotalRead {
     Got(Length),
     Refused(Refusal),
@@ -29,7 +31,7 @@ const FIRST_LINE_ROW: usize = 128;
 const FIRST_NUMERAL: usize = 68;
 
 // A number that is handed back, and its position.
-#[derive(Drop)]
+#[derive(Clone, Copy)]
 struct Numbered(u8, usize);
 
 // A forbidden negative holds a place too, and is handed back with 0.

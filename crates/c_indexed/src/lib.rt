@@ -1,4 +1,6 @@
 // The entries for C that read a text through an index beside each unit table. C passes an index as it passes a table.
+#![tactic(auto)]
+
 ghost use Rattle.std.specs.Prelude.{◌≡◌};
 ghost use Rattle.index.specs.TheSortedIndex.{indexed_of, indexed_part_answer, indexed_total_answer, indexed_shift_answer};
 ghost use Rattle.c_words.specs.Words.{length_of, answer_words, indexed_shifted_words};

@@ -1,4 +1,6 @@
 // The two entries for ISO timings.
+#![tactic(auto)]
+
 ghost use Rattle.std.specs.Prelude.{◌≡◌};
 ghost use Rattle.iso.specs.IsoTimings.{iso_answer, iso_write_answer, iso_written_buffer};
 ghost use Rattle.c_words.specs.Words.{length_of, answer_words};

@@ -1,4 +1,6 @@
 // The entries for C that move stored lines between the two forms of a row.
+#![tactic(auto)]
+
 ghost use Rattle.std.specs.Prelude.{◌≡◌};
 ghost use Rattle.moves.specs.NamesLongerThanSixteenBytes.{to_new_answer, new_target, to_old_answer, old_target};
 ghost use Rattle.c_words.specs.Words.{answer_words};

@@ -1,5 +1,7 @@
 // The entries for C over unit tables and their indexes: an index made, checked, and changed with a row; and the lookups, whose four numbers C gets back where other
 // entries hand back a position and a length.
+#![tactic(auto)]
+
 ghost use Rattle.std.specs.Prelude.{◌≡◌, []};
 ghost use Rattle.rules.specs.SettingsAsWords.{settings_of};
 ghost use Rattle.index.specs.TheSortedIndex.{indexed_of, make_answer, made_index, check_answer, replace_answer, replaced_table, replaced_index, units_of, lookup_answer, indexed_lookup_answer};

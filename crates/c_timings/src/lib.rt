@@ -1,4 +1,6 @@
 // The four entries of document 01. C passes a slice as pointer and length, and an array by its pointer.
+#![tactic(auto)]
+
 ghost use Rattle.std.specs.Prelude.{◌≡◌};
 ghost use Rattle.rules.specs.SettingsAsWords.{card_of};
 ghost use Rattle.rules.specs.WhatEveryEntryOwes.{part_answer, total_answer, write_answer, written_buffer, shift_answer};

@@ -1,4 +1,6 @@
 // Lengths, answers and what a lookup found as the 64-bit words that C passes and gets back. Settings are lent as words throughout (settings::fields).
+#![tactic(auto)]
+
 ghost use Rattle.std.specs.Prelude.{◌≡◌};
 ghost use Rattle.rules.specs.SettingsAsWords.{held_to};
 ghost use Rattle.c_words.specs.Words.{most_of_a_half, length_of, length_words, answer_words, found_words};

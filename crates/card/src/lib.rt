@@ -1,3 +1,5 @@
 // The card: settings and unit table, checked.
+#![tactic(auto)]
+
 pub mod row;
 pub mod table;

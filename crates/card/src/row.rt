@@ -19,7 +19,7 @@ const LAST_KIND: u8 = 7;
 const SECONDS: u8 = 3;
 
 // What is asked of a row after its form. It stands last, so that it is asked once a row: within the form it would be asked once a byte of each name.
-#[derive(Drop)]
+#[derive(Clone, Copy)]
 pub enum Further {
     Nothing,
     NotLedByE,
@@ -28,7 +28,7 @@ pub enum Further {
 
 // What is asked of the rows of a table: no byte of a name is in the set, and what is asked further. It depends on the settings
 // alone, and is made once for a table.
-#[derive(Drop)]
+#[derive(Clone, Copy)]
 pub struct RowRule {
     pub set: AsciiSet,
     pub further: Further,

@@ -174,7 +174,7 @@ fn first_bad(rule: RowRule, against: bool, table: &[u8]) -> usize
 }
 
 // What the check of a table finds: nothing wrong, a size that is no number of rows or too many of them, or the first bad row.
-#[derive(Drop)]
+#[derive(Clone, Copy)]
 pub enum RowsFound {
     Good,
     WrongSize,

@@ -1,4 +1,6 @@
 // Card A of document 01: its settings, and its unit table as bytes.
+#![tactic(auto)]
+
 ghost use Rattle.std.specs.Prelude.{◌≡◌};
 ghost use Rattle.rules.specs.CardAAndItsReadings.{settings_A, table_A};
 

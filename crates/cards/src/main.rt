@@ -1,6 +1,8 @@
 // Checks stored cards again and prints number and position of each, and how many there are.
 // The first line says how often each card is checked, once for a test and often to count instructions: eight hexadecimal digits,
 // the lowest byte first. The cards follow.
+#![tactic(auto)]
+
 use answers::refusal;
 use card::table::card_check;
 use libc::STDOUT_FILENO;

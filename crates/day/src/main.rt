@@ -2,6 +2,8 @@
 // writes it. The first line says how often a total is written, once for a test and often to count instructions: eight hexadecimal
 // digits, the lowest byte first. The card follows, and then the texts, each a line of hexadecimal digits (run and size) and the line of
 // its bytes.
+#![tactic(auto)]
+
 use entries::{shifted_total, write_length};
 use lengths::duration::zero;
 use libc::STDOUT_FILENO;
@@ -22,7 +24,7 @@ const ONE: usize = 32;
 const MOST_TEXTS: u64 = 1_000_000;
 
 // Whether there was a text, and the total then.
-#[derive(Drop)]
+#[derive(Clone, Copy)]
 struct Added {
     more: bool,
     total: Length,

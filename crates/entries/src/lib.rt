@@ -1,5 +1,7 @@
 // The entries: all that a user calls, and nothing else. Each promises its answer for all arguments, with what every lent byte or record
 // then holds, and asks nothing. They check the card and hand on to the crates that do the work, which are inner.
+#![tactic(auto)]
+
 ghost use Rattle.std.specs.Prelude.{◌≡◌};
 ghost use Rattle.rules.specs.SettingsAsWords.{card_of};
 ghost use Rattle.rules.specs.WhatEveryEntryOwes.{part_answer, total_answer, write_answer, written_buffer, shift_answer, shifted_record};

@@ -2,6 +2,8 @@
 // A case is a line of LINE bytes: the digits WHOLE.FRACT, a space, hexadecimal digits (exponent, sign, multiplier, length), and
 // spaces. A sign is a byte, an exponent and a coefficient have theirs in front, and a multiplier's power is two numbers, up and
 // down.
+#![tactic(auto)]
+
 use libc::STDOUT_FILENO;
 use lists::fields::{flag_at, further, length_at, same_length, short_at, word_at};
 use lists::lines::read_line;
@@ -24,7 +26,7 @@ const LENGTH_AT: usize = 35;
 const MOST_CASES: u64 = 1_000_000;
 
 // What stands in a line behind the digits of the number.
-#[derive(Drop)]
+#[derive(Clone, Copy)]
 struct Rest {
     exponent: Exponent,
     negative: bool,
@@ -32,14 +34,14 @@ struct Rest {
     length: Length,
 }
 
-#[derive(Drop)]
+#[derive(Clone, Copy)]
 enum Turn {
     End,
     Agrees,
     Differs,
 }
 
-#[derive(Drop)]
+#[derive(Clone, Copy)]
 struct Counts {
     cases: u64,
     differ: u64,

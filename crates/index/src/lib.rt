@@ -1,8 +1,10 @@
 // A sorted index beside a unit table: the types of what its functions hand back, and in specs/ the definitions and the laws.
+#![tactic(auto)]
+
 use rules::Found;
 
 // How a name stands to another: byte by byte, a prefix first.
-#[derive(Drop)]
+#[derive(Clone, Copy)]
 pub enum Order {
     Before,
     Same,
@@ -10,7 +12,7 @@ pub enum Order {
 }
 
 // What a search of one table comes to: the row, and how many names were compared.
-#[derive(Drop)]
+#[derive(Clone, Copy)]
 pub struct Searched {
     pub found: Found,
     pub compared: usize,
@@ -18,7 +20,7 @@ pub struct Searched {
 
 // What a lookup in both tables hands back: a number and a position; the table that holds the name, 1 for the hall's, 2 for the line's and 0
 // for neither; its row; and how many names were compared. A refusal has zeros for these three.
-#[derive(Drop)]
+#[derive(Clone, Copy)]
 pub struct LookedUp {
     pub number: u8,
     pub position: usize,

@@ -1,5 +1,7 @@
 // The readers and the shift total with an index beside each unit table. Each promises its answer for all arguments and asks nothing. They check the
 // card with its indexes and hand on to the crates that do the work, which are inner.
+#![tactic(auto)]
+
 ghost use Rattle.std.specs.Prelude.{◌≡◌};
 ghost use Rattle.index.specs.TheSortedIndex.{indexed_of, indexed_part_answer, indexed_total_answer, indexed_shift_answer, indexed_shifted_record};
 

@@ -3,6 +3,8 @@
 // indexes, and with the line's left out; and each row of the hall's table is replaced by one of the line's. Of each card it prints how many
 // rows the tables have and a check sum of what was handed back at each step, and both answers of the text; at the end how many cards there
 // were.
+#![tactic(auto)]
+
 mod indexes;
 mod lookups;
 mod replaced;

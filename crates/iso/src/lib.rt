@@ -1,1 +1,5 @@
 // ISO timings: only definitions and laws, which stand in specs/.
+
+#![tactic(auto)]
+
+#![tactic(auto)]

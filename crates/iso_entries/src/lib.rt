@@ -1,4 +1,6 @@
 // The entries for ISO timings, which take no card. Each promises its answer for all arguments, with what every lent byte then holds, and asks nothing.
+#![tactic(auto)]
+
 ghost use Rattle.std.specs.Prelude.{◌≡◌};
 ghost use Rattle.iso.specs.IsoTimings.{iso_answer, iso_write_answer, iso_written_buffer};
 

@@ -1,5 +1,7 @@
 // ISO timings: reads the stored texts and prints number, position and length of each, and how often each number came; then writes lengths,
 // reads each again, prints it, and tries the edges of a buffer; then repeats one text, if there is one behind the list.
+#![tactic(auto)]
+
 mod lengths;
 mod reads;
 mod rounds;

@@ -21,14 +21,14 @@ pub const WEEKS: u8 = 7;
 pub const ANY: u8 = 8;
 
 // A number as it was typed: digits from start to point. If end lies beyond point, a mark stands there, and digits up to end.
-#[derive(Drop)]
+#[derive(Clone, Copy)]
 pub struct Typed {
     pub start: usize,
     pub point: usize,
     pub end: usize,
 }
 
-#[derive(Drop)]
+#[derive(Clone, Copy)]
 pub enum NumberRead {
     Got(Typed),
     Refused(usize),
@@ -36,13 +36,13 @@ pub enum NumberRead {
 
 // A number, and the kind of the unit whose letter stands at its end. The kind comes first: it is one byte, as is what a refusal begins with,
 // so that no place shares a word with it where the two meet.
-#[derive(Drop)]
+#[derive(Clone, Copy)]
 pub struct Counted {
     pub kind: u8,
     pub typed: Typed,
 }
 
-#[derive(Drop)]
+#[derive(Clone, Copy)]
 pub enum ComponentRead {
     Got(Counted),
     Refused(Refusal),

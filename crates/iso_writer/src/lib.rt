@@ -1,2 +1,4 @@
 // The writer of ISO timings: one length at a place of a lent buffer.
+#![tactic(auto)]
+
 pub mod writer;

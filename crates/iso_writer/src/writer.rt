@@ -23,7 +23,7 @@ const MINUTES: u8 = 77;
 const SECONDS: u8 = 83;
 
 // A component: whether it is written, the digits of its number, those of its decimals, and the letter of its unit.
-#[derive(Drop)]
+#[derive(Clone, Copy)]
 pub struct Part {
     pub shown: bool,
     pub whole: Decimal,
@@ -32,7 +32,7 @@ pub struct Part {
 }
 
 // A length in components. Their digits are counted once, for the room that they take and to be put.
-#[derive(Drop)]
+#[derive(Clone, Copy)]
 pub struct Form {
     pub hours: Part,
     pub minutes: Part,

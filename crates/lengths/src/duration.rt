@@ -15,7 +15,7 @@ const NANOS_PER_SEC: u32 = 1_000_000_000;
 const ATTOS_PER_NANO: u64 = 1_000_000_000;
 
 // Seconds and nanoseconds without a sign.
-#[derive(Drop)]
+#[derive(Clone, Copy)]
 struct Size {
     seconds: u64,
     nanoseconds: u32,

@@ -5,13 +5,13 @@ ghost use Rattle.lengths.specs.Columns.{pieces, column};
 ghost use Rattle.lengths.specs.Wide.{Divides, InPieces, Carries};
 
 // The number high * 2^64 + low.
-#[derive(Drop)]
+#[derive(Clone, Copy)]
 pub struct Wide {
     pub high: u64,
     pub low: u64,
 }
 
-#[derive(Drop)]
+#[derive(Clone, Copy)]
 pub struct Divided {
     pub quotient: Wide,
     pub remainder: u64,
@@ -28,7 +28,7 @@ const PIECES: usize = 4;
 const PIECE: u32 = 65_536;
 
 // Columns that make a word, and what is left to carry into the next one.
-#[derive(Drop)]
+#[derive(Clone, Copy)]
 struct Carried {
     word: u64,
     carry: u64,

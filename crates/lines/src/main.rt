@@ -1,5 +1,7 @@
 // The line program: texts from standard input, one a line, and for each a line with number, position, sign, seconds and nanoseconds
 // of its total under card A, without a table of the line's and without numerals. What a line is and what is printed for it is proved in `sheets`; here bytes are moved.
+#![tactic(auto)]
+
 ghost use Rattle.std.specs.Prelude.{◌≡◌, []};
 ghost use Rattle.rules.specs.NumbersHandedBack.{got};
 ghost use Rattle.rules.specs.SettingsAsWords.{card_of};
@@ -20,14 +22,14 @@ use sheets::keeping::keep;
 const MOST_TURNS: u64 = 18_446_744_073_709_551_615;
 
 // How many bytes have been answered, or that standard output is closed.
-#[derive(Drop)]
+#[derive(Clone, Copy)]
 enum Answered {
     Bytes(usize),
     Closed,
 }
 
 // How many bytes are kept of a line that has not ended, or that standard input has ended, or that standard output is closed.
-#[derive(Drop)]
+#[derive(Clone, Copy)]
 enum Turn {
     Kept(usize),
     Ended,

@@ -33,7 +33,7 @@ const HEAD: usize = 231;
 pub const MOST_BYTES: usize = 12_288;
 
 // Settings, and how many bytes each table has.
-#[derive(Drop)]
+#[derive(Clone, Copy)]
 pub struct Card {
     pub settings: Settings,
     pub hall_size: usize,
@@ -41,7 +41,7 @@ pub struct Card {
     pub numerals_size: usize,
 }
 
-#[derive(Drop)]
+#[derive(Clone, Copy)]
 pub enum Next {
     End,
     Card(Card),

@@ -14,7 +14,7 @@ pub const ROOM: usize = 16_384;
 const RUN: usize = 8;
 
 // What a list has next: a text of so many bytes, or nothing where it ends or there is no room.
-#[derive(Drop)]
+#[derive(Clone, Copy)]
 pub enum Text {
     End,
     Bytes(usize),

@@ -1,4 +1,6 @@
 // Stored lines moved between the two forms of a row: all of them, or none. Each entry promises its answer for all arguments and asks nothing.
+#![tactic(auto)]
+
 ghost use Rattle.std.specs.Prelude.{◌≡◌};
 ghost use Rattle.moves.specs.NamesLongerThanSixteenBytes.{to_new_answer, new_target, to_old_answer, old_target};
 

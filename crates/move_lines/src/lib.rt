@@ -1,5 +1,7 @@
 // Stored lines from standard input to standard output, moved from one form of a row to the other: all of them, or nothing but one line with the
 // refusal's number and line. How lines are moved is proved in `mover`; here bytes are read and written.
+#![tactic(auto)]
+
 use libc::{STDIN_FILENO, STDOUT_FILENO};
 use lists::lines::first_bytes;
 use move_entries::{move_to_new, move_to_old};

@@ -1,4 +1,6 @@
 // Stored lines of the old form, moved to the new one.
+#![tactic(auto)]
+
 use move_lines::{NEW_LINES, OLD_LINES, PAST_OLD_LINES, move_input};
 
 fn main() {

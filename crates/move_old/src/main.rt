@@ -1,4 +1,6 @@
 // Stored lines of the new form, moved to the old one.
+#![tactic(auto)]
+
 use move_lines::{NEW_LINES, OLD_LINES, PAST_NEW_LINES, move_input};
 
 fn main() {

@@ -1,1 +1,5 @@
 // What moving stored lines between the two forms of a row keeps: only theorems, which stand in specs/.
+
+#![tactic(auto)]
+
+#![tactic(auto)]

@@ -11,7 +11,7 @@ use rules::Refusal;
 use stored::{line_accepted, line_size};
 
 // So many lines, all of which may be moved; or why the first that may not is refused.
-#[derive(Drop)]
+#[derive(Clone, Copy)]
 pub enum Lines {
     Right(usize),
     Wrong(Refusal),

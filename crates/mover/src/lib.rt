@@ -1,4 +1,6 @@
 // Stored lines moved from one form of a row to another, each told by the room that it has for a name: all of them, or none.
+#![tactic(auto)]
+
 ghost use Rattle.std.specs.Prelude.{◌≡◌, ◌≤◌};
 ghost use Rattle.rules.specs.SettingsAndUnitTable.{name_room};
 ghost use Rattle.moves.specs.NamesLongerThanSixteenBytes.{move_answer, moved_target};

@@ -3,6 +3,8 @@
 // are too short, with a byte behind their last line, and with that line spoiled; and of the longest list each line is spoiled in each way. Of each
 // list it prints how many lines it has and a check sum of what was handed back at each step, then such sums for each way, and at the end how many
 // lists there were.
+#![tactic(auto)]
+
 mod forms;
 mod spoiled;
 mod whole;

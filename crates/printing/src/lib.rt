@@ -1,4 +1,6 @@
 // An answer printed as a line: number, position, sign, seconds, nanoseconds.
+#![tactic(auto)]
+
 ghost use Rattle.std.specs.Prelude.{◌≡◌, ◌+◌, ◌≤◌, length};
 ghost use Rattle.writing.specs.Laid.{laid};
 ghost use Rattle.printing.specs.Printed.{printed_next, printed_buffer};

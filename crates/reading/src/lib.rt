@@ -1,4 +1,6 @@
 // One part from a place, a text's total, and the shift total, under a card that has been checked.
+#![tactic(auto)]
+
 pub mod checked;
 pub mod part;
 pub mod shift;

@@ -17,7 +17,7 @@ use steps::Next;
 use steps::connection::try_consume_connection;
 use value::evaluation::evaluate;
 
-#[derive(Drop)]
+#[derive(Clone, Copy)]
 pub enum ReadingRead {
     Got(Reading),
     Refused(Refusal),

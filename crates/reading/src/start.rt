@@ -12,14 +12,14 @@ use steps::sign::{SignRead, parse_number_sign};
 use tables::{DIGIT, OTHER, SIGN, class_of};
 
 // The typed sign, and the class of the byte at the next place.
-#[derive(Drop)]
+#[derive(Clone, Copy)]
 pub struct Start {
     pub negative: bool,
     pub class: u8,
     pub next: usize,
 }
 
-#[derive(Drop)]
+#[derive(Clone, Copy)]
 pub enum StartRead {
     Got(Start),
     Refused(Refusal),

@@ -27,7 +27,7 @@ use tables::{DIGIT, LETTER, POINT, kind_multiplier};
 
 // What a part counts, before its unit: digits, with their sum and exponent; or a numeral, by its row, which counts 1 and has no digits. And
 // where the unit's name begins. The numeral stands last, and as a number alone: otherwise it takes registers from the loop over the digits.
-#[derive(Drop)]
+#[derive(Clone, Copy)]
 pub struct Counted {
     pub whole: Whole,
     pub fract: Fract,
@@ -37,14 +37,14 @@ pub struct Counted {
     pub numeral: Found,
 }
 
-#[derive(Drop)]
+#[derive(Clone, Copy)]
 pub enum CountRead {
     Got(Counted),
     Refused(Refusal),
 }
 
 // A part as it is evaluated: what was typed, with the sum of its digits; or 1 times the product of a spoken number, which may be out of range.
-#[derive(Drop)]
+#[derive(Clone, Copy)]
 pub struct SummedPart {
     pub repr: DurationRepr,
     pub number: u64,
@@ -52,7 +52,7 @@ pub struct SummedPart {
     pub next: usize,
 }
 
-#[derive(Drop)]
+#[derive(Clone, Copy)]
 pub enum PartRead {
     Got(SummedPart),
     Refused(Refusal),

@@ -3,6 +3,8 @@
 // bytes, the lowest first, and one of a byte, as hexadecimal digits. The card follows, and then the texts, each a line of hexadecimal
 // digits (run and size) and the line of its bytes. Of a card that is refused once for all number and position are printed, and no text
 // is read.
+#![tactic(auto)]
+
 ghost use Rattle.std.specs.Prelude.{◌≡◌};
 ghost use Rattle.rules.specs.NumbersHandedBack.{got};
 ghost use Rattle.rules.specs.SettingsAsWords.{card_of};
@@ -30,7 +32,7 @@ const IN_EACH_CALL_AT: usize = 8;
 // More texts than any list has, since a proved loop has to end.
 const MOST_TEXTS: u64 = 1_000_000;
 
-#[derive(Drop)]
+#[derive(Clone, Copy)]
 struct Often {
     rounds: u32,
     in_each_call: bool,

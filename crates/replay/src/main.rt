@@ -2,6 +2,8 @@
 // stored answer, and how many answers there were of each number.
 // A card of the list is followed by a line that says how many requests are made under it, and by these. A request is a line of
 // hexadecimal digits (entry, place, run and size of the text, number, position, length) and the line of its text.
+#![tactic(auto)]
+
 use entries::{read_part, read_total};
 use libc::STDOUT_FILENO;
 use lists::cards::{MOST_BYTES, Next, next_card};

@@ -1,6 +1,8 @@
 // Writes lists of lengths one after another and reads each line part by part and in total, under every card of its list of cards. Of each
 // list it prints how many lengths and bytes it has and its total; at the end how many lengths were written and read, how many differ, and
 // which numbers the writer gave at the edges of a buffer. The lengths are made by a fixed rule, so that they need not be stored.
+#![tactic(auto)]
+
 use entries::{read_part, read_total, write_length};
 use lengths::duration::zero;
 use libc::STDOUT_FILENO;
@@ -25,14 +27,14 @@ const LISTS: u64 = 200;
 const MOST: u64 = 1_000_000;
 
 // What was written of a list: how many lengths, and how many bytes they take.
-#[derive(Drop)]
+#[derive(Clone, Copy)]
 struct Line {
     lengths: u64,
     size: usize,
 }
 
 // Lengths that were written and read, and how often something was not what it should be.
-#[derive(Drop)]
+#[derive(Clone, Copy)]
 struct Tally {
     cards: u64,
     lengths: u64,

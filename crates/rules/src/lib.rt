@@ -1,10 +1,12 @@
 // The types that every layer shares. What their values mean is said in specs/, a file for each heading of document 01.
 
+#![tactic(auto)]
+
 // Bytes of the longest text that is read.
 pub const LONGEST_TEXT: usize = 4_096;
 
 // A length of time. Zero always has a plus sign.
-#[derive(Drop)]
+#[derive(Clone, Copy)]
 pub struct Length {
     pub negative: bool,
     pub seconds: u64,
@@ -12,7 +14,7 @@ pub struct Length {
 }
 
 // What an entry hands back: a number of document 01's table, a position, and a length, which is zero on a refusal.
-#[derive(Drop)]
+#[derive(Clone, Copy)]
 pub struct Answer {
     pub number: u8,
     pub position: usize,
@@ -20,7 +22,7 @@ pub struct Answer {
 }
 
 // What the shift total by value hands back: the answer, and the total then.
-#[derive(Drop)]
+#[derive(Clone, Copy)]
 pub struct ShiftedTotal {
     pub answer: Answer,
     pub total: Length,
@@ -28,7 +30,7 @@ pub struct ShiftedTotal {
 
 // A set of bytes: byte b is in it if bit b % 64 of word b / 64 is 1. It can hold any of the 256 bytes, so that a wrong
 // delimiter is refused and not unthinkable. Words, and no array, since an array in a struct is copied at each call.
-#[derive(Drop)]
+#[derive(Clone, Copy)]
 pub struct ByteSet {
     pub word0: u64,
     pub word1: u64,
@@ -37,7 +39,7 @@ pub struct ByteSet {
 }
 
 // A conjunction: how many letters it has, and the letters, the first in the low byte. Both can be wrong.
-#[derive(Drop)]
+#[derive(Clone, Copy)]
 pub struct Conjunction {
     pub size: u8,
     pub letters: u64,
@@ -45,7 +47,7 @@ pub struct Conjunction {
 
 // The settings: seven switches, the inner and the outer delimiters, how many of the four conjunctions count, and the kind
 // of a number without a unit.
-#[derive(Drop)]
+#[derive(Clone, Copy)]
 pub struct Settings {
     pub negatives: bool,
     pub fractions: bool,
@@ -65,7 +67,7 @@ pub struct Settings {
 }
 
 // A coefficient, as sign and magnitude, times ten to the power up - down.
-#[derive(Drop)]
+#[derive(Clone, Copy)]
 pub struct Multiplier {
     pub negative: bool,
     pub coefficient: u64,
@@ -74,42 +76,42 @@ pub struct Multiplier {
 }
 
 // What a lookup finds: the number of a row, or none.
-#[derive(Drop)]
+#[derive(Clone, Copy)]
 pub enum Found {
     Row(usize),
     Nowhere,
 }
 
 // The digits before the point, leading zeros dropped, as a span of the text.
-#[derive(Drop)]
+#[derive(Clone, Copy)]
 pub struct Whole {
     pub start: usize,
     pub end: usize,
 }
 
 // The digits after the point, as a span of the text.
-#[derive(Drop)]
+#[derive(Clone, Copy)]
 pub struct Fract {
     pub start: usize,
     pub end: usize,
 }
 
 // The typed exponent, as sign and magnitude.
-#[derive(Drop)]
+#[derive(Clone, Copy)]
 pub struct Exponent {
     pub negative: bool,
     pub power: u16,
 }
 
 // What step 1 finds: the typed sign, and the place after it.
-#[derive(Drop)]
+#[derive(Clone, Copy)]
 pub struct Signed {
     pub negative: bool,
     pub next: usize,
 }
 
 // What steps 2 and 3 find: the typed digits, and the place after them.
-#[derive(Drop)]
+#[derive(Clone, Copy)]
 pub struct Number {
     pub whole: Whole,
     pub fract: Fract,
@@ -117,28 +119,28 @@ pub struct Number {
 }
 
 // What step 4 finds: the exponent, and the place after it.
-#[derive(Drop)]
+#[derive(Clone, Copy)]
 pub struct Scaled {
     pub exponent: Exponent,
     pub next: usize,
 }
 
 // What step 6 finds: what the number is multiplied by, and the place after the unit.
-#[derive(Drop)]
+#[derive(Clone, Copy)]
 pub struct Unit {
     pub multiplier: Multiplier,
     pub next: usize,
 }
 
 // What a spoken number is: the numeral's row, and the place after its delimiters.
-#[derive(Drop)]
+#[derive(Clone, Copy)]
 pub struct Numeral {
     pub multiplier: Multiplier,
     pub next: usize,
 }
 
 // What step 6 finds for a spoken number: the kind and the row of its unit, and the place after it.
-#[derive(Drop)]
+#[derive(Clone, Copy)]
 pub struct SpokenUnit {
     pub kind: Multiplier,
     pub row: Multiplier,
@@ -146,7 +148,7 @@ pub struct SpokenUnit {
 }
 
 // One part as it was typed, with digits or as infinity, before it is evaluated.
-#[derive(Drop)]
+#[derive(Clone, Copy)]
 pub struct DurationRepr {
     pub negative: bool,
     pub infinite: bool,
@@ -157,7 +159,7 @@ pub struct DurationRepr {
 }
 
 // One part with a spoken number, before numeral, kind and row are multiplied.
-#[derive(Drop)]
+#[derive(Clone, Copy)]
 pub struct SpokenRepr {
     pub negative: bool,
     pub numeral: Multiplier,
@@ -165,28 +167,28 @@ pub struct SpokenRepr {
     pub row: Multiplier,
 }
 
-#[derive(Drop)]
+#[derive(Clone, Copy)]
 pub enum Repr {
     Typed(DurationRepr),
     Spoken(SpokenRepr),
 }
 
 // A part read to its end, connection included.
-#[derive(Drop)]
+#[derive(Clone, Copy)]
 pub struct Part {
     pub repr: Repr,
     pub next: usize,
 }
 
 // A part evaluated: its length, and the place where the next part begins.
-#[derive(Drop)]
+#[derive(Clone, Copy)]
 pub struct Reading {
     pub length: Length,
     pub next: usize,
 }
 
 // Why something is refused: a case for each cause that document 01 tells apart, with its place.
-#[derive(Drop)]
+#[derive(Clone, Copy)]
 pub enum Refusal {
     // nothing stands at the place
     Nothing(usize),

@@ -9,7 +9,7 @@ use crate::fields::{inner, outer};
 use rules::ByteSet;
 
 // A set of bytes below 128: byte b is in it if bit b % 64 of its word is 1.
-#[derive(Drop)]
+#[derive(Clone, Copy)]
 pub struct AsciiSet {
     pub low: u64,
     pub high: u64,

@@ -12,7 +12,7 @@ use printing::put_answer;
 use reading::checked::read_total_checked;
 
 // How many bytes of a sheet have been answered, and how many have been printed for them.
-#[derive(Drop)]
+#[derive(Clone, Copy)]
 pub struct Progress {
     pub read: usize,
     pub printed: usize,

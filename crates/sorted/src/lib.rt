@@ -1,4 +1,6 @@
 // The index beside a unit table: checked, made, and changed with a row.
+#![tactic(auto)]
+
 pub mod allowed;
 pub mod checked;
 pub mod made;

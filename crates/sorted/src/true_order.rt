@@ -10,7 +10,7 @@ use lookup::names::before;
 use rows::fields::{ROW_SIZE, name_of, row_at};
 
 // What the check of an index finds: it is right; or its first entry that is not the true order's, or the number of rows, if it has another length.
-#[derive(Drop)]
+#[derive(Clone, Copy)]
 pub enum IndexFound {
     Right,
     Wrong(u8),

@@ -1,1 +1,5 @@
 // A sorted index beside the unit table: only theorems, which stand in specs/.
+
+#![tactic(auto)]
+
+#![tactic(auto)]

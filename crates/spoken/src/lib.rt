@@ -1,4 +1,6 @@
 // What a spoken number is multiplied by: its numeral, its kind and its row, from left to right, each product tested for its range.
+#![tactic(auto)]
+
 ghost use Rattle.std.specs.Prelude.{◌≡◌, true, ◌+◌, ◌-◌, ◌≤◌};
 ghost use Rattle.rules.specs.SettingsAndUnitTable.{times, in_range};
 ghost use Rattle.rules.specs.Evaluation.{multiplied};
@@ -9,7 +11,7 @@ use rows::fields::within;
 use rules::{Multiplier, SpokenRepr};
 
 // What a spoken number is multiplied by, its powers of ten taken off each other; or that a product is out of range.
-#[derive(Drop)]
+#[derive(Clone, Copy)]
 pub struct Product {
     pub multiplier: Multiplier,
     pub out_of_range: bool,

@@ -10,7 +10,7 @@ use crate::sign::sign_at;
 use rules::{Exponent, Refusal, Scaled};
 use settings::fields::exponents;
 
-#[derive(Drop)]
+#[derive(Clone, Copy)]
 pub enum ScaledRead {
     Got(Scaled),
     Refused(Refusal),

@@ -1,4 +1,6 @@
 // The steps of reading one part, each a function of a text and a place and of what it needs of the settings.
+#![tactic(auto)]
+
 pub mod bytes;
 pub mod connection;
 pub mod delimiters;
@@ -11,7 +13,7 @@ pub mod sign;
 pub mod unit;
 
 // Where a step ends, or why it refuses.
-#[derive(Drop)]
+#[derive(Clone, Copy)]
 pub enum Next {
     At(usize),
     Refused(rules::Refusal),

@@ -14,13 +14,13 @@ use settings::fields::fractions;
 use value::digits::{parse_digits_strip_zeros, sum_digits};
 
 // What steps 2 and 3 find, and the sum of the digits, which is all of their number unless they are many.
-#[derive(Drop)]
+#[derive(Clone, Copy)]
 pub struct SummedNumber {
     pub typed: Number,
     pub number: u64,
 }
 
-#[derive(Drop)]
+#[derive(Clone, Copy)]
 pub enum NumberRead {
     Got(SummedNumber),
     Refused(Refusal),

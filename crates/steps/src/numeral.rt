@@ -14,13 +14,13 @@ use rules::{Found, Refusal};
 use settings::sets::inner_delimiters;
 
 // The row of a numeral, and the place after its delimiters.
-#[derive(Drop)]
+#[derive(Clone, Copy)]
 pub struct FoundNumeral {
     pub row: usize,
     pub next: usize,
 }
 
-#[derive(Drop)]
+#[derive(Clone, Copy)]
 pub enum NumeralRead {
     Got(FoundNumeral),
     Refused(Refusal),

@@ -13,7 +13,7 @@ use crate::delimiters::parse_number_delimiter;
 use rules::{Refusal, Signed};
 use settings::fields::after_sign;
 
-#[derive(Drop)]
+#[derive(Clone, Copy)]
 pub enum SignRead {
     Got(Signed),
     Refused(Refusal),

@@ -24,34 +24,34 @@ use settings::sets::{AsciiSet, either, holds, inner_delimiters, outer_delimiters
 use words::{BYTE_BITS, WORD_BITS, with_byte};
 
 // What follows a unit's name: where the unit ends, and whether `ago` negates it.
-#[derive(Drop)]
+#[derive(Clone, Copy)]
 pub struct Ago {
     pub negated: bool,
     pub next: usize,
 }
 
-#[derive(Drop)]
+#[derive(Clone, Copy)]
 pub enum AgoRead {
     Got(Ago),
     Refused(Refusal),
 }
 
 // What a part takes of the row that its unit's name finds: the kind, and what the row itself multiplies by.
-#[derive(Drop)]
+#[derive(Clone, Copy)]
 pub struct UnitRow {
     pub kind: u8,
     pub own: Multiplier,
 }
 
 // An enum cannot hold the row, which is a part of a lent table: it holds what is taken of it.
-#[derive(Drop)]
+#[derive(Clone, Copy)]
 pub enum UnitRead {
     Found(UnitRow),
     Nowhere,
 }
 
 // A unit's name in a text, which begins at a known place: where it ends, and its first word.
-#[derive(Drop)]
+#[derive(Clone, Copy)]
 pub struct Stretch {
     pub end: usize,
     pub first: u64,

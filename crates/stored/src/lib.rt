@@ -1,4 +1,6 @@
 // The stored form of a row: a line of 96 lower-case hexadecimal digits and a newline.
+#![tactic(auto)]
+
 ghost use Rattle.std.specs.Prelude.{◌≡◌, true, ◌++◌, ◌<◌, ◌≤◌, length, take, drop};
 ghost use Rattle.rules.specs.Common.{all};
 ghost use Rattle.rules.specs.SettingsAndUnitTable.{name_room, row_size, hexadecimal, two_digits};

@@ -1,5 +1,7 @@
 // The entries over unit tables and their indexes: an index made, checked, and changed with a row, of one table by itself; and a name looked up in both
 // tables, row by row or through their indexes. Each promises its answer for all arguments and asks nothing. They load no reader.
+#![tactic(auto)]
+
 ghost use Rattle.std.specs.Prelude.{◌≡◌, []};
 ghost use Rattle.rules.specs.ThePartOfTheCrateWeTake.{zero_length};
 ghost use Rattle.rules.specs.NumbersHandedBack.{refused, done};

@@ -1,4 +1,6 @@
 // The fixed tables: powers of ten, the eight unit kinds and the 256 byte classes.
+#![tactic(auto)]
+
 ghost use Rattle.std.specs.Prelude.{◌≡◌, false, ◌<◌, ◌^◌};
 ghost use Rattle.rules.specs.SettingsAndUnitTable.{class, kind_multiplier};
 

@@ -11,28 +11,28 @@ use rules::{Fract, Whole};
 use words::{eight_digits, eight_zeros};
 
 // A number, if a u64 holds it.
-#[derive(Drop)]
+#[derive(Clone, Copy)]
 pub enum Word {
     Fits(u64),
     TooLarge,
 }
 
 // A number, and where the digits that it was summed up from end.
-#[derive(Drop)]
+#[derive(Clone, Copy)]
 pub struct Summed {
     pub number: u64,
     pub end: usize,
 }
 
 // The digits before a point, and the number that they were summed up to.
-#[derive(Drop)]
+#[derive(Clone, Copy)]
 pub struct SummedWhole {
     pub whole: Whole,
     pub number: u64,
 }
 
 // A number of a few digits, and how many more it has room for.
-#[derive(Drop)]
+#[derive(Clone, Copy)]
 pub struct Taken {
     pub number: u64,
     pub room: usize,

@@ -9,14 +9,14 @@ use rules::{Fract, Whole};
 use tables::pow10;
 
 // A number of seconds with eighteen decimals, if its seconds fit a u64.
-#[derive(Drop)]
+#[derive(Clone, Copy)]
 pub enum Shifted {
     Fits { seconds: u64, attos: u64 },
     TooLarge,
 }
 
 // Where a point cuts the whole and the fraction digits, as places of the text, and the zeros before it.
-#[derive(Drop)]
+#[derive(Clone, Copy)]
 struct Cut {
     whole: usize,
     fract: usize,

@@ -1,4 +1,6 @@
 // Several bytes of a text at once, as a number.
+#![tactic(auto)]
+
 ghost use Rattle.std.specs.Prelude.{◌≡◌, true, ℕ, ◌+◌, ◌*◌, ◌^◌, ◌≤◌, ◌<◌, length, take, drop};
 ghost use Rattle.rules.specs.Common.{all, between};
 ghost use Rattle.rules.specs.SettingsAndUnitTable.{LETTER, is, low_first};

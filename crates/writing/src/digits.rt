@@ -5,7 +5,7 @@ ghost use Rattle.writing.specs.Laid.{laid};
 ghost use Rattle.writing.specs.Digits.{Digits};
 
 // A number, and how many decimal digits of it are written.
-#[derive(Drop)]
+#[derive(Clone, Copy)]
 pub struct Decimal {
     pub number: u64,
     pub count: usize,
