@@ -2,5 +2,3 @@
 // row that nobody could type is refused. It has no code of its own.
 
 #![tactic(auto)]
-
-#![tactic(auto)]

@@ -1,5 +1,3 @@
 // ISO timings: only definitions and laws, which stand in specs/.
 
 #![tactic(auto)]
-
-#![tactic(auto)]

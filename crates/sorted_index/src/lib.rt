@@ -1,5 +1,3 @@
 // A sorted index beside the unit table: only theorems, which stand in specs/.
 
 #![tactic(auto)]
-
-#![tactic(auto)]
