@@ -7,20 +7,13 @@ use lib.Arith.{mod-mul}
 use lib.Dec.{lit<}
 use borrow.Author.Rules.{rules}
 use Rattle.lengths.specs.Columns.{pieces}
-use Rattle.lengths.proofs.wide.pieces.Statement.{statement}
-use Rattle.lengths.proofs.wide.pieces.Tie as tie
-
-cast-low : tie.Need-overflow-cast-low
-cast-low c = search rules
-
-cast-high : tie.Need-overflow-cast-high
-cast-high c = search rules
+use Rattle.lengths.proofs.wide.pieces.Goals as goal
 
 -- four pieces, each by itself
 four : {p q r s p' q' r' s' : ℕ} → p ≡ p' → q ≡ q' → r ≡ r' → s ≡ s' → p ∷ q ∷ r ∷ s ∷ [] ≡ p' ∷ q' ∷ r' ∷ s' ∷ []
 four e f g h = cc
 
-returns : tie.Need-returns
+pub returns : goal.returns
 unfolding pieces
 returns c =
     let word = c.args.word in
@@ -29,6 +22,3 @@ returns c =
     (omega (arith, mod-mul word {m = 2 ^ 16} {c = 2 ^ 16} (lit< tt) (lit< tt)))
     (rw halved)
     (rw halved (omega arith))
-
-pub pieces-spec : {M : Type 1} → statement M
-pieces-spec = tie.close (tie.spec cast-low cast-high returns)

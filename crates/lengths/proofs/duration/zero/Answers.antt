@@ -1,12 +1,8 @@
 -- `lengths::duration::zero` meets its contract: the record is that of the definition. Assumes nothing.
 use mathlib.Core.Path.{refl}
 use Rattle.rules.specs.ThePartOfTheCrateWeTake.{zero_length}
-use Rattle.lengths.proofs.duration.zero.Statement.{statement}
-use Rattle.lengths.proofs.duration.zero.Tie as tie
+use Rattle.lengths.proofs.duration.zero.Goals as goal
 
-returns : tie.Need-returns
+pub returns : goal.returns
 unfolding zero_length
 returns c = refl
-
-pub zero-spec : {M : Type 1} → statement M
-zero-spec = tie.close (tie.spec returns)
