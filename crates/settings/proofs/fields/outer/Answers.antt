@@ -1,0 +1,8 @@
+-- `settings::fields::outer` meets its contract. Assumes nothing.
+use borrow.Author.Rules.{rules}
+use Rattle.rules.specs.SettingsAsWords.{set_of, settings_of}
+use Rattle.settings.proofs.fields.outer.Goals as goal
+
+pub returns : goal.returns
+unfolding set_of settings_of
+returns c = search rules
