@@ -1,0 +1,14 @@
+-- `writing::writer::fraction_size` meets its contract. Assumes nothing.
+use borrow.Author.Tests.{eq-eqb, ne_eqb}
+use borrow.Author.Rules.{rules}
+use Rattle.rules.specs.Common.{if◌then◌else◌}
+use Rattle.writing.specs.Forms.{fraction_size}
+use Rattle.writing.proofs.writer.fraction_size.Goals as goal
+
+pub returns-then-count-eq0 : goal.returns-then-count-eq0
+unfolding fraction_size if◌then◌else◌
+returns-then-count-eq0 c = rw (eq-eqb _ 0 c.if-count-eq0.true)
+
+pub returns-else-count-eq0 : goal.returns-else-count-eq0
+unfolding fraction_size if◌then◌else◌
+returns-else-count-eq0 c = rw (ne_eqb _ 0 c.if-count-eq0.false)
