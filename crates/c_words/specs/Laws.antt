@@ -8,9 +8,9 @@ use Rattle.rules.specs.ThePartOfTheCrateWeTake.{nanoseconds_per_second, well_for
 use Rattle.rules.specs.SettingsAsWords.{word, held_to}
 use Rattle.rules.specs.NumbersHandedBack.{Outcome, got, refused, ◌>>◌, done, refusal, answered}
 use Rattle.rules.specs.SettingsAndUnitTable.{Card}
-use Rattle.rules.specs.Laws.Answers.{refusal_number}
-use Rattle.rules.specs.Laws.SettingsAsWords.{held_fits, held_reaches, bit_back}
-use Rattle.rules.specs.Laws.Tests.{and_false}
+use Rattle.rules.proofs.Laws.Answers.{refusal_number}
+use Rattle.rules.proofs.Laws.SettingsAsWords.{held_fits, held_reaches, bit_back}
+use Rattle.rules.proofs.Laws.Tests.{and_false}
 use Rattle.rules.specs.WriterAndShiftTotal.{record_after}
 use Rattle.rules.specs.WhatEveryEntryOwes.{add_total, shift_answer, shifted_record}
 use Rattle.index.specs.declared.LookedUp.{LookedUp}

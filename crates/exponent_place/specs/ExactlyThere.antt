@@ -11,8 +11,8 @@ use Rattle.rules.specs.NumbersHandedBack.{refused, position}
 use Rattle.rules.specs.SettingsAndUnitTable.{Card}
 use Rattle.rules.specs.ReadingOnePart.{exponent_passed, part}
 use Rattle.rules.specs.Evaluation.{evaluated, part_reading}
-use Rattle.rules.specs.Laws.Outcomes.{Refused, the_cause, refused_map, refused_bind}
-use Rattle.rules.specs.Laws.Refusals.{sign_by, number_by, gap_by, unit_by, connection_by, infinity_by, numeral_by, spoken_unit_by, evaluated_by, allowed_by}
+use Rattle.rules.proofs.Laws.Outcomes.{Refused, the_cause, refused_map, refused_bind}
+use Rattle.rules.proofs.Laws.Refusals.{sign_by, number_by, gap_by, unit_by, connection_by, infinity_by, numeral_by, spoken_unit_by, evaluated_by, allowed_by}
 use Rattle.handed_back.specs.TheStepsOfAPart.{Step, does, Comes, sign, number, exponent, before_a_unit, unit, infinity, numeral, spoken_unit, connection}
 use Rattle.handed_back.specs.AStepRefuses.{part_told, due}
 use Rattle.handed_back.specs.RefusedWith.{RefusedWith, once}

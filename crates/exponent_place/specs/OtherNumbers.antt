@@ -5,8 +5,8 @@ use Rattle.std.proofs.lemmas.Bool.{false≢true, not-true}
 use Rattle.rules.specs.declared.Refusal.{Refusal}
 use Rattle.rules.specs.Common.{all}
 use Rattle.rules.specs.NumbersHandedBack.{Outcome, refused, number}
-use Rattle.rules.specs.Laws.Outcomes.{Refused, refused_by, refused_map}
-use Rattle.rules.specs.Laws.Refusals.{By, by_passing}
+use Rattle.rules.proofs.Laws.Outcomes.{Refused, refused_by, refused_map}
+use Rattle.rules.proofs.Laws.Refusals.{By, by_passing}
 use Rattle.exponent_place.specs.TheWrongDigit.{out_of_range}
 
 -- X holds of what is refused by 3 or 4

@@ -14,9 +14,9 @@ use Rattle.rules.specs.NumbersHandedBack.{refused, number}
 use Rattle.rules.specs.SettingsAndUnitTable.{DIGIT, is}
 use Rattle.rules.specs.ReadingOnePart.{same_letter, exponent_limit, exponent_passed, exponent_digits, exponent_number, exponent_step}
 use Rattle.rules.specs.Evaluation.{spelled}
-use Rattle.rules.specs.Laws.Choices.{if_then, if_else}
-use Rattle.rules.specs.Laws.Outcomes.{Refused, not_refused, refused_by, refused_map, refused_if}
-use Rattle.rules.specs.Laws.Texts.{front_pass, run_stop, slice_shift}
+use Rattle.rules.proofs.Laws.Choices.{if_then, if_else}
+use Rattle.rules.proofs.Laws.Outcomes.{Refused, not_refused, refused_by, refused_map, refused_if}
+use Rattle.rules.proofs.Laws.Texts.{front_pass, run_stop, slice_shift}
 use Rattle.value.specs.Digits.{spelled_grows}
 use Rattle.exponent_place.specs.TheWrongDigit.{minus_behind, first_digit, power_before, Passed, out_of_range}
 use Rattle.exponent_place.specs.OtherNumbers.{IfOutOfRange, by_other}

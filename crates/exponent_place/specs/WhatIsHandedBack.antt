@@ -5,7 +5,7 @@ use Rattle.rules.specs.declared.Length.{Length}
 use Rattle.rules.specs.Common.{if◌then◌else◌}
 use Rattle.rules.specs.SettingsAndUnitTable.{Card}
 use Rattle.rules.specs.WhatEveryEntryOwes.{part_answer, total_answer, shift_answer}
-use Rattle.rules.specs.Laws.Refusals.{among}
+use Rattle.rules.proofs.Laws.Refusals.{among}
 use Rattle.handed_back.specs.RefusedWith.{refused_at}
 use Rattle.handed_back.specs.BehindTheChecks as handed
 use Rattle.handed_back.specs.BehindTheChecks.{of_the_text, InPart, InTotal, InShift}

@@ -20,13 +20,13 @@ use Rattle.rules.specs.NumbersHandedBack.{got, ◌>>=◌}
 use Rattle.rules.specs.SettingsAndUnitTable.{DIGIT, SIGN, POINT, OTHER, class, is, is_next_duration, lower, holds, empty, may_name, settings_check, row_size, rows, row, name, product, led_by_e, e_may_lead, can_be_typed, row_right, Card, Holder, stands, find_row}
 use Rattle.rules.specs.ReadingOnePart.{same_letter, delimiters, gap, sign_step, fraction_step, number_step, exponent_limit, exponent_digits, exponent_number, exponent_step, in_stretch, ago_step, find_unit, unit_step, finite_part, unsigned_part, part}
 use Rattle.rules.specs.Evaluation.{spelled, digits_of, attos, nanos, length_of, evaluate, evaluated, allowed, part_reading, sum, sum_all, parts, total}
-use Rattle.rules.specs.Laws.Choices.{or_neither, if_either, and_both, and_left, and_right, all_first, all_weaken}
-use Rattle.rules.specs.Laws.Tests.{and_false}
-use Rattle.rules.specs.Laws.Lists.{runs_below}
-use Rattle.rules.specs.Laws.Outcomes.{bind_got}
-use Rattle.rules.specs.Laws.Texts.{ends_le, sees_end}
-use Rattle.rules.specs.Laws.Apart.{none as no_length}
-use Rattle.rules.specs.Laws.Layout.{sees_of, run_over, stretch, goes_on, gap_none, exponent_none, connection_none}
+use Rattle.rules.proofs.Laws.Choices.{or_neither, if_either, and_both, and_left, and_right, all_first, all_weaken}
+use Rattle.rules.proofs.Laws.Tests.{and_false}
+use Rattle.rules.proofs.Laws.Lists.{runs_below}
+use Rattle.rules.proofs.Laws.Outcomes.{bind_got}
+use Rattle.rules.proofs.Laws.Texts.{ends_le, sees_end}
+use Rattle.rules.proofs.Laws.Apart.{none as no_length}
+use Rattle.rules.proofs.Laws.Layout.{sees_of, run_over, stretch, goes_on, gap_none, exponent_none, connection_none}
 use Rattle.rows.specs.Named.{padded}
 use Rattle.card.specs.Laws.Table.{right_padded, right_name}
 use Rattle.settings.specs.Laws.Accepted.{delimiter_class, inner_delimits}

@@ -22,8 +22,8 @@ use Rattle.rules.specs.NumbersHandedBack.{◌>>◌, Outcome, got, refused, unles
 use Rattle.rules.specs.SettingsAndUnitTable.{settings_check, most_rows, most_numerals, rows, rows_in, row, name, can_be_typed, row_right, row_accepted, row_accepted_in, numeral_accepted, whole_rows, whole_rows_in, rows_check, units_check, units_check_in, table_check, line_check, numerals_check, numerals_check_in, Card, card_check, lookup, Holder, Hall}
 use Rattle.rules.specs.Evaluation.{total}
 use Rattle.rules.specs.WhatEveryEntryOwes.{read_total}
-use Rattle.rules.specs.Laws.Choices.{if_either, and_both}
-use Rattle.rules.specs.Laws.Outcomes.{Refused, not_refused, refused_by, the_cause, refused_if, refused_then}
+use Rattle.rules.proofs.Laws.Choices.{if_either, and_both}
+use Rattle.rules.proofs.Laws.Outcomes.{Refused, not_refused, refused_by, the_cause, refused_if, refused_then}
 use Rattle.card.specs.Laws.Table.{row_both}
 use Rattle.card.specs.Laws.Accepted.{UnitsGood, card_settings, card_hall, card_line, card_numerals}
 use Rattle.findable.specs.WhereAPartFindsItsUnit.{unit_of, finds}

@@ -8,7 +8,7 @@ use Rattle.rules.specs.declared.Settings.{Settings}
 use Rattle.rules.specs.NumbersHandedBack.{got}
 use Rattle.rules.specs.SettingsAndUnitTable.{row, name, Card, lookup, Holder, Line, Hall, Neither, line_first, stands}
 use Rattle.rules.specs.ReadingOnePart.{gap, sign_step, number_step, exponent_step}
-use Rattle.rules.specs.Laws.Outcomes.{All, all_got, all_of, all_if, all_bind, always}
+use Rattle.rules.proofs.Laws.Outcomes.{All, all_got, all_of, all_if, all_bind, always}
 use Rattle.rows.specs.Laws.Lookup.{lookup_found}
 use Rattle.findable.specs.WhereAPartFindsItsUnit.{unit_stands, number_unit, unsigned_unit, unit_of, finds}
 use Rattle.findable.specs.OfEveryUnit.{found_holds}

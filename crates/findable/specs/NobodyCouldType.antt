@@ -13,11 +13,11 @@ use Rattle.rules.specs.Common.{if◌then◌else◌, between, starts, sees, run}
 use Rattle.rules.specs.NumbersHandedBack.{got}
 use Rattle.rules.specs.SettingsAndUnitTable.{lower, word, holds, empty, name_size, name, led_by_e, e_may_lead, can_be_typed, Card, Holder, Neither, stands, held_row}
 use Rattle.rules.specs.ReadingOnePart.{same_letter, gap, sign_step, number_step, exponent_step, in_stretch}
-use Rattle.rules.specs.Laws.Choices.{or_neither}
-use Rattle.rules.specs.Laws.Tests.{or_true}
-use Rattle.rules.specs.Laws.Lists.{runs_below}
-use Rattle.rules.specs.Laws.Outcomes.{All, all_got, all_refused, all_of, all_if, all_bind, all_map, always, bind_got}
-use Rattle.rules.specs.Laws.Layout.{gap_none}
+use Rattle.rules.proofs.Laws.Choices.{or_neither}
+use Rattle.rules.proofs.Laws.Tests.{or_true}
+use Rattle.rules.proofs.Laws.Lists.{runs_below}
+use Rattle.rules.proofs.Laws.Outcomes.{All, all_got, all_refused, all_of, all_if, all_bind, all_map, always, bind_got}
+use Rattle.rules.proofs.Laws.Layout.{gap_none}
 use Rattle.findable.specs.WhereAPartFindsItsUnit.{unit_stands, number_unit, unsigned_unit, unit_of, finds}
 use Rattle.findable.specs.OneOfTheTwoTables.{row_held, Stands, somewhere, nowhere, where_it_stands}
 use Rattle.findable.specs.OfEveryUnit.{found_holds}

@@ -11,7 +11,7 @@ use Rattle.rules.specs.NumbersHandedBack.{Outcome, got, refused}
 use Rattle.rules.specs.SettingsAndUnitTable.{Card, Holder}
 use Rattle.rules.specs.ReadingOnePart.{part}
 use Rattle.rules.specs.Evaluation.{part_reading}
-use Rattle.rules.specs.Laws.Outcomes.{All, all_got, all_refused, of_got, all_if, all_bind, always}
+use Rattle.rules.proofs.Laws.Outcomes.{All, all_got, all_refused, of_got, all_if, all_bind, always}
 use Rattle.findable.specs.WhereAPartFindsItsUnit.{unit_of, counted, units, same_holder, among, among_got, finds}
 use Rattle.findable.specs.OneOfTheTwoTables.{same_holders}
 use Rattle.findable.specs.TheReadersOwn.{refused_among}

@@ -23,8 +23,8 @@ use Rattle.rules.specs.NumbersHandedBack.{Outcome, got, refused}
 use Rattle.rules.specs.SettingsAndUnitTable.{row_size, kind_multiplier, Card, product, Holder, Line, Hall, Neither, held_row, find_row}
 use Rattle.rules.specs.ReadingOnePart.{delimiters, gap, sign_step, number_step, exponent_step, in_stretch, negated, ago_step, find_unit, unit_found, unit_step, numeral_step, spoken_unit_step, connection, infinity_step, infinite_part, finite_part, spoken_part, unsigned_part, part}
 use Rattle.rules.specs.Evaluation.{evaluated, allowed, part_reading, sum_all, parts, total}
-use Rattle.rules.specs.Laws.Choices.{if_then, if_else}
-use Rattle.rules.specs.Laws.Outcomes.{itself, All, all_got, all_refused, of_got, all_of, all_if, all_bind, all_map, always, bind_got}
+use Rattle.rules.proofs.Laws.Choices.{if_then, if_else}
+use Rattle.rules.proofs.Laws.Outcomes.{itself, All, all_got, all_refused, of_got, all_of, all_if, all_bind, all_map, always, bind_got}
 use Rattle.findable.specs.WhereAPartFindsItsUnit.{unit_stands, number_unit, unsigned_unit, unit_of, counted, units, among_got, finds}
 use Rattle.findable.specs.OneOfTheTwoTables.{row_held, Stands, somewhere, nowhere, where_it_stands}
 

@@ -16,8 +16,8 @@ use Rattle.rules.specs.SettingsAndUnitTable.{Card}
 use Rattle.rules.specs.ReadingOnePart.{says, gap, sign_step, number_step, exponent_step, unit_step, closes_infinity, infinity_closed, infinity_step, numeral_step, spoken_unit_step, finite, spoken, infinite, infinite_part, finite_part, spoken_part, unsigned_part, part}
 use Rattle.rules.specs.ReadingOnePart as reader
 use Rattle.rules.specs.Evaluation.{part_reading}
-use Rattle.rules.specs.Laws.Choices.{if_then, if_else}
-use Rattle.rules.specs.Laws.Outcomes.{bind_got, bind_refused, Refused, not_refused, refused_by, refused_if, refused_bind}
+use Rattle.rules.proofs.Laws.Choices.{if_then, if_else}
+use Rattle.rules.proofs.Laws.Outcomes.{bind_got, bind_refused, Refused, not_refused, refused_by, refused_if, refused_bind}
 use Rattle.handed_back.specs.TheLettersOfAWord.{letters_all}
 use Rattle.handed_back.specs.TheStepsOfAPart.{Step, Found, does, Comes, sign, number, exponent, before_a_unit, unit, infinity, numeral, spoken_unit, connection, begins, to_number, to_infinity, to_numeral, to_exponent, to_gap, to_unit, to_spoken_unit, behind_unit, behind_spoken_unit, behind_inf, behind_infinity}
 

@@ -14,8 +14,8 @@ use Rattle.rules.specs.SettingsAndUnitTable.{Card, card_check}
 use Rattle.rules.specs.Evaluation.{part_reading, sum, total}
 use Rattle.rules.specs.WriterAndShiftTotal.{shifting, record_after}
 use Rattle.rules.specs.WhatEveryEntryOwes.{read_part, part_answer, read_total, total_answer, add_total, shift_answer, shifted_record}
-use Rattle.rules.specs.Laws.Outcomes.{made_refused, bind_refused, Refused, refused_unless, unless_got, check_got}
-use Rattle.rules.specs.Laws.Refusals.{among, by_one, card_by}
+use Rattle.rules.proofs.Laws.Outcomes.{made_refused, bind_refused, Refused, refused_unless, unless_got, check_got}
+use Rattle.rules.proofs.Laws.Refusals.{among, by_one, card_by}
 use Rattle.handed_back.specs.RefusedWith.{RefusedWith, refused_at, likewise, handed_back}
 use Rattle.handed_back.specs.WhatIsRead.{Reached, total_refused}
 

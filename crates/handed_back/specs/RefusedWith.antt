@@ -6,7 +6,7 @@ use Rattle.rules.specs.declared.Answer.{Answer}
 use Rattle.rules.specs.declared.Refusal.{Refusal}
 use Rattle.rules.specs.ThePartOfTheCrateWeTake.{zero_length}
 use Rattle.rules.specs.NumbersHandedBack.{Outcome, got, refused, number, position, refusal, answered}
-use Rattle.rules.specs.Laws.Outcomes.{Refused, the_cause}
+use Rattle.rules.proofs.Laws.Outcomes.{Refused, the_cause}
 
 -- by whatever refusal has them
 pub record RefusedWith {A : Type 0} (m : Outcome A) (n q : ℕ) : Type 0 where

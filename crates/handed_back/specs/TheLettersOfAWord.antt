@@ -9,8 +9,8 @@ use Rattle.rules.specs.declared.Refusal.TheVariants.{InfinityByte, InfinityEnds}
 use Rattle.rules.specs.Common.{sees, starts}
 use Rattle.rules.specs.NumbersHandedBack.{got, refused}
 use Rattle.rules.specs.ReadingOnePart.{same_letter, prefix, letters_step}
-use Rattle.rules.specs.Laws.Choices.{and_left, and_right, if_then, if_else}
-use Rattle.rules.specs.Laws.Outcomes.{All, all_got, all_refused, all_map, all_if, Refused, not_refused, refused_by, refused_map, refused_if}
+use Rattle.rules.proofs.Laws.Choices.{and_left, and_right, if_then, if_else}
+use Rattle.rules.proofs.Laws.Outcomes.{All, all_got, all_refused, all_map, all_if, Refused, not_refused, refused_by, refused_map, refused_if}
 
 -- ---- what the step finds
 

@@ -10,9 +10,9 @@ use Rattle.rules.specs.ThePartOfTheCrateWeTake.{zero_length}
 use Rattle.rules.specs.NumbersHandedBack.{got, refused}
 use Rattle.rules.specs.SettingsAndUnitTable.{Card}
 use Rattle.rules.specs.Evaluation.{part_reading, sum, total}
-use Rattle.rules.specs.Laws.Choices.{if_else}
-use Rattle.rules.specs.Laws.Outcomes.{all_of, bind_got, bind_refused, Refused, not_refused, refused_by, refused_itself, the_cause, refused_map, refused_if, refused_bind}
-use Rattle.rules.specs.Laws.Totals.{reading_beyond, reading_ends, total_from, total_is, total_step}
+use Rattle.rules.proofs.Laws.Choices.{if_else}
+use Rattle.rules.proofs.Laws.Outcomes.{all_of, bind_got, bind_refused, Refused, not_refused, refused_by, refused_itself, the_cause, refused_map, refused_if, refused_bind}
+use Rattle.rules.proofs.Laws.Totals.{reading_beyond, reading_ends, total_from, total_is, total_step}
 
 -- the total comes to read a part at the place
 pub data Reached (card : Card) (text : List ℕ) : ℕ → Type 0 where

@@ -2,4 +2,3 @@
 pub mod TheSortedIndex
 pub mod Computing
 pub mod Examples
-pub mod Laws

@@ -2,4 +2,3 @@
 pub mod IsoTimings
 pub mod Computing
 pub mod Examples
-pub mod Laws

@@ -18,16 +18,16 @@ use Rattle.rules.specs.ThePartOfTheCrateWeTake.{nanoseconds_per_second, seconds_
 use Rattle.rules.specs.SettingsAndUnitTable.{DIGIT, is, kind_coefficients}
 use Rattle.rules.specs.Evaluation.{spelled, length_of}
 use Rattle.rules.specs.WriterAndShiftTotal.{whole_digits, fraction_digits, written_fraction}
-use Rattle.rules.specs.Laws.Apart.{few_seconds, proper, length_of_size}
-use Rattle.rules.specs.Laws.Choices.{and_both, if_either}
-use Rattle.rules.specs.Laws.Written.{whole_digits_only, fraction_digits_only}
+use Rattle.rules.proofs.Laws.Apart.{few_seconds, proper, length_of_size}
+use Rattle.rules.proofs.Laws.Choices.{and_both, if_either}
+use Rattle.rules.proofs.Laws.Written.{whole_digits_only, fraction_digits_only}
 use Rattle.writing.specs.Digits.{ten_pos, whole_some, whole_few}
 use Rattle.writing.specs.Forms.{all_zeros}
 use Rattle.readback.specs.Spelled.{spelled_whole, spelled_fraction, fraction_few}
 use Rattle.iso.specs.IsoTimings.{Component, SECONDS, MINUTES, HOURS, none, digits, is_mark, right_fraction, right_number, closes, right_after, right, decimals, seconds_of, nanoseconds_of, read_iso, component, components_of, iso_written, writing_iso, iso_buffer_after, iso_written_buffer}
-use Rattle.iso.specs.Laws.Right.{reads_exactly}
-use Rattle.iso.specs.Laws.Sound.{never}
-use Rattle.iso.specs.Laws.Worth.{whole_worth, fraction_worth, worth_none, worth_first}
+use Rattle.iso.proofs.Laws.Right.{reads_exactly}
+use Rattle.iso.proofs.Laws.Sound.{never}
+use Rattle.iso.proofs.Laws.Worth.{whole_worth, fraction_worth, worth_none, worth_first}
 use Rattle.iso_writer.specs.Components.{shown, left_out, if_shown, chosen, hours_shown, minutes_shown, seconds_shown, one_shown, components_shown}
 use Rattle.iso_writer.specs.Forms.{written_part, in_parts}
 

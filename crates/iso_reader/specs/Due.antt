@@ -10,7 +10,7 @@ use Rattle.rules.specs.Common.{if◌then◌else◌}
 use Rattle.rules.specs.ThePartOfTheCrateWeTake.{nanoseconds_per_second}
 use Rattle.rules.specs.NumbersHandedBack.{Outcome, got, refused}
 use Rattle.rules.specs.Evaluation.{length_of}
-use Rattle.rules.specs.Laws.Apart.{apart}
+use Rattle.rules.proofs.Laws.Apart.{apart}
 use Rattle.value.specs.declared.digits.Word.{Word}
 use Rattle.value.specs.declared.digits.Word.TheVariants as Word
 use Rattle.value.specs.Numbers.{as_word}

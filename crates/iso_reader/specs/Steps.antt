@@ -10,12 +10,12 @@ use Rattle.rules.specs.declared.Refusal.TheVariants.{NotIso, YearOrMonth}
 use Rattle.rules.specs.Common.{if◌then◌else◌, all, starts, sees, front, run}
 use Rattle.rules.specs.SettingsAndUnitTable.{DIGIT, is}
 use Rattle.rules.specs.NumbersHandedBack.{Outcome, got, refused, ◌>>=◌}
-use Rattle.rules.specs.Laws.Tests.{eqb_sym}
-use Rattle.rules.specs.Laws.Texts.{run_within, sees_here, sees_in}
+use Rattle.rules.proofs.Laws.Tests.{eqb_sym}
+use Rattle.rules.proofs.Laws.Texts.{run_within, sees_here, sees_in}
 use Rattle.value.specs.Digits.{run_end, run_passes}
 use Rattle.iso.specs.IsoTimings.{Component, start, wanted, whole, mark, fraction, none, is_mark, kind_of, may_come, year_or_month, digit_step, after_letter, letter_step, step, may_end, read_from}
-use Rattle.iso.specs.Laws.Letters.{mark_not_digit}
-use Rattle.iso.specs.Laws.Runs.{goes_on, wanted_run, mark_run}
+use Rattle.iso.proofs.Laws.Letters.{mark_not_digit}
+use Rattle.iso.proofs.Laws.Runs.{goes_on, wanted_run, mark_run}
 use Rattle.iso_reader.specs.declared.components.Typed.{Typed}
 use Rattle.iso_reader.specs.declared.components.Counted.{Counted}
 use Rattle.iso_reader.specs.declared.components.NumberRead.{NumberRead}

@@ -13,18 +13,18 @@ use Rattle.rules.specs.declared.Length.{Length}
 use Rattle.rules.specs.declared.Refusal.TheVariants.{NotIso}
 use Rattle.rules.specs.Common.{if◌then◌else◌, between, sees, starts}
 use Rattle.rules.specs.NumbersHandedBack.{Outcome, got, refused, ◌>>=◌}
-use Rattle.rules.specs.Laws.Outcomes.{bind_got, bind_refused}
-use Rattle.rules.specs.Laws.Tests.{between_in, eqb_sym}
-use Rattle.rules.specs.Laws.Texts.{sees_in, sees_here}
+use Rattle.rules.proofs.Laws.Outcomes.{bind_got, bind_refused}
+use Rattle.rules.proofs.Laws.Tests.{between_in, eqb_sym}
+use Rattle.rules.proofs.Laws.Texts.{sees_in, sees_here}
 use Rattle.rules.specs.Evaluation.{spelled}
 use Rattle.value.specs.declared.digits.Word.{Word}
 use Rattle.value.specs.declared.digits.Word.TheVariants as Word
 use Rattle.iso.specs.IsoTimings.{Component, Stand, DAYS, ANY, start, date, wanted, fraction, unit, closed, none, closes, decimals, seconds_of, nanoseconds_of, after_letter, step, on, may_end, read_from, components, held}
-use Rattle.iso.specs.Laws.Runs.{goes_on}
-use Rattle.iso.specs.Laws.Letters.{came_date, came_below}
-use Rattle.iso.specs.Laws.OneComponent.{open_kind}
-use Rattle.iso.specs.Laws.Stands.{or_false_right}
-use Rattle.iso.specs.Laws.Worth.{whole_worth, fraction_worth, worth_first, worth_none}
+use Rattle.iso.proofs.Laws.Runs.{goes_on}
+use Rattle.iso.proofs.Laws.Letters.{came_date, came_below}
+use Rattle.iso.proofs.Laws.OneComponent.{open_kind}
+use Rattle.iso.proofs.Laws.Stands.{or_false_right}
+use Rattle.iso.proofs.Laws.Worth.{whole_worth, fraction_worth, worth_first, worth_none}
 use Rattle.iso_reader.specs.declared.components.Counted.{Counted}
 use Rattle.iso_reader.specs.Steps.{Within, Lettered, component_of, component_outcome, found}
 use Rattle.iso_reader.specs.Due.{due, worth}

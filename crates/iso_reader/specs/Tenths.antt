@@ -6,9 +6,9 @@ use Rattle.std.proofs.Math.Seq.{slice, slice-cons, slice_empty}
 use Rattle.rules.specs.Common.{all}
 use Rattle.rules.specs.SettingsAndUnitTable.{DIGIT, is}
 use Rattle.rules.specs.Evaluation.{spelled}
-use Rattle.rules.specs.Laws.Choices.{all_first}
+use Rattle.rules.proofs.Laws.Choices.{all_first}
 use Rattle.value.specs.Digits.{spelled_from, spelled_below, digit_high, passes_after}
-use Rattle.iso.specs.Laws.Worth.{whole_out}
+use Rattle.iso.proofs.Laws.Worth.{whole_out}
 
 unfoldable pub tenths : ℕ → List ℕ → ℕ
 tenths unit ds = spelled 0 ds * unit / 10 ^ length ds

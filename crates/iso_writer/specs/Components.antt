@@ -9,7 +9,7 @@ use Rattle.std.proofs.Math.Dec.{eqb}
 use Rattle.rules.specs.declared.Length.{Length}
 use Rattle.rules.specs.Common.{if◌then◌else◌}
 use Rattle.rules.specs.ThePartOfTheCrateWeTake.{size}
-use Rattle.rules.specs.Laws.Tests.{and_false}
+use Rattle.rules.proofs.Laws.Tests.{and_false}
 use Rattle.iso.specs.IsoTimings.{Component, SECONDS, MINUTES, HOURS, component, unless_zero, components_of}
 
 -- one of zero is left out, unless it is needed

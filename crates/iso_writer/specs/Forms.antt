@@ -14,7 +14,7 @@ use Rattle.rules.specs.Common.{if◌then◌else◌}
 use Rattle.rules.specs.NumbersHandedBack.{◌>>◌, unless, done, refusal, answered}
 use Rattle.rules.specs.ThePartOfTheCrateWeTake.{well_formed}
 use Rattle.rules.specs.WriterAndShiftTotal.{decimals, whole_digits, fraction_digits, written_fraction}
-use Rattle.rules.specs.Laws.Choices.{if_either}
+use Rattle.rules.proofs.Laws.Choices.{if_either}
 use Rattle.iso.specs.IsoTimings.{component, letters, letter, clock_mark, spelling_after, spelling, iso_written, writing_iso, iso_buffer_after, iso_write_answer, iso_written_buffer}
 use Rattle.writing.specs.Digits.{decimals_length}
 use Rattle.writing.specs.Forms.{fraction_size, fraction_size_most, behind_point, behind_length, behind_is}

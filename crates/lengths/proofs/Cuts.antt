@@ -6,8 +6,8 @@ use native.Mathlib.Omega.{arith}
 use Rattle.rules.specs.declared.Length.{Length}
 use Rattle.rules.specs.ThePartOfTheCrateWeTake.{largest}
 use Rattle.rules.specs.Evaluation.{nanos, length_of}
-use Rattle.rules.specs.Laws.Lengths.{size_clamped}
-use Rattle.rules.specs.Laws.Apart.{nanos_apart}
+use Rattle.rules.proofs.Laws.Lengths.{size_clamped}
+use Rattle.rules.proofs.Laws.Apart.{nanos_apart}
 use Rattle.lengths.specs.declared.wide.Wide.{Wide}
 use Rattle.lengths.specs.declared.wide.Divided.{Divided}
 use Rattle.lengths.specs.declared.duration.Size.{Size}

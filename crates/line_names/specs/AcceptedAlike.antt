@@ -11,8 +11,8 @@ use Rattle.rules.specs.Common.{same}
 use Rattle.rules.specs.NumbersHandedBack.{got, ◌>>◌, unless}
 use Rattle.rules.specs.SettingsAndUnitTable.{most_rows, rows, rows_in, row, name, named, named_in, row_formed_in, row_right_in, row_accepted, row_accepted_in, whole_rows_in, rows_check, units_check_in, table_check, line_check, card_check}
 use Rattle.rules.specs.WhatEveryEntryOwes.{part_answer, total_answer, shift_answer, shifted_record}
-use Rattle.rules.specs.Laws.Choices.{if_either}
-use Rattle.rules.specs.Laws.Tests.{or_false}
+use Rattle.rules.proofs.Laws.Choices.{if_either}
+use Rattle.rules.proofs.Laws.Tests.{or_false}
 use Rattle.rows.specs.Laws.Rows.{length_row}
 use Rattle.card.specs.Laws.Table.{named_earlier, row_both, right_unnamed}
 use Rattle.card.specs.Laws.Accepted.{UnitsGood, units_accepted, card_settings, card_hall, card_line, card_numerals}

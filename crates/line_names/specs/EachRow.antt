@@ -8,7 +8,7 @@ use Prim.Native.Nat.{ℕ, zero, suc, ◌+◌, ◌*◌, ◌≤◌, ◌<◌}
 use Rattle.std.proofs.Math.ListN.{length}
 use Rattle.rules.specs.Common.{if◌then◌else◌}
 use Rattle.rules.specs.SettingsAndUnitTable.{row_size, rows, rows_in, row, row_in, name, named, named_in}
-use Rattle.rules.specs.Laws.Choices.{if_either}
+use Rattle.rules.proofs.Laws.Choices.{if_either}
 use Rattle.rows.specs.Laws.Rows.{length_row}
 use Rattle.line_names.specs.TheMergedTable.{others, merged}
 use Rattle.line_names.specs.OneBehindAnother.{Whole, row_before, whole_both, row_behind, row_of_either, row_whole, row_first}

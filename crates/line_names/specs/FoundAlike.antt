@@ -8,7 +8,7 @@ use Rattle.rules.specs.declared.Found.{Found}
 use Rattle.rules.specs.declared.Found.TheVariants.{Row, Nowhere}
 use Rattle.rules.specs.Common.{same}
 use Rattle.rules.specs.SettingsAndUnitTable.{rows, rows_in, row, name, named, named_in, lookup_from, lookup_from_in, lookup, lookup_in, line_first, stands, held_row, find_row}
-use Rattle.rules.specs.Laws.Choices.{if_either, if_else}
+use Rattle.rules.proofs.Laws.Choices.{if_either, if_else}
 use Rattle.rows.specs.Named.{found_row, row_named}
 use Rattle.rows.specs.Laws.Lookup.{not_same, lookup_nowhere}
 use Rattle.rows.specs.Laws.Rows.{length_row}

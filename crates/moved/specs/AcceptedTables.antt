@@ -10,7 +10,7 @@ use Rattle.rules.specs.declared.Settings.{Settings}
 use Rattle.rules.specs.Common.{same}
 use Rattle.rules.specs.NumbersHandedBack.{got}
 use Rattle.rules.specs.SettingsAndUnitTable.{row_size_in, rows_in, row_in, name, product_in, units_check_in, numerals_check_in, lookup_from_in, lookup_in}
-use Rattle.rules.specs.Laws.Choices.{if_either}
+use Rattle.rules.proofs.Laws.Choices.{if_either}
 use Rattle.moves.specs.NamesLongerThanSixteenBytes.{moved_row}
 use Rattle.moved.specs.Rows.{moved_back}
 use Rattle.moved.specs.Pieces.{appended, appended_same, pieces_of}

@@ -9,10 +9,10 @@ use Rattle.rules.specs.ThePartOfTheCrateWeTake.{zero_length}
 use Rattle.rules.specs.Common.{all}
 use Rattle.rules.specs.NumbersHandedBack.{got, done}
 use Rattle.rules.specs.SettingsAndUnitTable.{old_room, name_room, rows_in, row_in, row, product_in, product, units_check_in, units_check, numerals_check_in, numerals_check, lookup_in, lookup}
-use Rattle.rules.specs.Laws.Lists.{Bytes}
+use Rattle.rules.proofs.Laws.Lists.{Bytes}
 use Rattle.stored.specs.Lines.{line_size_in}
 use Rattle.moves.specs.NamesLongerThanSixteenBytes.{lines, line_stands, moving, to_new_answer, new_target, to_old_answer, old_target}
-use Rattle.moves.specs.Laws.Moves.{line_moves}
+use Rattle.moves.proofs.Laws.Moves.{line_moves}
 use Rattle.moved.specs.MovedLines.{moved_lines, larger_moves}
 use Rattle.moved.specs.Accepted.{moving_got}
 use Rattle.moved.specs.ThereAndBack.{there_and_back}

@@ -10,7 +10,7 @@ use borrow.Author.Tests.{eq-eqb}
 use Rattle.rules.specs.declared.Refusal.{Refusal}
 use Rattle.rules.specs.declared.Settings.{Settings}
 use Rattle.rules.specs.SettingsAndUnitTable.{row_size_in, rows_in, row_in, name, row_formed_in, row_right_in, row_accepted_in, numeral_accepted_in, whole_rows_in, units_check_in, numerals_check_in}
-use Rattle.rules.specs.Laws.RowsCheck.{rows_alike}
+use Rattle.rules.proofs.Laws.RowsCheck.{rows_alike}
 use Rattle.moves.specs.NamesLongerThanSixteenBytes.{moved_row}
 use Rattle.moved.specs.Standing.{stands_sized, stands_after, stands_end}
 use Rattle.moved.specs.Rows.{moved_stands, same_name, same_kind, same_product}

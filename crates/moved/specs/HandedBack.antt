@@ -6,7 +6,7 @@ use Rattle.std.proofs.Math.Seq.{take-append_seam}
 use Rattle.rules.specs.declared.Answer.{Answer}
 use Rattle.rules.specs.ThePartOfTheCrateWeTake.{zero_length}
 use Rattle.rules.specs.NumbersHandedBack.{Outcome, got, refused, done, refusal, answered}
-use Rattle.rules.specs.Laws.Answers.{refusal_number}
+use Rattle.rules.proofs.Laws.Answers.{refusal_number}
 use Rattle.moves.specs.NamesLongerThanSixteenBytes.{moving, move_answer, written_over, moved_target}
 use Rattle.moved.specs.ThereAndBack.{there_and_back}
 

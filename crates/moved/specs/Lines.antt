@@ -4,9 +4,9 @@ use Rattle.std.proofs.Common.{ap, ◌∙◌, arith, ne_eqb}
 use mathlib.Core.List.{List, [], ◌∷◌, ◌++◌, map, flatten, append_assoc}
 use Rattle.rules.specs.Common.{all}
 use Rattle.rules.specs.SettingsAndUnitTable.{hexadecimal, two_digits, stored}
-use Rattle.rules.specs.Laws.Choices.{if_either, and_both}
+use Rattle.rules.proofs.Laws.Choices.{if_either, and_both}
 use Rattle.moves.specs.NamesLongerThanSixteenBytes.{newline, with_byte, lines}
-use Rattle.moves.specs.Laws.Lines.{in_line, line_first}
+use Rattle.moves.proofs.Laws.Lines.{in_line, line_first}
 
 -- ---- the bytes are the lines appended
 

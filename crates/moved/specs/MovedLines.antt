@@ -8,12 +8,12 @@ use Rattle.std.proofs.Math.ListN.{length-append}
 use borrow.Author.Tests.{le-leb, leb-true}
 use Rattle.rules.specs.Common.{all}
 use Rattle.rules.specs.SettingsAndUnitTable.{row_size_in, name_size, stored, two_digits}
-use Rattle.rules.specs.Laws.Choices.{and_left, and_right, and_both, all_first, all_others, all_weaken}
+use Rattle.rules.proofs.Laws.Choices.{and_left, and_right, and_both, all_first, all_others, all_weaken}
 use Rattle.stored.specs.Lines.{line_size_in, line_accepted_in, restored_in}
 use Rattle.stored.specs.Laws.{length_restored, length_two_digits}
 use Rattle.moves.specs.NamesLongerThanSixteenBytes.{row_stands, line_stands}
-use Rattle.moves.specs.Laws.Digits.{moved_long}
-use Rattle.moves.specs.Laws.Moves.{line_moves, moved_line, stands_accepted, moves_stand, moves_small, moves_fit}
+use Rattle.moves.proofs.Laws.Digits.{moved_long}
+use Rattle.moves.proofs.Laws.Moves.{line_moves, moved_line, stands_accepted, moves_stand, moves_small, moves_fit}
 use Rattle.moved.specs.Standing.{name_within}
 use Rattle.moved.specs.Rows.{Movable}
 

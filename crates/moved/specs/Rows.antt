@@ -7,7 +7,7 @@ use Rattle.std.proofs.Math.ListN.{length, get_or, drop, replicate, length-append
 use Rattle.std.proofs.lemmas.List.{length-replicate}
 use Rattle.std.proofs.Math.Seq.{drop_at, get_or-drop}
 use Rattle.rules.specs.SettingsAndUnitTable.{name_at, kind_at_in, coefficient_at_in, power_at_in, zeros_at_in, row_size_in, coefficient_size, power_size, name_size, name, after_name_in, kind_in, coefficient_field_in, power_field_in, row_multiplier_in, product_in}
-use Rattle.rules.specs.Laws.Tests.{between_from, between_in}
+use Rattle.rules.proofs.Laws.Tests.{between_from, between_in}
 use Rattle.moves.specs.NamesLongerThanSixteenBytes.{row_stands, moved_row}
 use Rattle.moved.specs.Standing.{all_zeros, stands_of, stands_sized, stands_end, name_within, length_name, row_itself}
 

@@ -5,9 +5,9 @@ use Rattle.std.proofs.Common.{◌∙◌, arith, length-take, length-drop, drop-c
 use Rattle.std.proofs.Math.ListN.{length, take, drop, replicate, take-append-drop}
 use Rattle.rules.specs.Common.{all, between}
 use Rattle.rules.specs.SettingsAndUnitTable.{name_at, kind_at_in, zeros_at_in, row_size_in, name_size, name, after_name_in}
-use Rattle.rules.specs.Laws.Choices.{and_left, and_right, and_both}
-use Rattle.rules.specs.Laws.Lists.{zeros_only}
-use Rattle.rules.specs.Laws.Tests.{between_to}
+use Rattle.rules.proofs.Laws.Choices.{and_left, and_right, and_both}
+use Rattle.rules.proofs.Laws.Lists.{zeros_only}
+use Rattle.rules.proofs.Laws.Tests.{between_to}
 use Rattle.moves.specs.NamesLongerThanSixteenBytes.{row_stands, moved_row}
 
 pub all_zeros : (n : ℕ) → all (eqb 0) (replicate n 0) ≡ true

@@ -9,9 +9,9 @@ use Rattle.rules.specs.declared.Refusal.TheVariants.{NumeralsSize, BadNumeral}
 use Rattle.rules.specs.declared.Settings.{Settings}
 use Rattle.rules.specs.NumbersHandedBack.{got, ◌>>◌}
 use Rattle.rules.specs.SettingsAndUnitTable.{row_size_in, rows_in, row_in, name_size, name, most_rows, most_numerals, can_be_typed, rows_check, row_formed_in, row_right_in, row_accepted_in, numeral_accepted_in, whole_rows_in, units_check_in, numerals_check_in}
-use Rattle.rules.specs.Laws.Choices.{and_left, and_right}
-use Rattle.rules.specs.Laws.Outcomes.{passed}
-use Rattle.rules.specs.Laws.RowsCheck.{rows_good}
+use Rattle.rules.proofs.Laws.Choices.{and_left, and_right}
+use Rattle.rules.proofs.Laws.Outcomes.{passed}
+use Rattle.rules.proofs.Laws.RowsCheck.{rows_good}
 use Rattle.moves.specs.NamesLongerThanSixteenBytes.{row_stands}
 use Rattle.moved.specs.Standing.{stands_of, name_within}
 use Rattle.moved.specs.Tables.{AllMovable}

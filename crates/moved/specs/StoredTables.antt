@@ -5,14 +5,14 @@ use Rattle.std.proofs.Common.{sym, ◌∙◌}
 use Prim.Native.Nat.{ℕ, zero, suc, ◌*◌, ◌≤◌, ◌<◌, zero-le, suc-le-suc}
 use Rattle.rules.specs.NumbersHandedBack.{got, ◌>>=◌}
 use Rattle.rules.specs.SettingsAndUnitTable.{row_size_in, rows_in, row_in, stored}
-use Rattle.rules.specs.Laws.Lists.{Bytes}
+use Rattle.rules.proofs.Laws.Lists.{Bytes}
 use Rattle.words.specs.LowFirst.{bytes_part}
 use Rattle.stored.specs.Lines.{line_size_in}
 use Rattle.moves.specs.NamesLongerThanSixteenBytes.{lines, moved_row, move_lines, moving}
 use Rattle.moved.specs.Rows.{Movable, moved_whole}
 use Rattle.moved.specs.Lines.{stored_first}
 use Rattle.moved.specs.MovedLines.{length_stored}
-use Rattle.moves.specs.Laws.Moves.{line_got, enough}
+use Rattle.moves.proofs.Laws.Moves.{line_got, enough}
 use Rattle.moved.specs.StoredRows.{stored_moves, stored_moved}
 use Rattle.moved.specs.Pieces.{appended, appended_same, length_appended}
 use Rattle.moved.specs.Tables.{moved_table, AllMovable, same_rows, row_moved}

@@ -8,14 +8,14 @@ use Rattle.std.proofs.Math.ListN.{length}
 use Rattle.rules.specs.Common.{all}
 use Rattle.rules.specs.NumbersHandedBack.{got}
 use Rattle.rules.specs.SettingsAndUnitTable.{stored}
-use Rattle.rules.specs.Laws.Choices.{and_both, all_first, all_others}
-use Rattle.rules.specs.Laws.Lists.{Bytes}
+use Rattle.rules.proofs.Laws.Choices.{and_both, all_first, all_others}
+use Rattle.rules.proofs.Laws.Lists.{Bytes}
 use Rattle.stored.specs.Lines.{line_size_in, restored_in}
 use Rattle.stored.specs.Laws.{stored_restored, bytes_restored}
 use Rattle.moves.specs.NamesLongerThanSixteenBytes.{lines, moved_row, moving}
 use Rattle.moved.specs.Rows.{Movable, moved_movable, moved_back}
 use Rattle.moved.specs.Lines.{lines_appended, lines_stored}
-use Rattle.moves.specs.Laws.Moves.{line_moves, moved_line}
+use Rattle.moves.proofs.Laws.Moves.{line_moves, moved_line}
 use Rattle.moved.specs.MovedLines.{moved_lines, moves_accepted, moves_movable, length_moved_lines}
 use Rattle.moved.specs.Accepted.{moving_got, moving_right, moving_gives}
 use Rattle.moved.specs.StoredRows.{bytes_moved, stored_moves, stored_moved}

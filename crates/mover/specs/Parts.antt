@@ -5,13 +5,13 @@ use Rattle.std.proofs.Common.{sym, ap, ◌∙◌, arith, length-append, length-d
 use Rattle.std.proofs.lemmas.List.{length-replicate}
 use Rattle.rules.specs.Common.{between, all}
 use Rattle.rules.specs.SettingsAndUnitTable.{zeros_at_in}
-use Rattle.rules.specs.Laws.Tests.{between_to}
+use Rattle.rules.proofs.Laws.Tests.{between_to}
 use Rattle.stored.specs.Lines.{line_size_in, line_accepted_in}
 use Rattle.stored.specs.Laws.{line_long}
 use Rattle.writing.specs.Laid.{laid, laid_then, laid_byte}
 use Rattle.moves.specs.NamesLongerThanSixteenBytes.{line_stands}
-use Rattle.moves.specs.Laws.Digits.{zero_digit, told, stands_by_zeros, moved_digits}
-use Rattle.moves.specs.Laws.Moves.{line_moves, moved_line, moves_stand, moves_fit, stands_accepted, stands_small}
+use Rattle.moves.proofs.Laws.Digits.{zero_digit, told, stands_by_zeros, moved_digits}
+use Rattle.moves.proofs.Laws.Moves.{line_moves, moved_line, moves_stand, moves_fit, stands_accepted, stands_small}
 
 -- ---- zeros
 

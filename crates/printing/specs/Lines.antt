@@ -10,8 +10,8 @@ use borrow.Author.Tests.{eq-eqb, ne_eqb, eqb-true}
 use Rattle.std.proofs.Math.ListN.{take, drop, length-drop}
 use Rattle.std.proofs.Math.Seq.{take-append-add, drop-append-add}
 use Rattle.rules.specs.Common.{if◌then◌else◌, all, front, run}
-use Rattle.rules.specs.Laws.Choices.{and_both, all_first, all_others}
-use Rattle.rules.specs.Laws.Texts.{sees_here, sees_end, run_more, run_stop, run_from, run_within}
+use Rattle.rules.proofs.Laws.Choices.{and_both, all_first, all_others}
+use Rattle.rules.proofs.Laws.Texts.{sees_here, sees_end, run_more, run_stop, run_from, run_within}
 
 abbrev pub newline : ℕ
 newline = 10

@@ -15,8 +15,8 @@ use Rattle.rules.specs.NumbersHandedBack.{Outcome, got, refused, ◌>>◌, unles
 use Rattle.rules.specs.SettingsAndUnitTable.{Card, card_check}
 use Rattle.rules.specs.WriterAndShiftTotal.{sign_byte, whole_digits}
 use Rattle.rules.specs.WhatEveryEntryOwes.{read_total, total_answer}
-use Rattle.rules.specs.Laws.Choices.{and_left}
-use Rattle.rules.specs.Laws.Lists.{all_both}
+use Rattle.rules.proofs.Laws.Choices.{and_left}
+use Rattle.rules.proofs.Laws.Lists.{all_both}
 use Rattle.writing.specs.Laid.{laid}
 use Rattle.printing.specs.Lines.{newline, in_line, lines, line_goes_on, newline_cuts}
 

@@ -16,15 +16,15 @@ use Rattle.rules.specs.SettingsAndUnitTable.{Card, card_check}
 use Rattle.rules.specs.Evaluation.{part_reading, sum, sum_all}
 use Rattle.rules.specs.WriterAndShiftTotal.{sign_byte, written}
 use Rattle.rules.specs.WhatEveryEntryOwes.{read_part, read_total, write_answer, written_buffer}
-use Rattle.rules.specs.Laws.Choices.{all_first, all_others}
+use Rattle.rules.proofs.Laws.Choices.{all_first, all_others}
 use Rattle.rules.specs.CardAAndItsReadings.{space, conjunction, settings, settings_A, unspoken}
 use Rattle.rules.specs.Computing.{computing}
-use Rattle.rules.specs.Laws.Totals.{total_from, total_is, total_step}
-use Rattle.rules.specs.Laws.Written.{written_sign}
+use Rattle.rules.proofs.Laws.Totals.{total_from, total_is, total_step}
+use Rattle.rules.proofs.Laws.Written.{written_sign}
 use Rattle.writing.specs.Laid.{laid, laid_then, laid_length, laid_nothing}
 use Rattle.writing.specs.Forms.{write_done, write_no_room}
 use Rattle.readback.specs.ExactSum.{all_plus, all_minus, difference, stays, sum_all_difference}
-use Rattle.rules.specs.Laws.Layout.{behind}
+use Rattle.rules.proofs.Laws.Layout.{behind}
 use Rattle.readback.specs.OnePart.{Follows, part_reads}
 
 -- the written forms, one after another

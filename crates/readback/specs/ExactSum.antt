@@ -9,9 +9,9 @@ use Rattle.rules.specs.declared.Length.{Length}
 use Rattle.rules.specs.Common.{if◌then◌else◌}
 use Rattle.rules.specs.ThePartOfTheCrateWeTake.{zero_length, size}
 use Rattle.rules.specs.Evaluation.{length_of, sum, sum_all}
-use Rattle.rules.specs.Laws.Choices.{and_left, and_right}
-use Rattle.rules.specs.Laws.Lengths.{limit}
-use Rattle.rules.specs.Laws.Apart.{sum_alike, sum_first, sum_second}
+use Rattle.rules.proofs.Laws.Choices.{and_left, and_right}
+use Rattle.rules.proofs.Laws.Lengths.{limit}
+use Rattle.rules.proofs.Laws.Apart.{sum_alike, sum_first, sum_second}
 
 -- the nanoseconds of a length that has a plus, and of one that has a minus
 unfoldable pub plus : Length → ℕ

@@ -20,16 +20,16 @@ use Rattle.rules.specs.SettingsAndUnitTable.{DIGIT, SIGN, POINT, OTHER, class, i
 use Rattle.rules.specs.ReadingOnePart.{same_letter, gap, fraction_step, number_step, exponent_step, in_stretch, find_unit, unit_found, unit_step, connection, finite_part, unsigned_part, part, sign_step}
 use Rattle.rules.specs.Evaluation.{spelled, attos, length_of, digits_of, up, down, nanos, evaluate, evaluated, allowed, part_reading}
 use Rattle.rules.specs.WriterAndShiftTotal.{decimals, no_leading_zeros, second_digits, sign_byte, whole_digits, fraction_digits, written_fraction, written}
-use Rattle.rules.specs.Laws.Texts.{run_stop, sees_in, sees_or}
-use Rattle.rules.specs.Laws.Written.{Digits, decimals_digits, whole_digits_only, fraction_digits_only, written_sign}
-use Rattle.rules.specs.Laws.Apart.{few_seconds, proper, length_of_size}
-use Rattle.rules.specs.Laws.Choices.{if_either, all_first, all_others}
+use Rattle.rules.proofs.Laws.Texts.{run_stop, sees_in, sees_or}
+use Rattle.rules.proofs.Laws.Written.{Digits, decimals_digits, whole_digits_only, fraction_digits_only, written_sign}
+use Rattle.rules.proofs.Laws.Apart.{few_seconds, proper, length_of_size}
+use Rattle.rules.proofs.Laws.Choices.{if_either, all_first, all_others}
 use Rattle.value.specs.Digits.{ten_pos, ten_sum, digit_high}
 use Rattle.settings.specs.Laws.Accepted.{delimiter_class, inner_delimits, outer_delimits}
 use Rattle.card.specs.Laws.Accepted.{card_settings, card_hall, card_line, lookup_empty}
-use Rattle.rules.specs.Laws.Tests.{and_false}
+use Rattle.rules.proofs.Laws.Tests.{and_false}
 use Rattle.writing.specs.Forms.{no_decimals}
-use Rattle.rules.specs.Laws.Layout.{sees_of, behind, run_over, spelled_stretch, goes_on, stretch, gap_none, exponent_none, connection_none}
+use Rattle.rules.proofs.Laws.Layout.{sees_of, behind, run_over, spelled_stretch, goes_on, stretch, gap_none, exponent_none, connection_none}
 use Rattle.readback.specs.Spelled.{spelled_whole, fraction_few, spelled_fraction, spelled_append}
 
 -- ---- from the digits to the length

@@ -5,7 +5,7 @@ use Rattle.std.proofs.Math.Nat.{sub-zero, pow-succ'}
 use Rattle.rules.specs.Common.{if◌then◌else◌}
 use Rattle.rules.specs.Evaluation.{spelled}
 use Rattle.rules.specs.WriterAndShiftTotal.{decimals, no_leading_zeros, before_zeros, no_trailing_zeros, second_digits, nanosecond_digits, whole_digits, fraction_digits}
-use Rattle.rules.specs.Laws.Choices.{if_either}
+use Rattle.rules.proofs.Laws.Choices.{if_either}
 use Rattle.writing.specs.Digits.{decimals_length, decimals_last}
 
 pub spelled_append : (n : ℕ) (xs ys : List ℕ) → spelled n (xs ++ ys) ≡ spelled (spelled n xs) ys

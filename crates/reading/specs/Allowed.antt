@@ -6,7 +6,7 @@ use Rattle.rules.specs.declared.Refusal.TheVariants.{NegativeForbidden}
 use Rattle.rules.specs.Common.{if◌then◌else◌}
 use Rattle.rules.specs.NumbersHandedBack.{got, refused}
 use Rattle.rules.specs.Evaluation.{allowed}
-use Rattle.rules.specs.Laws.Tests.{and_false}
+use Rattle.rules.proofs.Laws.Tests.{and_false}
 
 module _ (s : Settings) (place next : ℕ) (l : Length) where
   pub negative_forbidden : l.negative ≡ true → s.negatives ≡ false → refused (NegativeForbidden place) ≡ allowed s place next l

@@ -20,7 +20,7 @@ use Rattle.rules.specs.Common.{run}
 use Rattle.rules.specs.NumbersHandedBack.{Outcome, got, refused, ◌>>=◌}
 use Rattle.rules.specs.SettingsAndUnitTable.{Card, kind_multiplier, rows, row, kind, row_multiplier, times, product, product_in}
 use Rattle.rules.specs.ReadingOnePart.{gap, number_step, exponent_step, in_stretch, find_unit, unit_found, unit_step, spoken_unit_found, spoken_unit_step, finite, spoken}
-use Rattle.rules.specs.Laws.Outcomes.{All, all_got, all_bind, always, bind_got, bind_refused, bind_assoc, not_got}
+use Rattle.rules.proofs.Laws.Outcomes.{All, all_got, all_bind, always, bind_got, bind_refused, bind_assoc, not_got}
 use Rattle.value.specs.Sums.{sum_of}
 use Rattle.value.specs.Evaluating.{one}
 use Rattle.spoken.specs.Products.{spoken_product}

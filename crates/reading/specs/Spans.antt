@@ -8,9 +8,9 @@ use Rattle.rules.specs.declared.Repr.TheVariants.{Typed, Spoken}
 use Rattle.rules.specs.Common.{run}
 use Rattle.rules.specs.SettingsAndUnitTable.{DIGIT, POINT, is, Card}
 use Rattle.rules.specs.ReadingOnePart.{fraction_step, number_step, infinite_part, finite_part, spoken_part, unsigned_part, part}
-use Rattle.rules.specs.Laws.Ahead.{sign_ahead}
-use Rattle.rules.specs.Laws.Outcomes.{All, all_got, all_refused, all_if, all_bind, always}
-use Rattle.rules.specs.Laws.Texts.{not_ends_lt, sees_in, run_within}
+use Rattle.rules.proofs.Laws.Ahead.{sign_ahead}
+use Rattle.rules.proofs.Laws.Outcomes.{All, all_got, all_refused, all_if, all_bind, always}
+use Rattle.rules.proofs.Laws.Texts.{not_ends_lt, sees_in, run_within}
 use Rattle.value.specs.Numbers.{Spans}
 use Rattle.value.specs.Places.{spans_whole, spans_both, spans_none}
 

@@ -10,8 +10,8 @@ use Rattle.rules.specs.Common.{if◌then◌else◌, ends}
 use Rattle.rules.specs.NumbersHandedBack.{got, refused}
 use Rattle.rules.specs.SettingsAndUnitTable.{Card}
 use Rattle.rules.specs.Evaluation.{part_reading, sum}
-use Rattle.rules.specs.Laws.Outcomes.{bind_got, bind_refused}
-use Rattle.rules.specs.Laws.Totals.{total_from, total_step}
+use Rattle.rules.proofs.Laws.Outcomes.{bind_got, bind_refused}
+use Rattle.rules.proofs.Laws.Totals.{total_from, total_step}
 
 module _ (card : Card) (text : List ℕ) (so_far : Length) (place : ℕ) where
   pub total_refuses : {cause : Refusal} → part_reading card text place ≡ refused cause → refused cause ≡ total_from card text so_far place

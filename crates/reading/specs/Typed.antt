@@ -19,11 +19,11 @@ use Rattle.rules.specs.Common.{if◌then◌else◌, ascii, between, ends, starts
 use Rattle.rules.specs.NumbersHandedBack.{Outcome, got, refused, ◌>>=◌}
 use Rattle.rules.specs.SettingsAndUnitTable.{DIGIT, SIGN, POINT, LETTER, OTHER, class, is, lower, holds, Card}
 use Rattle.rules.specs.ReadingOnePart.{same_letter, prefix, says, gap, sign_step, number_step, exponent_step, unit_step, numeral_end, numeral_found, numeral_step, spoken_unit_step, connection, infinite, finite, spoken, infinite_part, finite_part, spoken_part, unsigned_part, part}
-use Rattle.rules.specs.Laws.Ahead.{says_within}
-use Rattle.rules.specs.Laws.Choices.{and_left, and_both, if_then, if_else}
-use Rattle.rules.specs.Laws.Outcomes.{all_got, all_refused, all_if, all_bind, all_of, always, bind_got, bind_refused, bind_assoc}
-use Rattle.rules.specs.Laws.Tests.{and_false}
-use Rattle.rules.specs.Laws.Texts.{sees_here, sees_end, run_from}
+use Rattle.rules.proofs.Laws.Ahead.{says_within}
+use Rattle.rules.proofs.Laws.Choices.{and_left, and_both, if_then, if_else}
+use Rattle.rules.proofs.Laws.Outcomes.{all_got, all_refused, all_if, all_bind, all_of, always, bind_got, bind_refused, bind_assoc}
+use Rattle.rules.proofs.Laws.Tests.{and_false}
+use Rattle.rules.proofs.Laws.Texts.{sees_here, sees_end, run_from}
 use Rattle.steps.specs.Signs.{sign_other}
 use Rattle.steps.specs.Stretches.{stretch_part}
 use Rattle.steps.specs.Numerals.{Sayable}

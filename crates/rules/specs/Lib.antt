@@ -16,4 +16,3 @@ pub mod WhichExponentDigitIsWrong
 pub mod SpokenNumbers
 pub mod TheLinesOwnUnitNames
 pub mod SixSlipsUnderOneNumber
-pub mod Laws

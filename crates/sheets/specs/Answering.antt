@@ -14,7 +14,7 @@ use Rattle.rules.specs.declared.Answer.{Answer}
 use Rattle.rules.specs.Common.{if◌then◌else◌}
 use Rattle.rules.specs.SettingsAndUnitTable.{Card}
 use Rattle.rules.specs.WhatEveryEntryOwes.{total_answer}
-use Rattle.rules.specs.Laws.Tests.{and_false}
+use Rattle.rules.proofs.Laws.Tests.{and_false}
 use Rattle.writing.specs.Laid.{laid, laid_length, laid_then, laid_nothing}
 use Rattle.sheets.specs.declared.answering.Progress.{Progress}
 use Rattle.printing.specs.Lines.{newline, lines, line_end, line_at, lines_at, line_then, end_from, end_within, end_line, end_newline, Whole, whole_nothing, whole_closed}

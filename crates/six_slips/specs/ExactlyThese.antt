@@ -7,7 +7,7 @@ use Rattle.std.proofs.lemmas.Bool.{eqb-false}
 use Rattle.std.proofs.Math.Dec.{eqb}
 use Rattle.rules.specs.SettingsAndUnitTable.{Card}
 use Rattle.rules.specs.Evaluation.{part_reading}
-use Rattle.rules.specs.Laws.Tests.{between_from, between_to}
+use Rattle.rules.proofs.Laws.Tests.{between_from, between_to}
 use Rattle.handed_back.specs.RefusedWith as refused
 use Rattle.handed_back.specs.RefusedWith.{RefusedWith}
 use Rattle.six_slips.specs.TheAnswerBefore.{slip}

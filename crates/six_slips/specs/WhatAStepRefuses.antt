@@ -20,10 +20,10 @@ use Rattle.rules.specs.SettingsAndUnitTable.{DIGIT, POINT, is, is_next_duration,
 use Rattle.rules.specs.ReadingOnePart.{says, delimiters, gap, sign_step, fraction_step, number_step, exponent_number, exponent_step, ago_step, find_unit, unit_found, unit_step, conjunction_size, after_conjunction, conjunction_step, closes_infinity, letters_step, infinity_closed, infinity_step, numeral_end, numeral_found, numeral_step, spoken_unit_found, spoken_unit_step, part}
 use Rattle.rules.specs.ReadingOnePart as reader
 use Rattle.rules.specs.Evaluation.{evaluated, part_reading}
-use Rattle.rules.specs.Laws.Choices.{and_left, and_right, or_neither}
-use Rattle.rules.specs.Laws.Outcomes.{all_of, Refused, not_refused, refused_by, refused_map, refused_if, refused_bind}
-use Rattle.rules.specs.Laws.Refusals.{By, by_passing, digits_by, evaluated_by, allowed_by}
-use Rattle.rules.specs.Laws.Texts.{not_ends_lt, sees_here, sees_or, sees_shift, run_stop}
+use Rattle.rules.proofs.Laws.Choices.{and_left, and_right, or_neither}
+use Rattle.rules.proofs.Laws.Outcomes.{all_of, Refused, not_refused, refused_by, refused_map, refused_if, refused_bind}
+use Rattle.rules.proofs.Laws.Refusals.{By, by_passing, digits_by, evaluated_by, allowed_by}
+use Rattle.rules.proofs.Laws.Texts.{not_ends_lt, sees_here, sees_or, sees_shift, run_stop}
 use Rattle.exponent_place.specs.TheWrongDigit.{first_digit}
 use Rattle.handed_back.specs.AStepRefuses.{part_told}
 use Rattle.handed_back.specs.TheLettersOfAWord.{letters_got, Breaks, another_byte, no_byte, Broken, letters_broken}

@@ -19,9 +19,9 @@ use Rattle.rules.specs.SettingsAndUnitTable.{DIGIT, POINT, is, is_next_duration,
 use Rattle.rules.specs.ReadingOnePart.{says, delimiters, gap, sign_step, fraction_step, number_step, exponent_number, exponent_step, ago_step, unit_found, unit_step, after_conjunction, conjunction_step, letters_step, infinity_closed, infinity_step, numeral_found, numeral_step, spoken_unit_found, spoken_unit_step}
 use Rattle.rules.specs.ReadingOnePart as reader
 use Rattle.rules.specs.Evaluation.{part_reading}
-use Rattle.rules.specs.Laws.Choices.{and_both, or_neither, if_then, if_else}
-use Rattle.rules.specs.Laws.Outcomes.{bind_got, bind_refused}
-use Rattle.rules.specs.Laws.Texts.{ends_le, sees_in, sees_end, sees_here, sees_or, sees_shift, run_stop}
+use Rattle.rules.proofs.Laws.Choices.{and_both, or_neither, if_then, if_else}
+use Rattle.rules.proofs.Laws.Outcomes.{bind_got, bind_refused}
+use Rattle.rules.proofs.Laws.Texts.{ends_le, sees_in, sees_end, sees_here, sees_or, sees_shift, run_stop}
 use Rattle.exponent_place.specs.TheWrongDigit.{first_digit}
 use Rattle.handed_back.specs.RefusedWith.{RefusedWith}
 use Rattle.handed_back.specs.AStepRefuses.{due}

@@ -6,11 +6,11 @@ use Rattle.rules.specs.declared.Refusal.{Refusal}
 use Rattle.rules.specs.declared.Refusal.TheVariants.{TableSize, BadRow, WrongIndex, Beyond}
 use Rattle.rules.specs.NumbersHandedBack.{got, refused, ◌>>◌, unless}
 use Rattle.rules.specs.SettingsAndUnitTable.{settings_check, row_size, rows, table_check}
-use Rattle.rules.specs.Laws.Choices.{and_left, and_right}
-use Rattle.rules.specs.Laws.Outcomes.{passed, passed_both, unless_got}
+use Rattle.rules.proofs.Laws.Choices.{and_left, and_right}
+use Rattle.rules.proofs.Laws.Outcomes.{passed, passed_both, unless_got}
 use Rattle.card.specs.Laws.Accepted.{units_good}
 use Rattle.index.specs.TheSortedIndex.{table_right, making, checking, with_row, may_replace, replacing}
-use Rattle.index.specs.Laws.Right.{Own, Right, index_accepts}
+use Rattle.index.proofs.Laws.Right.{Own, Right, index_accepts}
 use Rattle.sorted.specs.Replacing.{passes_got, units_own}
 
 -- the names of an accepted table are different

@@ -8,10 +8,10 @@ use Rattle.rules.specs.declared.Refusal.TheVariants.{TableSize, BadRow, LineSize
 use Rattle.rules.specs.NumbersHandedBack.{Outcome, got, refused, ◌>>◌, unless}
 use Rattle.rules.specs.SettingsAndUnitTable.{settings_check, most_rows, rows, rows_in, whole_rows_in, rows_check, units_check_in, table_check, line_check, numerals_check, numerals_check_in, card_check}
 use Rattle.rules.specs.SettingsAsWords.{settings_of, card_of}
-use Rattle.rules.specs.Laws.Outcomes.{passed_both}
+use Rattle.rules.proofs.Laws.Outcomes.{passed_both}
 use Rattle.card.specs.Laws.Accepted.{UnitsGood, units_good, units_accepted, card_hall, card_line}
 use Rattle.index.specs.TheSortedIndex.{index_check, table_right, checking, Indexed, indexed_check}
-use Rattle.index.specs.Laws.Right.{Right, index_accepts}
+use Rattle.index.proofs.Laws.Right.{Right, index_accepts}
 
 -- ---- a card without some of its tables
 

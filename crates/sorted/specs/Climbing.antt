@@ -6,18 +6,18 @@ use Rattle.rules.specs.declared.Settings.{Settings}
 use Rattle.rules.specs.declared.Refusal.{Refusal}
 use Rattle.rules.specs.declared.Refusal.TheVariants.{TableSize, BadRow}
 use Rattle.rules.specs.NumbersHandedBack.{got}
-use Rattle.rules.specs.Laws.Choices.{and_left, and_right}
+use Rattle.rules.proofs.Laws.Choices.{and_left, and_right}
 use Rattle.rules.specs.SettingsAndUnitTable.{most_rows, row_size, rows, row, name, named, named_in, whole_rows_in, row_accepted}
-use Rattle.rules.specs.Laws.Outcomes.{passed}
-use Rattle.rules.specs.Laws.RowsCheck.{rows_good}
+use Rattle.rules.proofs.Laws.Outcomes.{passed}
+use Rattle.rules.proofs.Laws.RowsCheck.{rows_good}
 use Rattle.rows.specs.Laws.Lookup.{not_same}
 use Rattle.card.specs.declared.row.RowRule.{RowRule}
 use Rattle.card.specs.Fields.{alone, ruled, tested, tabled}
 use Rattle.card.specs.Laws.Table.{ruled_alone}
 use Rattle.card.specs.Laws.Accepted.{UnitsGood}
 use Rattle.index.specs.TheSortedIndex.{before}
-use Rattle.index.specs.Laws.Order.{before_trans}
-use Rattle.index.specs.Laws.Right.{entry, entry_name, Right, Rising, Own, rising_own, rising_right, different}
+use Rattle.index.proofs.Laws.Order.{before_trans}
+use Rattle.index.proofs.Laws.Right.{entry, entry_name, Right, Rising, Own, rising_own, rising_right, different}
 
 -- the first k entries: numbers of rows, and names that rise
 pub record Climbing (table index : List ℕ) (k : ℕ) : Type 0 where

@@ -6,7 +6,7 @@ use Rattle.rules.specs.NumbersHandedBack.{Outcome, got, refused, ◌>>◌, unles
 use Rattle.rules.specs.SettingsAndUnitTable.{rows, rows_check}
 use Rattle.card.specs.Laws.Table.{first_bad, check_bad, check_good}
 use Rattle.index.specs.TheSortedIndex.{count, entry_right, index_check}
-use Rattle.index.specs.Laws.Counts.{count_passed, count_failed}
+use Rattle.index.proofs.Laws.Counts.{count_passed, count_failed}
 use Rattle.sorted.specs.declared.true_order.IndexFound.{IndexFound}
 use Rattle.sorted.specs.declared.true_order.IndexFound.TheVariants.{Right, Wrong}
 

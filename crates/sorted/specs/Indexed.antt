@@ -4,9 +4,9 @@ use Rattle.std.proofs.Common.{inr}
 use Rattle.rules.specs.declared.Refusal.TheVariants.{WrongIndex, WrongLineIndex}
 use Rattle.rules.specs.NumbersHandedBack.{got}
 use Rattle.rules.specs.SettingsAndUnitTable.{card_check}
-use Rattle.rules.specs.Laws.Outcomes.{passed_both}
+use Rattle.rules.proofs.Laws.Outcomes.{passed_both}
 use Rattle.index.specs.TheSortedIndex.{index_check, Indexed, indexed_check}
-use Rattle.index.specs.Laws.Right.{Right, index_accepts}
+use Rattle.index.proofs.Laws.Right.{Right, index_accepts}
 use Rattle.lookup.specs.Searching.{Beside}
 
 module _ (c : Indexed) (good : indexed_check c ≡ got tt) where

@@ -11,13 +11,13 @@ use Rattle.std.proofs.Math.Seq.{get_or-take, get_or-drop}
 use borrow.Author.Tests.{ltb-true, ltb-false, eqb-true}
 use Rattle.rules.specs.Common.{all, between}
 use Rattle.rules.specs.SettingsAndUnitTable.{name_room, name_at, row_size, name_size, name, after_name_in, low_first}
-use Rattle.rules.specs.Laws.Choices.{and_right}
-use Rattle.rules.specs.Laws.Lists.{Bytes, all_index}
+use Rattle.rules.proofs.Laws.Choices.{and_right}
+use Rattle.rules.proofs.Laws.Lists.{Bytes, all_index}
 use Rattle.words.specs.LowFirst.{bytes_part}
 use Rattle.rows.specs.Named.{padded}
 use Rattle.rows.specs.Laws.Rooms.{low_first_only, size_most, name_bytes}
 use Rattle.index.specs.TheSortedIndex.{order, is_before, before}
-use Rattle.index.specs.Laws.Order.{before_less, before_further}
+use Rattle.index.proofs.Laws.Order.{before_less, before_further}
 
 -- ---- names, and nothing behind them
 

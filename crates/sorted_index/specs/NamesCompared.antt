@@ -7,11 +7,11 @@ use Rattle.rules.specs.declared.Found.TheVariants.{Row, Nowhere}
 use Rattle.rules.specs.declared.Refusal.TheVariants.{WrongIndex, WrongLineIndex}
 use Rattle.rules.specs.NumbersHandedBack.{got}
 use Rattle.rules.specs.SettingsAndUnitTable.{most_rows, rows, lookup, stands, card_check}
-use Rattle.rules.specs.Laws.Outcomes.{passed_both}
+use Rattle.rules.proofs.Laws.Outcomes.{passed_both}
 use Rattle.card.specs.Laws.Accepted.{card_hall, card_line}
 use Rattle.index.specs.TheSortedIndex.{index_check, row_search, index_search, behind, compared_in_both, Indexed, indexed_check, found_in, looked_up, lookup_answer, indexed_lookup_answer}
-use Rattle.index.specs.Laws.Right.{index_accepts}
-use Rattle.index.specs.Laws.Searches.{row_search_finds, row_search_most, index_search_finds, index_search_most, index_search_halves}
+use Rattle.index.proofs.Laws.Right.{index_accepts}
+use Rattle.index.proofs.Laws.Searches.{row_search_finds, row_search_most, index_search_finds, index_search_most, index_search_halves}
 
 -- ---- one table: at most as many names as rows, and with fewer than 2 ^ k rows at most k of them
 

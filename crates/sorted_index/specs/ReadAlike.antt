@@ -11,7 +11,7 @@ use Rattle.rules.specs.NumbersHandedBack.{Outcome, got, refused, ◌>>◌, unles
 use Rattle.rules.specs.SettingsAndUnitTable.{card_check, rows, rows_check}
 use Rattle.rules.specs.WriterAndShiftTotal.{record_after}
 use Rattle.rules.specs.WhatEveryEntryOwes.{read_part, part_answer, read_total, total_answer, add_total, shift_answer, shifted_record}
-use Rattle.rules.specs.Laws.Outcomes.{Refused, not_refused, refused_by, refused_if, refused_then, refused_unless}
+use Rattle.rules.proofs.Laws.Outcomes.{Refused, not_refused, refused_by, refused_if, refused_then, refused_unless}
 use Rattle.index.specs.TheSortedIndex.{entry_right, index_check, Indexed, indexed_check, indexed_part_answer, indexed_total_answer, indexed_shift_answer, indexed_shifted_record}
 
 module _ (c : Indexed) (good : indexed_check c ≡ got tt) where

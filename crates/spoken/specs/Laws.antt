@@ -11,9 +11,9 @@ use Rattle.rules.specs.declared.Refusal.TheVariants.{OutOfRange}
 use Rattle.rules.specs.NumbersHandedBack.{Outcome, got, refused, ◌>>=◌, ◌>>◌, unless}
 use Rattle.rules.specs.SettingsAndUnitTable.{times, in_range}
 use Rattle.rules.specs.Evaluation.{multiplied, spoken_multiplier}
-use Rattle.rules.specs.Laws.Outcomes.{Refused, not_refused, refused_then, refused_bind, refused_unless}
-use Rattle.rules.specs.Laws.Powers.{net}
-use Rattle.rules.specs.Laws.Tests.{same_test}
+use Rattle.rules.proofs.Laws.Outcomes.{Refused, not_refused, refused_then, refused_bind, refused_unless}
+use Rattle.rules.proofs.Laws.Powers.{net}
+use Rattle.rules.proofs.Laws.Tests.{same_test}
 use Rattle.spoken.specs.Products.{handed_on, no_product, product, spoken_product}
 
 -- ---- powers taken off each other

@@ -20,7 +20,7 @@ use Rattle.rules.specs.ReadingOnePart.{in_stretch, find_unit, unit_found, unit_s
 use Rattle.rules.specs.Evaluation.{evaluated, part_reading, parts, total}
 use Rattle.rules.specs.WhatEveryEntryOwes.{read_part, part_answer, read_total, total_answer, add_total, shift_answer, shifted_record}
 use Rattle.rules.specs.CardAAndItsReadings.{unspoken}
-use Rattle.rules.specs.Laws.Outcomes.{bind_assoc}
+use Rattle.rules.proofs.Laws.Outcomes.{bind_assoc}
 use Rattle.rows.specs.Laws.Rows.{length_row}
 use Rattle.rows.specs.Laws.Lookup.{lookup_found}
 use Rattle.spoken_numbers.specs.TheReadingBefore as before

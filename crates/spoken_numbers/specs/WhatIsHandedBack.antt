@@ -9,8 +9,8 @@ use Rattle.rules.specs.NumbersHandedBack.{number, position}
 use Rattle.rules.specs.SettingsAndUnitTable.{Card}
 use Rattle.rules.specs.Evaluation.{part_reading}
 use Rattle.rules.specs.WhatEveryEntryOwes.{part_answer, total_answer, shift_answer}
-use Rattle.rules.specs.Laws.Outcomes.{the_cause}
-use Rattle.rules.specs.Laws.Refusals.{among}
+use Rattle.rules.proofs.Laws.Outcomes.{the_cause}
+use Rattle.rules.proofs.Laws.Refusals.{among}
 use Rattle.handed_back.specs.RefusedWith.{RefusedWith, refused_at}
 use Rattle.handed_back.specs.BehindTheChecks as handed
 use Rattle.handed_back.specs.BehindTheChecks.{of_the_text, InPart, InTotal, InShift}

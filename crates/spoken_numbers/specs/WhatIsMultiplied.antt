@@ -12,8 +12,8 @@ use Rattle.rules.specs.declared.SpokenUnit.{SpokenUnit}
 use Rattle.rules.specs.Common.{ascii}
 use Rattle.rules.specs.SettingsAndUnitTable.{kind_multiplier, row, kind, row_multiplier, Card}
 use Rattle.rules.specs.ReadingOnePart.{says, sign_step, negated, ago_step, find_unit, spoken_unit_found, spoken_unit_step, infinite_part, finite_part, spoken_part, unsigned_part, part}
-use Rattle.rules.specs.Laws.Choices.{and_left}
-use Rattle.rules.specs.Laws.Outcomes.{All, all_got, all_refused, all_if, all_bind, itself, always}
+use Rattle.rules.proofs.Laws.Choices.{and_left}
+use Rattle.rules.proofs.Laws.Outcomes.{All, all_got, all_refused, all_if, all_bind, itself, always}
 use Rattle.spoken_numbers.specs.WhenNoUnitFollows.{NumeralAsked, NumeralAt, numeral_got}
 
 -- the row as it is, or negated by an `ago` that stands in the text

@@ -17,10 +17,10 @@ use Rattle.rules.specs.NumbersHandedBack.{got, refused, ◌>>=◌, ◌>>◌, num
 use Rattle.rules.specs.SettingsAndUnitTable.{row, kind, times, in_range, Card}
 use Rattle.rules.specs.ReadingOnePart.{part}
 use Rattle.rules.specs.Evaluation.{multiplied, spoken_multiplier, evaluate_spoken, evaluated, part_reading}
-use Rattle.rules.specs.Laws.Choices.{and_either}
-use Rattle.rules.specs.Laws.Outcomes.{All, all_got, all_refused, all_of, bind_got, bind_refused, Refused, not_refused, the_cause, refused_map, refused_bind, refused_then, refused_unless}
-use Rattle.rules.specs.Laws.Refusals.{among, by_one, allowed_by}
-use Rattle.rules.specs.Laws.Tests.{and_false}
+use Rattle.rules.proofs.Laws.Choices.{and_either}
+use Rattle.rules.proofs.Laws.Outcomes.{All, all_got, all_refused, all_of, bind_got, bind_refused, Refused, not_refused, the_cause, refused_map, refused_bind, refused_then, refused_unless}
+use Rattle.rules.proofs.Laws.Refusals.{among, by_one, allowed_by}
+use Rattle.rules.proofs.Laws.Tests.{and_false}
 use Rattle.spoken_numbers.specs.WhenNoUnitFollows.{Why, otherwise, no_unit, part_why}
 
 -- ---- in numbers

@@ -18,8 +18,8 @@ use Rattle.rules.specs.NumbersHandedBack.{Outcome, got, refused, ◌>>=◌, posi
 use Rattle.rules.specs.SettingsAndUnitTable.{DIGIT, POINT, is, holds, Card, lookup, row, row_multiplier}
 use Rattle.rules.specs.ReadingOnePart.{says, delimiters, sign_step, ago_step, find_unit, numeral_end, numeral_found, numeral_step, spoken_unit_found, spoken_unit_step, part}
 use Rattle.rules.specs.Evaluation.{evaluated, part_reading}
-use Rattle.rules.specs.Laws.Outcomes.{All, all_got, all_refused, all_of, all_if, all_bind, Refused, not_refused, refused_by, the_cause, refused_map, refused_bind}
-use Rattle.rules.specs.Laws.Refusals.{among, By, by_passing, by_one, sign_by, number_by, exponent_by, gap_by, unit_by, infinity_by, ago_by, connection_by, numeral_by, evaluated_by, allowed_by}
+use Rattle.rules.proofs.Laws.Outcomes.{All, all_got, all_refused, all_of, all_if, all_bind, Refused, not_refused, refused_by, the_cause, refused_map, refused_bind}
+use Rattle.rules.proofs.Laws.Refusals.{among, By, by_passing, by_one, sign_by, number_by, exponent_by, gap_by, unit_by, infinity_by, ago_by, connection_by, numeral_by, evaluated_by, allowed_by}
 use Rattle.handed_back.specs.TheStepsOfAPart.{Step, does, Comes, sign, number, exponent, before_a_unit, unit, infinity, numeral, spoken_unit, connection, begins, to_numeral, to_spoken_unit}
 use Rattle.handed_back.specs.AStepRefuses.{part_told, due}
 

@@ -6,8 +6,8 @@ use Rattle.std.specs.Int.Bits.{bit_or}
 use Rattle.rules.specs.Common.{if◌then◌else◌, between}
 use Rattle.rules.specs.SettingsAndUnitTable.{SIGN, POINT, LETTER, class, is, lower}
 use Rattle.rules.specs.ReadingOnePart.{same_letter}
-use Rattle.rules.specs.Laws.Choices.{and_left, and_right}
-use Rattle.rules.specs.Laws.Lists.{runs_below}
+use Rattle.rules.proofs.Laws.Choices.{and_left, and_right}
+use Rattle.rules.proofs.Laws.Lists.{runs_below}
 use Rattle.settings.specs.Laws.Sets.{runs, agree}
 
 pub sign_byte : (b : ℕ) → b < 256 → is SIGN b ≡ (eqb b 43 || eqb b 45)

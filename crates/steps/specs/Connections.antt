@@ -14,8 +14,8 @@ use Rattle.rules.specs.Common.{if◌then◌else◌, all, ends, sees}
 use Rattle.rules.specs.NumbersHandedBack.{got, refused}
 use Rattle.rules.specs.SettingsAndUnitTable.{LETTER, is, most_conjunctions, is_next_duration, holds, letters_of, conjunctions_of, conjunction_accepted, settings_check}
 use Rattle.rules.specs.ReadingOnePart.{says, delimiters, conjunction_size, after_conjunction, conjunction_step, connection}
-use Rattle.rules.specs.Laws.Outcomes.{bind_got, bind_refused}
-use Rattle.rules.specs.Laws.Texts.{sees_here}
+use Rattle.rules.proofs.Laws.Outcomes.{bind_got, bind_refused}
+use Rattle.rules.proofs.Laws.Texts.{sees_here}
 use Rattle.settings.specs.Laws.Accepted.{conjunction_good, conjunction_letters}
 use Rattle.settings.specs.Conjunctions.{conjunctions_listed}
 

@@ -10,9 +10,9 @@ use Rattle.rules.specs.Common.{if◌then◌else◌, ends, sees, run}
 use Rattle.rules.specs.NumbersHandedBack.{got, refused}
 use Rattle.rules.specs.SettingsAndUnitTable.{holds}
 use Rattle.rules.specs.ReadingOnePart.{delimiters, gap}
-use Rattle.rules.specs.Laws.Outcomes.{all_got, all_refused, all_if, all_of}
-use Rattle.rules.specs.Laws.Tests.{and_false}
-use Rattle.rules.specs.Laws.Texts.{sees_in, run_more, run_past, run_stop, run_within}
+use Rattle.rules.proofs.Laws.Outcomes.{all_got, all_refused, all_if, all_of}
+use Rattle.rules.proofs.Laws.Tests.{and_false}
+use Rattle.rules.proofs.Laws.Texts.{sees_in, run_more, run_past, run_stop, run_within}
 use Rattle.value.specs.Digits.{run_same}
 use Rattle.settings.specs.Sets.{passes}
 

@@ -14,7 +14,7 @@ use Rattle.rules.specs.Common.{if◌then◌else◌, ends, sees}
 use Rattle.rules.specs.NumbersHandedBack.{Outcome, got, refused}
 use Rattle.rules.specs.SettingsAndUnitTable.{DIGIT, SIGN, is}
 use Rattle.rules.specs.ReadingOnePart.{same_letter, exponent_limit, exponent_passed, exponent_digits, exponent_number, exponent_step}
-use Rattle.rules.specs.Laws.Texts.{sees_here, sees_end}
+use Rattle.rules.proofs.Laws.Texts.{sees_here, sees_end}
 use Rattle.steps.specs.Signs.{sign_at}
 
 pub limit_small : (negative : Bool) → exponent_limit negative ≤ 32768

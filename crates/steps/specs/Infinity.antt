@@ -11,7 +11,7 @@ use Rattle.rules.specs.Common.{if◌then◌else◌, ascii, ends, sees}
 use Rattle.rules.specs.NumbersHandedBack.{Outcome, got, refused, ◌>>=◌}
 use Rattle.rules.specs.SettingsAndUnitTable.{holds}
 use Rattle.rules.specs.ReadingOnePart.{same_letter, connection, closes_infinity, letters_step, infinity_closed, infinity_step}
-use Rattle.rules.specs.Laws.Outcomes.{bind_got, bind_refused}
+use Rattle.rules.proofs.Laws.Outcomes.{bind_got, bind_refused}
 use Rattle.steps.specs.Joined.{then_joined, if_joined}
 use Rattle.steps.specs.Letters.{matching}
 

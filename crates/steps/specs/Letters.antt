@@ -9,7 +9,7 @@ use Rattle.std.proofs.Math.Seq.{drop-cons}
 use Rattle.rules.specs.Common.{if◌then◌else◌}
 use Rattle.rules.specs.SettingsAndUnitTable.{low_bytes}
 use Rattle.rules.specs.ReadingOnePart.{same_letter, prefix, says}
-use Rattle.rules.specs.Laws.Tests.{eqb_iff}
+use Rattle.rules.proofs.Laws.Tests.{eqb_iff}
 
 -- how many letters of the word the rest of the text begins with
 unfoldable pub matching : List ℕ → List ℕ → ℕ

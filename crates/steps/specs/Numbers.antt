@@ -11,8 +11,8 @@ use Rattle.rules.specs.Common.{if◌then◌else◌, sees, run}
 use Rattle.rules.specs.NumbersHandedBack.{got, refused}
 use Rattle.rules.specs.SettingsAndUnitTable.{DIGIT, POINT, is}
 use Rattle.rules.specs.ReadingOnePart.{fraction_step, number_step}
-use Rattle.rules.specs.Laws.Tests.{or_true}
-use Rattle.rules.specs.Laws.Texts.{run_from}
+use Rattle.rules.proofs.Laws.Tests.{or_true}
+use Rattle.rules.proofs.Laws.Texts.{run_from}
 use Rattle.steps.specs.Delimiters.{sees_run, sees_none}
 
 module _ (s : Settings) (text : List ℕ) (any_whole : Bool) (whole : Whole) (place : ℕ) where

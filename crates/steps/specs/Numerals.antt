@@ -18,8 +18,8 @@ use Rattle.rules.specs.Common.{if◌then◌else◌, starts, sees, run}
 use Rattle.rules.specs.NumbersHandedBack.{Outcome, got, refused, ◌>>=◌}
 use Rattle.rules.specs.SettingsAndUnitTable.{LETTER, is, holds, Card, rows, rows_in, row, row_multiplier, lookup_from_in, lookup, lookup_in}
 use Rattle.rules.specs.ReadingOnePart.{delimiters, numeral_end, numeral_found, numeral_step}
-use Rattle.rules.specs.Laws.Outcomes.{All, all_got, all_refused, all_if, all_bind, always, bind_got, bind_refused}
-use Rattle.rules.specs.Laws.Texts.{sees_here, sees_end, run_from, run_ends}
+use Rattle.rules.proofs.Laws.Outcomes.{All, all_got, all_refused, all_if, all_bind, always, bind_got, bind_refused}
+use Rattle.rules.proofs.Laws.Texts.{sees_here, sees_end, run_from, run_ends}
 use Rattle.rows.specs.Named.{Padded}
 use Rattle.rows.specs.Laws.Lookup.{lookup_found}
 use Rattle.settings.specs.declared.sets.AsciiSet.{AsciiSet}

@@ -12,9 +12,9 @@ use Rattle.rules.specs.Common.{if◌then◌else◌, between, ends, sees}
 use Rattle.rules.specs.NumbersHandedBack.{got, refused}
 use Rattle.rules.specs.SettingsAndUnitTable.{SIGN, class, is}
 use Rattle.rules.specs.ReadingOnePart.{gap, sign_step}
-use Rattle.rules.specs.Laws.Outcomes.{bind_got, bind_refused}
-use Rattle.rules.specs.Laws.Tests.{eqb_sym}
-use Rattle.rules.specs.Laws.Texts.{sees_here, sees_end}
+use Rattle.rules.proofs.Laws.Outcomes.{bind_got, bind_refused}
+use Rattle.rules.proofs.Laws.Tests.{eqb_sym}
+use Rattle.rules.proofs.Laws.Texts.{sees_here, sees_end}
 
 -- ---- the sign, if there is one: minus or not, and the place after it
 

@@ -5,7 +5,7 @@ use Rattle.std.proofs.Common.{◌∙◌}
 use Rattle.rules.specs.declared.Number.{Number}
 use Rattle.rules.specs.declared.Refusal.{Refusal}
 use Rattle.rules.specs.NumbersHandedBack.{Outcome, got, refused, ◌>>=◌}
-use Rattle.rules.specs.Laws.Outcomes.{bind_got, bind_refused, made_got, made_refused}
+use Rattle.rules.proofs.Laws.Outcomes.{bind_got, bind_refused, made_got, made_refused}
 use Rattle.value.specs.Sums.{sum_of}
 use Rattle.steps.specs.declared.number.SummedNumber.{SummedNumber}
 

@@ -9,12 +9,12 @@ use Rattle.std.proofs.Math.Seq.{append_snoc, take_at, get_or_at}
 use borrow.Author.Tests.{lt-ltb, le-ltb, ltb-true, eq-eqb, eqb-true}
 use Rattle.rules.specs.Common.{if◌then◌else◌, between, all}
 use Rattle.rules.specs.SettingsAndUnitTable.{row_size_in, hexadecimal, two_digits, stored}
-use Rattle.rules.specs.Laws.Choices.{if_either, and_left, and_right, all_first, all_others}
-use Rattle.rules.specs.Laws.Tables.{listed, entry}
+use Rattle.rules.proofs.Laws.Choices.{if_either, and_left, and_right, all_first, all_others}
+use Rattle.rules.proofs.Laws.Tables.{listed, entry}
 use Rattle.stored.specs.Lines.{digits_size_in, line_size_in, digits_size, digit_value, spells, paired, line_accepted_in, restored_in, stores, line_after, restores, row_after}
-use Rattle.rules.specs.Laws.Lists.{Bytes}
-use Rattle.rules.specs.Laws.Tests.{between_from, between_to, between_in, between_above}
-use Rattle.rules.specs.Laws.Lists.{all_index}
+use Rattle.rules.proofs.Laws.Lists.{Bytes}
+use Rattle.rules.proofs.Laws.Tests.{between_from, between_to, between_in, between_above}
+use Rattle.rules.proofs.Laws.Lists.{all_index}
 
 -- ---- one more element at the end of what is written
 

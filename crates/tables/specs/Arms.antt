@@ -2,7 +2,7 @@
 use Rattle.std.specs.Prelude.{◌≡◌, refl, Bool, true, false, ◌||◌, ℕ, zero, suc, ◌+◌, ◌-◌, ◌≤◌, ◌<◌, eqb}
 use Rattle.std.proofs.Common.{arith, eqb-true}
 use Rattle.rules.specs.Common.{runs}
-use Rattle.rules.specs.Laws.Lists.{runs_at}
+use Rattle.rules.proofs.Laws.Lists.{runs_at}
 
 -- after arms for 0 to n - 1: x is none of these
 abbrev pub Passed : ℕ → ℕ → Type 0

@@ -9,8 +9,8 @@ use Rattle.std.proofs.Math.Seq.{slice, slice_empty, slice-cons, take-nil, drop-n
 use Rattle.rules.specs.Common.{if◌then◌else◌, between, all, front, run}
 use Rattle.rules.specs.SettingsAndUnitTable.{DIGIT, class, is}
 use Rattle.rules.specs.Evaluation.{spelled}
-use Rattle.rules.specs.Laws.Choices.{and_left, and_right, and_both, if_either, all_first, all_others}
-use Rattle.rules.specs.Laws.Texts.{sees_here, sees_end, run_more, run_stop, run_from, run_within, slice_shift}
+use Rattle.rules.proofs.Laws.Choices.{and_left, and_right, and_both, if_either, all_first, all_others}
+use Rattle.rules.proofs.Laws.Texts.{sees_here, sees_end, run_more, run_stop, run_from, run_within, slice_shift}
 use Rattle.value.specs.Numbers.{summed, Counts, typed, spoken, counted}
 
 -- ---- powers of ten

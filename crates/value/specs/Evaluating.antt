@@ -7,8 +7,8 @@ use Rattle.rules.specs.declared.DurationRepr.{DurationRepr}
 use Rattle.rules.specs.Common.{if◌then◌else◌}
 use Rattle.rules.specs.ThePartOfTheCrateWeTake.{zero_length, largest}
 use Rattle.rules.specs.Evaluation.{digits_of, up, down, attos, nanos, length_of, evaluate, worth}
-use Rattle.rules.specs.Laws.Apart.{none, nanos_none}
-use Rattle.rules.specs.Laws.Lengths.{limit, size_clamped}
+use Rattle.rules.proofs.Laws.Apart.{none, nanos_none}
+use Rattle.rules.proofs.Laws.Lengths.{limit, size_clamped}
 use Rattle.value.specs.declared.number.Shifted.TheVariants as shifted
 use Rattle.value.specs.Numbers.{summed, Spans, counted, counted_attos, attos_of, evaluate_counted, shifted_of}
 use Rattle.value.specs.Digits.{counted_summed}

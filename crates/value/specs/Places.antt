@@ -17,8 +17,8 @@ use Rattle.rules.specs.declared.Fract.{Fract}
 use Rattle.rules.specs.Common.{if◌then◌else◌, all, run}
 use Rattle.rules.specs.SettingsAndUnitTable.{DIGIT, is}
 use Rattle.rules.specs.Evaluation.{spelled, digits_of, attos}
-use Rattle.rules.specs.Laws.Choices.{all_append}
-use Rattle.rules.specs.Laws.Texts.{run_from, run_within}
+use Rattle.rules.proofs.Laws.Choices.{all_append}
+use Rattle.rules.proofs.Laws.Texts.{run_from, run_within}
 use Rattle.value.specs.declared.digits.Word.{Word}
 use Rattle.value.specs.declared.digits.Word.TheVariants.{Fits, TooLarge}
 use Rattle.value.specs.declared.digits.Taken.{Taken}

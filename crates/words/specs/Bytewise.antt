@@ -6,9 +6,9 @@ use Rattle.std.proofs.lemmas.Nat.{and_block, or_block, xor_block, and_le_r, or_l
 use Rattle.std.proofs.lemmas.Nat.Bits.{and_high}
 use Rattle.rules.specs.Common.{if◌then◌else◌, all, between}
 use Rattle.rules.specs.SettingsAndUnitTable.{LETTER, class, is, low_first}
-use Rattle.rules.specs.Laws.Choices.{and_both}
-use Rattle.rules.specs.Laws.Lists.{Bytes}
-use Rattle.rules.specs.Laws.Tables.{listed, entry}
+use Rattle.rules.proofs.Laws.Choices.{and_both}
+use Rattle.rules.proofs.Laws.Lists.{Bytes}
+use Rattle.rules.proofs.Laws.Tables.{listed, entry}
 
 -- so many bytes that are all the same, as a number
 unfoldable pub repeated : ℕ → ℕ → ℕ

@@ -7,7 +7,7 @@ use Rattle.std.proofs.Math.Nat.{add-zero, sub-zero, div-eq_of_lt, div-div-eq-div
 use native.Mathlib.Omega.{arith}
 use Rattle.std.proofs.Math.ListN.{take, drop}
 use Rattle.rules.specs.Common.{if◌then◌else◌}
-use Rattle.rules.specs.Laws.Choices.{if_either}
+use Rattle.rules.proofs.Laws.Choices.{if_either}
 use Rattle.rules.specs.WriterAndShiftTotal.{decimals, no_leading_zeros, before_zeros, no_trailing_zeros, whole_digits}
 use Rattle.writing.specs.Laid.{laid}
 

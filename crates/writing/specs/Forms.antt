@@ -14,8 +14,8 @@ use Rattle.rules.specs.NumbersHandedBack.{◌>>◌, unless, done, refusal, answe
 use Rattle.rules.specs.ThePartOfTheCrateWeTake.{well_formed}
 use Rattle.rules.specs.WriterAndShiftTotal.{decimals, sign_byte, before_zeros, no_trailing_zeros, whole_digits, fraction_digits, written_fraction, written, writing, buffer_after}
 use Rattle.rules.specs.WhatEveryEntryOwes.{write_answer, written_buffer}
-use Rattle.rules.specs.Laws.Choices.{if_either}
-use Rattle.rules.specs.Laws.Apart.{proper}
+use Rattle.rules.proofs.Laws.Choices.{if_either}
+use Rattle.rules.proofs.Laws.Apart.{proper}
 use Rattle.writing.specs.declared.digits.Decimal.{Decimal}
 use Rattle.writing.specs.Digits.{decimals_length, trailing_kept, trailing_dropped}
 use Rattle.writing.specs.Laid.{laid, laid_then, laid_on, laid_nothing}

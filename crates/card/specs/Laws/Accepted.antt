@@ -13,9 +13,9 @@ use Rattle.rules.specs.declared.Found.TheVariants.{Row, Nowhere}
 use Rattle.rules.specs.Common.{all, starts}
 use Rattle.rules.specs.NumbersHandedBack.{got, ◌>>◌, unless}
 use Rattle.rules.specs.SettingsAndUnitTable.{LETTER, is, settings_check, most_rows, row_size, rows, row, name, product, in_range, row_right, row_accepted, numeral_accepted, numeral_accepted_in, whole_rows_in, units_check, units_check_in, table_check, line_check, numerals_check, numerals_check_in, Card, card_check, lookup}
-use Rattle.rules.specs.Laws.Choices.{and_left, and_right, all_first}
-use Rattle.rules.specs.Laws.Outcomes.{passed, passed_both}
-use Rattle.rules.specs.Laws.RowsCheck.{rows_good, rows_all}
+use Rattle.rules.proofs.Laws.Choices.{and_left, and_right, all_first}
+use Rattle.rules.proofs.Laws.Outcomes.{passed, passed_both}
+use Rattle.rules.proofs.Laws.RowsCheck.{rows_good, rows_all}
 use Rattle.rows.specs.Laws.Lookup.{same_refl, lookup_here, past, unnamed}
 use Rattle.rows.specs.Laws.Rows.{length_row}
 use Rattle.rows.specs.Named.{Padded}

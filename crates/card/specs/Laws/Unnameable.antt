@@ -8,8 +8,8 @@ use Rattle.rules.specs.declared.Settings.{Settings}
 use Rattle.rules.specs.Common.{if◌then◌else◌, between}
 use Rattle.rules.specs.SettingsAndUnitTable.{DIGIT, SIGN, POINT, LETTER, may_delimit, may_name, class, is, word, holds, settings_check}
 use Rattle.rules.specs.NumbersHandedBack.{got}
-use Rattle.rules.specs.Laws.Choices.{and_left}
-use Rattle.rules.specs.Laws.Tests.{or_assoc}
+use Rattle.rules.proofs.Laws.Choices.{and_left}
+use Rattle.rules.proofs.Laws.Tests.{or_assoc}
 use Rattle.settings.specs.Sets.{passes}
 use Rattle.settings.specs.Laws.Sets.{runs, agree, either_holds, first_word}
 use Rattle.settings.specs.Laws.Accepted.{delimiter_class, inner_delimits, outer_delimits}

@@ -11,7 +11,7 @@ use Rattle.rows.specs.Laws.Lookup.{lookup_found}
 use Rattle.index.specs.declared.Searched.{Searched}
 use Rattle.index.specs.declared.LookedUp.{LookedUp}
 use Rattle.index.specs.TheSortedIndex.{row_search, index_search, behind, compared_in_both, found_in, looked_up}
-use Rattle.index.specs.Laws.Searches.{row_search_finds, row_search_most, index_search_finds, index_search_most}
+use Rattle.index.proofs.Laws.Searches.{row_search_finds, row_search_most, index_search_finds, index_search_most}
 use Rattle.lookup.specs.Searching.{Beside, Searchable, searched, held_at}
 
 -- which search is made

@@ -5,7 +5,7 @@ use native.Mathlib.Omega.{arith}
 use lib.ListN.{length}
 use borrow.Author.Rules.{rules}
 use Rattle.rules.specs.NumbersHandedBack.{done}
-use Rattle.moves.specs.Laws.Moves.{lines_refused, not_moved}
+use Rattle.moves.proofs.Laws.Moves.{lines_refused, not_moved}
 use Rattle.mover.specs.declared.checked.Lines.TheVariants.{Right, Wrong}
 use Rattle.mover.specs.Checked.{CheckedSo, too_short, long_enough, moved_so}
 use Rattle.mover.proofs.move_lines.Statement.{statement}

@@ -11,7 +11,7 @@ use Rattle.rules.specs.declared.Found.{Found}
 use Rattle.rules.specs.declared.Found.TheVariants.{Row, Nowhere}
 use Rattle.rules.specs.Common.{if◌then◌else◌, same}
 use Rattle.rules.specs.SettingsAndUnitTable.{row_size, rows, row, name, named, named_in, lookup_from, lookup_from_in, lookup, lookup_in, line_first, stands, held_row, find_row}
-use Rattle.rules.specs.Laws.Choices.{if_either, and_left, and_right, or_neither}
+use Rattle.rules.proofs.Laws.Choices.{if_either, and_left, and_right, or_neither}
 use Rattle.rows.specs.Named.{found_row, row_named}
 use Rattle.rows.specs.Laws.Rows.{length_row}
 

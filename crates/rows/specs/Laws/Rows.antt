@@ -11,9 +11,9 @@ use borrow.Author.Tests.{le-leb, lt-leb, leb-true, leb-false, ltb-true, lt-ltb}
 use Rattle.rules.specs.declared.Multiplier.{Multiplier}
 use Rattle.rules.specs.Common.{if◌then◌else◌, all}
 use Rattle.rules.specs.SettingsAndUnitTable.{coefficient_size, coefficient_field, power_size, row_size, name_room, rows, rows_in, row, row_in, name_size, name, kind, power_field, below_zero, magnitude, kind_coefficients, kind_downs, kind_multiplier, row_multiplier, row_multiplier_in, times, product, product_in, in_range}
-use Rattle.rules.specs.Laws.Choices.{if_either, and_left, and_right}
-use Rattle.rules.specs.Laws.Tests.{and_true, same_test}
-use Rattle.rules.specs.Laws.Lists.{all_at}
+use Rattle.rules.proofs.Laws.Choices.{if_either, and_left, and_right}
+use Rattle.rules.proofs.Laws.Tests.{and_true, same_test}
+use Rattle.rules.proofs.Laws.Lists.{all_at}
 use Rattle.rows.specs.Powers.{risen, fallen, Fitting}
 
 -- a row of the table lies in it whole

@@ -9,10 +9,10 @@ use Rattle.rules.specs.declared.Refusal.TheVariants.{Delimiters, Conjunctions, D
 use Rattle.rules.specs.Common.{between, all}
 use Rattle.rules.specs.NumbersHandedBack.{got}
 use Rattle.rules.specs.SettingsAndUnitTable.{LETTER, OTHER, class, letters_of, is, holds, may_delimit, delimits, delimiters_accepted, conjunction_accepted, conjunctions_accepted, conjunctions_of, most_conjunctions, most_letters, last_kind, settings_check}
-use Rattle.rules.specs.Laws.Choices.{and_left, and_right}
-use Rattle.rules.specs.Laws.Tests.{between_from, between_to}
-use Rattle.rules.specs.Laws.Outcomes.{passed, unless_got}
-use Rattle.rules.specs.Laws.Lists.{all_index, runs_below}
+use Rattle.rules.proofs.Laws.Choices.{and_left, and_right}
+use Rattle.rules.proofs.Laws.Tests.{between_from, between_to}
+use Rattle.rules.proofs.Laws.Outcomes.{passed, unless_got}
+use Rattle.rules.proofs.Laws.Lists.{all_index, runs_below}
 
 -- ---- settings
 

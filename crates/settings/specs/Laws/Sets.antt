@@ -17,9 +17,9 @@ use Rattle.rules.specs.declared.ByteSet.{ByteSet}
 use Rattle.rules.specs.Common.{if◌then◌else◌, between}
 unfoldable pub use Rattle.rules.specs.Common.{runs}
 use Rattle.rules.specs.SettingsAndUnitTable.{LETTER, class, is, word, holds, may_delimit, delimits, empty}
-use Rattle.rules.specs.Laws.Choices.{and_left, and_right}
-use Rattle.rules.specs.Laws.Lists.{runs_add, runs_at}
-use Rattle.rules.specs.Laws.Tests.{and_true, or_true, or_false, eqb_iff}
+use Rattle.rules.proofs.Laws.Choices.{and_left, and_right}
+use Rattle.rules.proofs.Laws.Lists.{runs_add, runs_at}
+use Rattle.rules.proofs.Laws.Tests.{and_true, or_true, or_false, eqb_iff}
 use Rattle.settings.specs.declared.sets.AsciiSet.{AsciiSet}
 use Rattle.settings.specs.Sets.{bytes_of, either, passes}
 

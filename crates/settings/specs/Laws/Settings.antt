@@ -5,7 +5,7 @@ use Rattle.rules.specs.declared.Conjunction.{Conjunction}
 use Rattle.rules.specs.declared.Settings.{Settings}
 use Rattle.rules.specs.Common.{all}
 use Rattle.rules.specs.SettingsAndUnitTable.{low_bytes, conjunctions_of}
-use Rattle.rules.specs.Laws.Lists.{all_from, all_done}
+use Rattle.rules.proofs.Laws.Lists.{all_from, all_done}
 use Rattle.settings.specs.Conjunctions.{conjunctions_listed}
 
 -- of the n low bytes: the lowest, and those above it

@@ -3,7 +3,7 @@ use mathlib.Core.Bool.{xor}
 use native.Mathlib.Omega.{arith}
 use borrow.Author.Rules.{rules}
 use Rattle.rules.specs.SettingsAndUnitTable.{times}
-use Rattle.rules.specs.Laws.Powers.{net}
+use Rattle.rules.proofs.Laws.Powers.{net}
 use Rattle.rows.specs.Laws.Rows.{in_range_bounds}
 use Rattle.spoken.proofs.times.Statement.{statement}
 use Rattle.spoken.proofs.times.Tie as tie

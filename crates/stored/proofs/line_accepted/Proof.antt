@@ -7,7 +7,7 @@ use native.Mathlib.Omega.{arith}
 use lib.Dec.{eqb}
 use lib.ListN.{length, get_or, length-take}
 use borrow.Author.Tests.{eq-eqb, ne_eqb}
-use Rattle.rules.specs.Laws.Tests.{and_false}
+use Rattle.rules.proofs.Laws.Tests.{and_false}
 use Rattle.stored.specs.Lines.{digits_size_in, line_size_in, line_accepted_in}
 use Rattle.stored.proofs.line_accepted.Statement.{statement}
 use Rattle.stored.proofs.line_accepted.Tie as tie

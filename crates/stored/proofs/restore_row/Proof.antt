@@ -7,7 +7,7 @@ use borrow.Author.Tests.{le-leb, lt-leb, not-true, not-false}
 use borrow.Author.Rules.{rules}
 use Rattle.rules.specs.Common.{if◌then◌else◌}
 use Rattle.rules.specs.SettingsAndUnitTable.{name_room, row_size}
-use Rattle.rules.specs.Laws.Tests.{and_false}
+use Rattle.rules.proofs.Laws.Tests.{and_false}
 use Rattle.stored.specs.Lines.{line_accepted, restores, row_after, restored_in}
 use Rattle.stored.specs.Laws.{row_kept, line_long, line_spelled}
 use Rattle.stored.proofs.restore_row.Statement.{statement}

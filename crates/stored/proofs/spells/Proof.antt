@@ -6,7 +6,7 @@ use native.Mathlib.Omega.{arith}
 use lib.ListN.{length, drop}
 use borrow.Author.Tests.{lt-ltb, le-ltb}
 use Rattle.rules.specs.Common.{all}
-use Rattle.rules.specs.Laws.Lists.{all_from, all_done}
+use Rattle.rules.proofs.Laws.Lists.{all_from, all_done}
 use Rattle.stored.specs.Lines.{spells}
 use Rattle.stored.proofs.spells.Statement.{statement}
 use Rattle.stored.proofs.spells.Tie as tie

@@ -8,7 +8,7 @@ use borrow.Author.Rules.{rules}
 use Rattle.rules.specs.SettingsAndUnitTable.{stored, two_digits}
 use Rattle.rules.specs.Common.{if◌then◌else◌}
 use Rattle.stored.specs.Laws.{line_kept, put_one, length_two_digits}
-use Rattle.rules.specs.Laws.Tests.{and_false}
+use Rattle.rules.proofs.Laws.Tests.{and_false}
 use Rattle.stored.specs.Lines.{stores, line_after}
 use Rattle.stored.proofs.store_row.Statement.{statement}
 use Rattle.stored.proofs.store_row.Tie as tie

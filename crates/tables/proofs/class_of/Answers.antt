@@ -11,7 +11,7 @@ use lib.ListN.{get_or}
 use borrow.Author.Tests.{ne_eqb}
 use Rattle.rules.specs.Common.{if◌then◌else◌, between, runs}
 use Rattle.rules.specs.SettingsAndUnitTable.{class}
-use Rattle.rules.specs.Laws.Tables.{listed, entry}
+use Rattle.rules.proofs.Laws.Tables.{listed, entry}
 use Rattle.tables.specs.Arms.{alike_but, alike}
 use Rattle.tables.specs.declared.TheConstants.{CLASSES}
 use Rattle.tables.proofs.class_of.Goals as goal

@@ -5,8 +5,8 @@ use Prim.Native.Nat.{◌≤◌, ◌-◌, zero-le}
 use native.Mathlib.Omega.{arith}
 use lib.ListN.{length, drop}
 use Rattle.rules.specs.Common.{all, between}
-use Rattle.rules.specs.Laws.Lists.{all_from, all_done}
-use Rattle.rules.specs.Laws.Tests.{between_in, between_above}
+use Rattle.rules.proofs.Laws.Lists.{all_from, all_done}
+use Rattle.rules.proofs.Laws.Tests.{between_in, between_above}
 use Rattle.card.proofs.row.ascii_name.Statement.{statement}
 use Rattle.card.proofs.row.ascii_name.Tie as tie
 

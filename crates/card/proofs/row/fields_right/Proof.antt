@@ -3,7 +3,7 @@ use Prim.Native.Nat.{zero-le}
 use borrow.Author.Rules.{rules}
 use borrow.Author.Tests.{not-true, not-false}
 use Rattle.rules.specs.SettingsAndUnitTable.{kind_in}
-use Rattle.rules.specs.Laws.Tests.{between_in, between_above}
+use Rattle.rules.proofs.Laws.Tests.{between_in, between_above}
 use Rattle.card.specs.Fields.{fields_right}
 use Rattle.card.proofs.row.fields_right.Statement.{statement}
 use Rattle.card.proofs.row.fields_right.Tie as tie

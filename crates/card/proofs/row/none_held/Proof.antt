@@ -6,7 +6,7 @@ use Prim.Native.Nat.{◌≤◌, ◌-◌}
 use native.Mathlib.Omega.{arith}
 use lib.ListN.{length, drop}
 use Rattle.rules.specs.Common.{all}
-use Rattle.rules.specs.Laws.Lists.{all_from, all_done}
+use Rattle.rules.proofs.Laws.Lists.{all_from, all_done}
 use Rattle.settings.specs.Sets.{bytes_of, passes}
 use Rattle.card.specs.Laws.Unnameable.{outside}
 use Rattle.card.proofs.row.none_held.Statement.{statement}

@@ -9,7 +9,7 @@ use borrow.Author.Tests.{eq-eqb, ne_eqb}
 use borrow.Author.Rules.{rules}
 use Rattle.rules.specs.Common.{all}
 use Rattle.rules.specs.SettingsAndUnitTable.{kind_at, name_size}
-use Rattle.rules.specs.Laws.Tests.{between_in, between_below, between_above}
+use Rattle.rules.proofs.Laws.Tests.{between_in, between_below, between_above}
 use Rattle.rows.specs.Named.{padded}
 use Rattle.rows.specs.Laws.Rooms.{word_of, zeros_behind, zeros_none}
 use Rattle.card.proofs.row.padded.Statement.{statement}

@@ -4,7 +4,7 @@ use Prim.Native.Nat.{zero-le}
 use borrow.Author.Rules.{rules}
 use borrow.Author.Tests.{not-false}
 use Rattle.rules.specs.SettingsAndUnitTable.{kind_in}
-use Rattle.rules.specs.Laws.Tests.{between_in}
+use Rattle.rules.proofs.Laws.Tests.{between_in}
 use Rattle.card.specs.Fields.{fields_right}
 use Rattle.card.proofs.row.simple.Statement.{statement}
 use Rattle.card.proofs.row.simple.Tie as tie

@@ -7,7 +7,7 @@ use borrow.Author.Rules.{rules}
 use borrow.Author.Tests.{not-true, not-false}
 use Rattle.rules.specs.Common.{sees, run}
 use Rattle.rules.specs.SettingsAndUnitTable.{DIGIT, is}
-use Rattle.rules.specs.Laws.Texts.{run_from, sees_in}
+use Rattle.rules.proofs.Laws.Texts.{run_from, sees_in}
 use Rattle.iso.specs.IsoTimings.{is_mark}
 use Rattle.iso_reader.specs.Steps.{number_outcome, number_none, number_whole, whole_within, mark_none, number_both, both_within}
 use Rattle.iso_reader.proofs.components.number.Statement.{statement}

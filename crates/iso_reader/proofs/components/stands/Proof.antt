@@ -3,7 +3,7 @@ use mathlib.Core.Path.{sym}
 use borrow.Author.Rules.{rules}
 use lib.Dec.{eqb}
 use Rattle.iso_reader.specs.Steps.{sees_byte}
-use Rattle.rules.specs.Laws.Texts.{sees_end}
+use Rattle.rules.proofs.Laws.Texts.{sees_end}
 use Rattle.iso_reader.proofs.components.stands.Statement.{statement}
 use Rattle.iso_reader.proofs.components.stands.Tie as tie
 

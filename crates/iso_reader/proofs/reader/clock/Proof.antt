@@ -7,7 +7,7 @@ use native.Mathlib.Nat.{le_trans, le-suc}
 use native.Mathlib.Omega.{arith}
 use borrow.Author.Rules.{rules}
 use lib.ListN.{drop}
-use Rattle.rules.specs.Laws.Outcomes.{bind_refused}
+use Rattle.rules.proofs.Laws.Outcomes.{bind_refused}
 use Rattle.iso.specs.IsoTimings.{wanted, closes, read_from}
 use Rattle.iso_reader.specs.Steps.{Lettered, component_of, component_outcome, found}
 use Rattle.iso_reader.specs.Sums.{Sized, summed, sized_clock, falls, sum_closes, sum_ends, sum_goes_on}

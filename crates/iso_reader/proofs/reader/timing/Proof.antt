@@ -3,7 +3,7 @@ use mathlib.Core.Path.{◌≡◌, sym, ap, ◌∙◌}
 use borrow.Author.Rules.{rules}
 use borrow.Author.Tests.{not-true, not-false}
 use lib.ListN.{drop}
-use Rattle.rules.specs.Laws.Outcomes.{bind_refused}
+use Rattle.rules.proofs.Laws.Outcomes.{bind_refused}
 use Rattle.iso.specs.IsoTimings.{date, read_from, components}
 use Rattle.iso_reader.specs.Steps.{component_outcome}
 use Rattle.iso_reader.specs.Sums.{valued, first_refused, first_is, date_clock, date_number, none_so_far}

@@ -5,7 +5,7 @@ use native.Mathlib.Nat.{le_trans}
 use borrow.Author.Rules.{rules}
 use lib.Seq.{slice}
 use Rattle.rules.specs.Evaluation.{spelled}
-use Rattle.iso.specs.Laws.Worth.{whole_worth}
+use Rattle.iso.proofs.Laws.Worth.{whole_worth}
 use Rattle.iso_reader.specs.Due.{due}
 use Rattle.iso_reader.proofs.reader.with_whole.Statement.{statement}
 use Rattle.iso_reader.proofs.reader.with_whole.Tie as tie

@@ -5,7 +5,7 @@ use native.Mathlib.Omega.{arith}
 use lib.Dec.{lit<, lit≤}
 use Rattle.rules.specs.Common.{between}
 use Rattle.rules.specs.SettingsAndUnitTable.{kind_coefficients}
-use Rattle.rules.specs.Laws.Tests.{between_from, between_to}
+use Rattle.rules.proofs.Laws.Tests.{between_from, between_to}
 use Rattle.iso.specs.IsoTimings.{seconds_of}
 use Rattle.iso_reader.proofs.worth.seconds_of.Statement.{statement}
 use Rattle.iso_reader.proofs.worth.seconds_of.Tie as tie

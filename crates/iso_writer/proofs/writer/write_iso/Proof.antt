@@ -8,7 +8,7 @@ use borrow.Author.Rules.{rules}
 use lib.ListN.{length}
 use Rattle.rules.specs.ThePartOfTheCrateWeTake.{well_formed}
 use Rattle.rules.specs.NumbersHandedBack.{done}
-use Rattle.rules.specs.Laws.Apart.{proper}
+use Rattle.rules.proofs.Laws.Apart.{proper}
 use Rattle.iso.specs.IsoTimings.{iso_written}
 use Rattle.writing.specs.Laid.{laid}
 use Rattle.iso_writer.specs.Forms.{form_length, write_malformed, write_negative, write_beyond, write_no_room, write_done}

@@ -1,6 +1,6 @@
 -- `lengths::duration::at_most` meets its contract: the seconds decide, and where they are the same the nanoseconds. Assumes nothing.
 use borrow.Author.Rules.{rules}
-use Rattle.rules.specs.Laws.Apart.{by_nanoseconds, by_seconds}
+use Rattle.rules.proofs.Laws.Apart.{by_nanoseconds, by_seconds}
 use Rattle.lengths.proofs.duration.at_most.Goals as goal
 
 pub returns-then-a-b : goal.returns-then-a-b

@@ -9,7 +9,7 @@ use lib.Dec.{lit<}
 use borrow.Author.Rules.{rules}
 use Rattle.rules.specs.Evaluation.{length_of}
 use Rattle.lengths.specs.Duration.{cut}
-use Rattle.rules.specs.Laws.Apart.{none, nanos_whole, nanos_one, nanos_none}
+use Rattle.rules.proofs.Laws.Apart.{none, nanos_whole, nanos_one, nanos_none}
 use Rattle.lengths.proofs.Fitting.{fits, passes, seconds_fit}
 use Rattle.lengths.proofs.Cuts.{seconds_clamped, cut_below, cut_apart}
 use Rattle.lengths.proofs.duration.calculate_duration.Goals as goal

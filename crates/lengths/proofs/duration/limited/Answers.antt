@@ -4,8 +4,8 @@ use mathlib.Core.Logic.{⊎_elim}
 use native.Mathlib.Omega.{arith}
 use borrow.Author.Rules.{rules}
 use Rattle.rules.specs.Evaluation.{length_of}
-use Rattle.rules.specs.Laws.Lengths.{size_clamped}
-use Rattle.rules.specs.Laws.Apart.{apart}
+use Rattle.rules.proofs.Laws.Lengths.{size_clamped}
+use Rattle.rules.proofs.Laws.Apart.{apart}
 use Rattle.lengths.proofs.duration.limited.Goals as goal
 use Rattle.lengths.proofs.duration.limited.Goals.{then-extra-seconds+else-nanoseconds-lt-NANOS_PER_SEC+else-sum-lt18446744073709551615, else-extra-seconds}
 

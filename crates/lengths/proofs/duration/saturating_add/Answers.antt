@@ -6,7 +6,7 @@ use native.Mathlib.Omega.{arith}
 use borrow.Author.Tests.{leb-true, leb-false}
 use Rattle.rules.specs.ThePartOfTheCrateWeTake.{size}
 use Rattle.rules.specs.Evaluation.{length_of}
-use Rattle.rules.specs.Laws.Apart.{proper, zero_plus, sum_alike, sum_first, sum_second}
+use Rattle.rules.proofs.Laws.Apart.{proper, zero_plus, sum_alike, sum_first, sum_second}
 use Rattle.lengths.proofs.duration.saturating_add.Goals as goal
 use Rattle.lengths.proofs.duration.saturating_add.Goals.{Start}
 

@@ -4,7 +4,7 @@ use mathlib.Core.Path.{sym, ◌∙◌, ap}
 use native.Mathlib.Omega.{arith}
 use borrow.Author.Rules.{rules}
 use Rattle.rules.specs.Evaluation.{length_of}
-use Rattle.rules.specs.Laws.Apart.{none, apart}
+use Rattle.rules.proofs.Laws.Apart.{none, apart}
 use Rattle.lengths.proofs.duration.signed.Goals as goal
 
 pub returns-then-nanoseconds-eq0 : goal.returns-then-nanoseconds-eq0

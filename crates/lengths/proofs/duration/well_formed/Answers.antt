@@ -1,7 +1,7 @@
 -- `lengths::duration::well_formed` meets its contract: the nanoseconds are below a second's, and a length that may be zero has no minus.
 -- Assumes nothing.
 use borrow.Author.Rules.{rules}
-use Rattle.rules.specs.Laws.Apart.{nanoseconds_over, plus_well_formed, seconds_well_formed, minus_well_formed}
+use Rattle.rules.proofs.Laws.Apart.{nanoseconds_over, plus_well_formed, seconds_well_formed, minus_well_formed}
 use Rattle.lengths.proofs.duration.well_formed.Goals as goal
 
 pub returns-then-l-ge-NANOS_PER_SEC : goal.returns-then-l-ge-NANOS_PER_SEC

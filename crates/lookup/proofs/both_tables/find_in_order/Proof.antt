@@ -7,7 +7,7 @@ use Rattle.rules.specs.SettingsAndUnitTable.{lookup}
 use Rattle.rows.specs.Laws.Lookup.{lookup_found, line_wins, hall_behind}
 use Rattle.index.specs.declared.Searched.{Searched}
 use Rattle.index.specs.TheSortedIndex.{row_search}
-use Rattle.index.specs.Laws.Searches.{row_search_finds, row_search_most}
+use Rattle.index.proofs.Laws.Searches.{row_search_finds, row_search_most}
 use Rattle.lookup.specs.Laws.BothTables.{rows_few, compared_line, compared_both}
 use Rattle.lookup.proofs.both_tables.find_in_order.Statement.{statement}
 use Rattle.lookup.proofs.both_tables.find_in_order.Tie as tie

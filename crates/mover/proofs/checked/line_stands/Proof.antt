@@ -8,11 +8,11 @@ use lib.ListN.{length, take, drop}
 use borrow.Author.Rules.{rules}
 use borrow.Author.Tests.{not-true, not-false}
 use Rattle.rules.specs.Common.{all}
-use Rattle.rules.specs.Laws.Tests.{between_in, between_below, between_above}
+use Rattle.rules.proofs.Laws.Tests.{between_in, between_below, between_above}
 use Rattle.stored.specs.Lines.{line_size_in, line_accepted_in}
 use Rattle.stored.specs.Laws.{line_long}
 use Rattle.moves.specs.NamesLongerThanSixteenBytes.{line_stands}
-use Rattle.moves.specs.Laws.Digits.{zero_digit, told, stands_nowhere}
+use Rattle.moves.proofs.Laws.Digits.{zero_digit, told, stands_nowhere}
 use Rattle.mover.specs.Parts.{zeros_decide}
 use Rattle.mover.proofs.checked.line_stands.Statement.{statement}
 use Rattle.mover.proofs.checked.line_stands.Tie as tie

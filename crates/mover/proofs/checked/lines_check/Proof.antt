@@ -10,7 +10,7 @@ use borrow.Author.Count.{below_none}
 use borrow.Author.Tests.{not-true, not-false}
 use Rattle.stored.specs.Lines.{line_size_in}
 use Rattle.moves.specs.NamesLongerThanSixteenBytes.{line_stands}
-use Rattle.moves.specs.Laws.Moves.{AllMove}
+use Rattle.moves.proofs.Laws.Moves.{AllMove}
 use Rattle.mover.specs.Walks.{next_place, wrong_there, long_there, right_there, line_whole, line_within}
 use Rattle.mover.proofs.checked.lines_check.Statement.{statement}
 use Rattle.mover.proofs.checked.lines_check.Tie as tie

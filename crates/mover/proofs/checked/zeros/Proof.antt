@@ -6,8 +6,8 @@ use lib.Dec.{eqb}
 use lib.ListN.{length, drop}
 use borrow.Author.Tests.{eq-eqb, ne_eqb}
 use Rattle.rules.specs.Common.{all}
-use Rattle.rules.specs.Laws.Lists.{all_from, all_done}
-use Rattle.moves.specs.Laws.Digits.{zero_digit}
+use Rattle.rules.proofs.Laws.Lists.{all_from, all_done}
+use Rattle.moves.proofs.Laws.Digits.{zero_digit}
 use Rattle.mover.proofs.checked.zeros.Statement.{statement}
 use Rattle.mover.proofs.checked.zeros.Tie as tie
 

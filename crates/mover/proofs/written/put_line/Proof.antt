@@ -5,8 +5,8 @@ use native.Mathlib.Omega.{arith}
 use lib.ListN.{length, length-take, length-drop}
 use borrow.Author.Rules.{rules}
 use Rattle.stored.specs.Lines.{line_size_in}
-use Rattle.moves.specs.Laws.Digits.{told}
-use Rattle.moves.specs.Laws.Moves.{moves_long, moves_small, moves_fit}
+use Rattle.moves.proofs.Laws.Digits.{told}
+use Rattle.moves.proofs.Laws.Moves.{moves_long, moves_small, moves_fit}
 use Rattle.mover.specs.Parts.{laid_line}
 use Rattle.mover.proofs.written.put_line.Statement.{statement}
 use Rattle.mover.proofs.written.put_line.Tie as tie

@@ -8,7 +8,7 @@ use lib.ListN.{length}
 use borrow.Author.Rules.{rules}
 use Rattle.stored.specs.Lines.{line_size_in}
 use Rattle.writing.specs.Laid.{laid, laid_nothing}
-use Rattle.moves.specs.Laws.Moves.{line_moves, moved_pieces, piece}
+use Rattle.moves.proofs.Laws.Moves.{line_moves, moved_pieces, piece}
 use Rattle.mover.specs.Walks.{room_for_next, next_place, the_piece, pieces_turn}
 use Rattle.mover.proofs.written.put_lines.Statement.{statement}
 use Rattle.mover.proofs.written.put_lines.Tie as tie

@@ -6,7 +6,7 @@ use Rattle.rules.specs.NumbersHandedBack.{got}
 use Rattle.rules.specs.SettingsAsWords.{settings_of, card_of}
 use Rattle.rules.specs.SettingsAndUnitTable.{Card}
 use Rattle.rules.specs.ReadingOnePart.{connection}
-use Rattle.rules.specs.Laws.Outcomes.{bind_got, bind_refused}
+use Rattle.rules.proofs.Laws.Outcomes.{bind_got, bind_refused}
 use Rattle.steps.specs.Outcomes.{next}
 use Rattle.reading.specs.Outcomes.{part}
 use Rattle.reading.specs.Typed.{connected, part_connected, typed_part}

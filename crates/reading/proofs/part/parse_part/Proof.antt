@@ -7,7 +7,7 @@ use Rattle.rules.specs.SettingsAsWords.{settings_of, card_of}
 use Rattle.rules.specs.SettingsAndUnitTable.{Card}
 use Rattle.rules.specs.ReadingOnePart.{part}
 use Rattle.rules.specs.Evaluation.{part_reading, allowed}
-use Rattle.rules.specs.Laws.Outcomes.{bind_refused}
+use Rattle.rules.proofs.Laws.Outcomes.{bind_refused}
 use Rattle.reading.specs.Outcomes as outcomes
 use Rattle.reading.specs.Coded.{coded, coded_got, coded_refused}
 use Rattle.reading.specs.Evaluated.{reading_asked, reading_out, reading_in}

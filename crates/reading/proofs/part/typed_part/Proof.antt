@@ -3,7 +3,7 @@ use mathlib.Core.Path.{◌≡◌, sym, ap, ◌∙◌}
 use borrow.Author.Rules.{rules}
 use Rattle.rules.specs.NumbersHandedBack.{got}
 use Rattle.rules.specs.SettingsAsWords.{settings_of}
-use Rattle.rules.specs.Laws.Outcomes.{bind_got, bind_refused}
+use Rattle.rules.proofs.Laws.Outcomes.{bind_got, bind_refused}
 use Rattle.reading.specs.Outcomes.{started}
 use Rattle.reading.specs.Coded.{codes, codes_refused}
 use Rattle.reading.specs.Typed.{typed_part, start_class, part_start}

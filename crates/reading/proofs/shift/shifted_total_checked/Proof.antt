@@ -5,8 +5,8 @@ use borrow.Author.Rules.{rules}
 use borrow.Author.Tests.{not-true, not-false}
 use Rattle.rules.specs.ThePartOfTheCrateWeTake.{well_formed}
 use Rattle.rules.specs.NumbersHandedBack.{done}
-use Rattle.rules.specs.Laws.Outcomes.{all_of}
-use Rattle.rules.specs.Laws.Totals.{total_well_formed}
+use Rattle.rules.proofs.Laws.Outcomes.{all_of}
+use Rattle.rules.proofs.Laws.Totals.{total_well_formed}
 use Rattle.rules.specs.SettingsAsWords.{card_of}
 use Rattle.card.specs.Laws.Accepted.{card_settings}
 use Rattle.answers.specs.Outcomes.{total}

@@ -11,9 +11,9 @@ use Rattle.rules.specs.NumbersHandedBack.{got}
 use Rattle.rules.specs.SettingsAsWords.{card_of}
 use Rattle.rules.specs.SettingsAndUnitTable.{Card}
 use Rattle.rules.specs.Evaluation.{total, part_reading}
-use Rattle.rules.specs.Laws.Totals.{total_from, total_is, reading_beyond, reading_well_formed}
-use Rattle.rules.specs.Laws.Lengths.{zero_well_formed, sum_well_formed}
-use Rattle.rules.specs.Laws.Outcomes.{all_of}
+use Rattle.rules.proofs.Laws.Totals.{total_from, total_is, reading_beyond, reading_well_formed}
+use Rattle.rules.proofs.Laws.Lengths.{zero_well_formed, sum_well_formed}
+use Rattle.rules.proofs.Laws.Outcomes.{all_of}
 use Rattle.reading.specs.Outcomes.{reading}
 use Rattle.reading.specs.Totals.{total_refuses, total_ends, total_goes_on}
 use Rattle.reading.proofs.total.parse_multiple.Statement.{statement}

@@ -4,7 +4,7 @@ use borrow.Author.Rules.{rules}
 use Rattle.rules.specs.NumbersHandedBack.{got}
 use Rattle.rules.specs.SettingsAsWords.{settings_of}
 use Rattle.rules.specs.ReadingOnePart.{gap, number_step, exponent_step}
-use Rattle.rules.specs.Laws.Outcomes.{bind_got, bind_refused}
+use Rattle.rules.proofs.Laws.Outcomes.{bind_got, bind_refused}
 use Rattle.steps.specs.Outcomes.{next, number, scaled}
 use Rattle.value.specs.Sums.{sum_of}
 use Rattle.steps.specs.Sums.{number_got, step_refused}

@@ -9,7 +9,7 @@ use Rattle.rules.specs.NumbersHandedBack.{got}
 use Rattle.rules.specs.SettingsAsWords.{settings_of, card_of}
 use Rattle.rules.specs.SettingsAndUnitTable.{Card, is, class}
 use Rattle.rules.specs.ReadingOnePart.{says}
-use Rattle.rules.specs.Laws.Outcomes.{all_of, bind_got, bind_refused}
+use Rattle.rules.proofs.Laws.Outcomes.{all_of, bind_got, bind_refused}
 use Rattle.reading.specs.Outcomes.{count}
 use Rattle.reading.specs.Typed.{class_at, inf_within, typed_finite, typed_spoken, typed_unsigned, unsigned_number, word_infinite, word_off, word_other, unsigned_none}
 use Rattle.reading.specs.Coded.{Numbered, codes, codes_refused, typed_count, spoken_count, coded_part, finite_coded, spoken_coded, typed_numbered, spoken_numbered}

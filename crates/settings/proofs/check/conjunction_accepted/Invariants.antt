@@ -8,7 +8,7 @@ use borrow.Author.Tests.{not-true, not-false, le-leb, lt-leb, ltb-true, ltb-fals
 use Rattle.rules.specs.Common.{between, all}
 use Rattle.rules.specs.SettingsAndUnitTable.{LETTER, is, low_bytes, letters_of, conjunction_accepted}
 use Rattle.settings.specs.Laws.Settings.{all_letters}
-use Rattle.rules.specs.Laws.Tests.{and_false}
+use Rattle.rules.proofs.Laws.Tests.{and_false}
 use Rattle.std.proofs.Common.{ap, not}
 use Rattle.settings.proofs.check.conjunction_accepted.Given as goal
 

@@ -9,7 +9,7 @@ use Rattle.rules.specs.Common.{all}
 use Rattle.rules.specs.SettingsAsWords.{settings_of}
 use Rattle.rules.specs.SettingsAndUnitTable.{conjunctions_of, conjunction_accepted, conjunctions_accepted}
 use Rattle.settings.specs.Laws.Settings.{conjunctions_next, conjunctions_done}
-use Rattle.rules.specs.Laws.Tests.{and_false}
+use Rattle.rules.proofs.Laws.Tests.{and_false}
 use Rattle.std.proofs.Common.{ap, not}
 use Rattle.settings.proofs.check.conjunctions_accepted.Given as goal
 

@@ -1,7 +1,7 @@
 -- `settings::check::is_letter` meets its contract: the two runs of letters, and the bytes before, between and after them. Assumes nothing.
 use native.Mathlib.Omega.{arith}
 use Rattle.settings.specs.Laws.Sets.{letter_byte}
-use Rattle.rules.specs.Laws.Tests.{between_in, between_below, between_above}
+use Rattle.rules.proofs.Laws.Tests.{between_in, between_below, between_above}
 use Rattle.settings.proofs.check.is_letter.Goals as goal
 
 pub returns-in-65-to-90 : goal.returns-in-65-to-90

@@ -1,6 +1,6 @@
 -- `settings::fields::held_to_byte` meets its contract: over the limit, or within it. Assumes nothing.
 use borrow.Author.Rules.{rules}
-use Rattle.rules.specs.Laws.SettingsAsWords.{held_fits, held_over}
+use Rattle.rules.proofs.Laws.SettingsAsWords.{held_fits, held_over}
 use Rattle.settings.proofs.fields.held_to_byte.Goals as goal
 
 pub returns-then-word-gt-LARGEST_BYTE : goal.returns-then-word-gt-LARGEST_BYTE

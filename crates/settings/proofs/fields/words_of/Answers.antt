@@ -6,7 +6,7 @@ use native.Mathlib.Omega.{arith}
 use borrow.Author.Rules.{rules}
 use Rattle.rules.specs.declared.Settings.{Settings}
 use Rattle.rules.specs.SettingsAsWords.{settings_of, settings_words}
-use Rattle.rules.specs.Laws.SettingsAsWords.{Fit, settings_back}
+use Rattle.rules.proofs.Laws.SettingsAsWords.{Fit, settings_back}
 use Rattle.settings.proofs.fields.words_of.Goals as goal
 use Rattle.settings.proofs.fields.words_of.Goals.{After-struct_known-6-1}
 

@@ -1,6 +1,6 @@
 -- `steps::bytes::is_digit` meets its contract: a byte from `0` to `9`, one below, and one above. Assumes nothing.
 use borrow.Author.Rules.{rules}
-use Rattle.rules.specs.Laws.Tests.{between_in, between_below, between_above}
+use Rattle.rules.proofs.Laws.Tests.{between_in, between_below, between_above}
 use Rattle.value.specs.Digits.{digit_between}
 use Rattle.steps.proofs.bytes.is_digit.Statement.{statement}
 use Rattle.steps.proofs.bytes.is_digit.Tie as tie

@@ -1,7 +1,7 @@
 -- `steps::delimiters::is_delimiter` meets its contract: nothing stands at the text's end, and elsewhere the byte there. Assumes nothing.
 use mathlib.Core.Path.{sym, ◌∙◌}
 use borrow.Author.Rules.{rules}
-use Rattle.rules.specs.Laws.Texts.{sees_here, sees_end}
+use Rattle.rules.proofs.Laws.Texts.{sees_here, sees_end}
 use Rattle.steps.proofs.delimiters.is_delimiter.Statement.{statement}
 use Rattle.steps.proofs.delimiters.is_delimiter.Tie as tie
 

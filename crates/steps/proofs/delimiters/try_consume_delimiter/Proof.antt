@@ -1,6 +1,6 @@
 -- `steps::delimiters::try_consume_delimiter` meets its contract: where the run ends decides. Assumes nothing.
 use native.Mathlib.Omega.{arith}
-use Rattle.rules.specs.Laws.Texts.{sees_in}
+use Rattle.rules.proofs.Laws.Texts.{sees_in}
 use Rattle.steps.specs.Delimiters.{delimiters_end, delimiters_past}
 use Rattle.steps.proofs.delimiters.try_consume_delimiter.Statement.{statement}
 use Rattle.steps.proofs.delimiters.try_consume_delimiter.Tie as tie

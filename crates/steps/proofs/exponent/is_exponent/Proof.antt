@@ -3,7 +3,7 @@ use mathlib.Core.Path.{refl, sym, ◌∙◌}
 use borrow.Author.Rules.{rules}
 use Rattle.rules.specs.Common.{between, if◌then◌else◌}
 use Rattle.rules.specs.SettingsAndUnitTable.{is, class}
-use Rattle.rules.specs.Laws.Texts.{sees_here, sees_end}
+use Rattle.rules.proofs.Laws.Texts.{sees_here, sees_end}
 use Rattle.steps.proofs.exponent.is_exponent.Statement.{statement}
 use Rattle.steps.proofs.exponent.is_exponent.Tie as tie
 

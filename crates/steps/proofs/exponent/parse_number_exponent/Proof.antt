@@ -6,7 +6,7 @@ use borrow.Author.Tests.{not-true, not-false}
 use Rattle.rules.specs.Common.{sees}
 use Rattle.rules.specs.SettingsAsWords.{settings_of}
 use Rattle.rules.specs.ReadingOnePart.{same_letter}
-use Rattle.rules.specs.Laws.Texts.{sees_in}
+use Rattle.rules.proofs.Laws.Texts.{sees_in}
 use Rattle.steps.specs.Outcomes.{scaled}
 use Rattle.steps.specs.Exponents.{exponent_none, exponent_off, exponent_on}
 use Rattle.steps.proofs.exponent.parse_number_exponent.Statement.{statement}

@@ -6,7 +6,7 @@ use borrow.Author.Rules.{rules}
 use borrow.Author.Tests.{not-true, not-false}
 use lib.ListN.{length, drop}
 use Rattle.rules.specs.SettingsAndUnitTable.{LETTER, is}
-use Rattle.rules.specs.Laws.Lists.{all_index}
+use Rattle.rules.proofs.Laws.Lists.{all_index}
 use Rattle.steps.specs.Letters.{matching, matching_ends, matching_done, matching_more, matching_stops}
 use Rattle.steps.proofs.letters.letters_matching.Statement.{statement}
 use Rattle.steps.proofs.letters.letters_matching.Tie as tie

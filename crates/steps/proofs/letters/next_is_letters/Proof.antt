@@ -7,7 +7,7 @@ use borrow.Author.Tests.{not-true, not-false}
 use Rattle.rules.specs.SettingsAndUnitTable.{LETTER, is, low_bytes}
 use Rattle.rules.specs.Common.{all}
 use Rattle.rules.specs.ReadingOnePart.{says}
-use Rattle.rules.specs.Laws.Choices.{and_left, and_right}
+use Rattle.rules.proofs.Laws.Choices.{and_left, and_right}
 use Rattle.settings.specs.Laws.Settings.{all_letters}
 use Rattle.steps.specs.Letters.{letters_done, letters_end, letters_more, letters_stop}
 use Rattle.steps.proofs.letters.next_is_letters.Statement.{statement}

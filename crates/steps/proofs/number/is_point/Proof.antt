@@ -2,7 +2,7 @@
 use mathlib.Core.Path.{sym, ◌∙◌}
 use native.Mathlib.Omega.{arith}
 use borrow.Author.Rules.{rules}
-use Rattle.rules.specs.Laws.Texts.{sees_here, sees_end}
+use Rattle.rules.proofs.Laws.Texts.{sees_here, sees_end}
 use Rattle.steps.specs.Bytes.{point_byte}
 use Rattle.steps.proofs.number.is_point.Statement.{statement}
 use Rattle.steps.proofs.number.is_point.Tie as tie

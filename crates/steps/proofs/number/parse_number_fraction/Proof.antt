@@ -7,7 +7,7 @@ use borrow.Author.Tests.{not-true, not-false}
 use Rattle.rules.specs.Common.{sees}
 use Rattle.rules.specs.SettingsAsWords.{settings_of}
 use Rattle.rules.specs.SettingsAndUnitTable.{POINT, is}
-use Rattle.rules.specs.Laws.Texts.{sees_in}
+use Rattle.rules.proofs.Laws.Texts.{sees_in}
 use Rattle.value.specs.Sums.{sum_of, sum_both, sum_whole}
 use Rattle.steps.specs.Sums.{sum_got, sum_refused}
 use Rattle.steps.specs.Numbers.{fraction_absent, fraction_off, fraction_empty, fraction_after, fraction_some}

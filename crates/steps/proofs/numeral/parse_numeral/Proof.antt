@@ -8,7 +8,7 @@ use lib.Seq.{slice}
 use Rattle.rules.specs.SettingsAsWords.{settings_of}
 use Rattle.rules.specs.SettingsAndUnitTable.{lookup}
 use Rattle.index.specs.declared.Searched.{Searched}
-use Rattle.index.specs.Laws.Searches.{row_search_finds}
+use Rattle.index.proofs.Laws.Searches.{row_search_finds}
 use Rattle.steps.specs.Outcomes.{next}
 use Rattle.steps.specs.Stretches.{stretch_part}
 use Rattle.steps.specs.Numerals.{numerals_none, numeral_from, numeral_ends, numeral_nowhere, delimiter_behind, numeral_refused, numeral_got}

@@ -5,7 +5,7 @@ use Prim.Native.Nat.{◌-◌}
 use borrow.Author.Rules.{rules}
 use lib.ListN.{length}
 use Rattle.rules.specs.Common.{between, run}
-use Rattle.rules.specs.Laws.Tests.{between_in, between_below, between_above}
+use Rattle.rules.proofs.Laws.Tests.{between_in, between_below, between_above}
 use Rattle.value.specs.Digits.{run_on, run_off, run_end}
 use Rattle.value.proofs.digits.past.Goals as goal
 

@@ -11,7 +11,7 @@ use lib.ListN.{length, get_or}
 use lib.Seq.{slice}
 use Rattle.rules.specs.Common.{run}
 use Rattle.rules.specs.SettingsAndUnitTable.{DIGIT, is}
-use Rattle.rules.specs.Laws.Tests.{between_in, between_below, between_above}
+use Rattle.rules.proofs.Laws.Tests.{between_in, between_below, between_above}
 use Rattle.value.specs.Numbers.{summed}
 use Rattle.value.specs.Digits.{Unsummed, unsummed_done, unsummed_full, unsummed_more, digit_between, digit_below, run_off, run_end, digits_end}
 use Rattle.value.proofs.digits.sum_digits.Given as goal

@@ -5,7 +5,7 @@ use Prim.Native.Nat.{ℕ, ◌+◌, ◌*◌, ◌^◌, ◌≤◌, ◌<◌}
 use native.Mathlib.Omega.{arith}
 use lib.Dec.{leb, ltb}
 use borrow.Author.Tests.{ltb-true, lt-ltb, le-ltb, leb-true, le-leb}
-use Rattle.rules.specs.Laws.Tests.{same_test}
+use Rattle.rules.proofs.Laws.Tests.{same_test}
 use Rattle.value.proofs.digits.takes_digit.Goals as goal
 
 -- the tens of the largest word
