@@ -4,7 +4,7 @@
 ghost use Rattle.std.specs.Prelude.{◌≡◌, true, ◌++◌, ◌<◌, ◌≤◌, length, take, drop};
 ghost use Rattle.rules.specs.Common.{all};
 ghost use Rattle.rules.specs.SettingsAndUnitTable.{name_room, row_size, hexadecimal, two_digits};
-ghost use Rattle.stored.specs.Lines.{line_size_in, line_accepted_in, digits_size, digit_value, spells, paired, stores, line-after, restores, row_after};
+ghost use Rattle.stored.specs.Lines.{line_size_in, line_accepted_in, digits_size, digit_value, spells, paired, stores, line_after, restores, row_after};
 
 use rows::fields::{NAME_ROOM, ROW_SIZE};
 
@@ -44,7 +44,7 @@ fn put_digits(row: &[u8], line: &mut [u8])
 // A row to its line, at the start of the buffer. A row of wrong length, or a buffer without room, changes nothing.
 pub fn store_row(row: &[u8], line: &mut [u8]) -> bool
     ensures value { result ≡ stores row.now line.old }
-    ensures line_after { line.new ≡ line-after row.now line.old }
+    ensures line_after { line.new ≡ line_after row.now line.old }
 {
     if row.len() != ROW_SIZE {
         return false;

@@ -1,0 +1,17 @@
+-- `stored::spells` meets its contract: the bytes from `i` on decide what all of them do. The measure is how many are left.
+-- Assumes nothing.
+use mathlib.Core.Path.{◌≡◌, refl}
+use Prim.Native.Nat.{◌≤◌, ◌-◌}
+use native.Mathlib.Omega.{arith}
+use lib.ListN.{length, drop}
+use borrow.Author.Tests.{lt-ltb, le-ltb}
+use Rattle.rules.specs.Common.{all}
+use Rattle.rules.proofs.Laws.Lists.{all_from, all_done}
+use Rattle.stored.specs.Lines.{spells}
+use Rattle.stored.proofs.spells.Given as goal
+
+abbrev pub invariant-loop-i : goal.invariant-loop-i
+invariant-loop-i l = (l.i ≤ length l.part) × (all spells (drop l.i l.part) ≡ all spells l.part)
+
+abbrev pub decreases-loop-i : goal.decreases-loop-i
+decreases-loop-i l = length l.part - l.i
