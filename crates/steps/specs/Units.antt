@@ -243,7 +243,7 @@ read_row (size ∷ r) h = refl
 
 -- kind times row is in range
 abbrev pub Fits : UnitRead → Type 0
-Fits (UnitRead.Found unit) = Fitting unit.kind unit.own_val
+Fits (UnitRead.Found unit) = Fitting unit.kind unit.own
 Fits UnitRead.Nowhere = Unit {0}
 
 -- of what is found in two tables that can be read

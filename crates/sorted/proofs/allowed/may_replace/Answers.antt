@@ -1,0 +1,50 @@
+-- `sorted::allowed::may_replace` meets its contract: the table and its index, then the row's number, then the new row. Assumes nothing.
+use mathlib.Core.Path.{◌≡◌, sym, ap, ◌∙◌}
+use borrow.Author.Rules.{rules}
+use borrow.Author.Tests.{not-true, not-false}
+use Rattle.rules.specs.declared.Refusal.TheVariants.{BadRow}
+use Rattle.rules.specs.NumbersHandedBack.{got, unless}
+use Rattle.rules.specs.SettingsAsWords.{settings_of}
+use Rattle.rules.specs.SettingsAndUnitTable.{rows_in}
+use Rattle.settings.specs.Outcomes.{outcome}
+use Rattle.index.specs.TheSortedIndex.{checking, replacing}
+use Rattle.sorted.specs.Allowed.{replace_refused, replace_beyond, replace_decides, checked_table}
+use Rattle.std.proofs.Common.{not}
+use Rattle.sorted.proofs.allowed.may_replace.Goals as goal
+use Rattle.sorted.proofs.allowed.may_replace.Goals.{After-row_fits, In-Accepted}
+
+-- table and index were accepted
+good :
+    (c : In-Accepted)
+    → let args = c.args in
+    checking (settings_of args.settings.now) args.table.now args.index.now ≡ got tt
+unfolding outcome
+good c = sym c.table_and_index_check-checked.ensures ∙ ap outcome c.in-Accepted.is
+
+pub returns-in_default : goal.returns-in_default
+unfolding outcome
+returns-in_default c = ap outcome c.in_default.is ∙ replace_refused _ _ _ _ _ (sym c.table_and_index_check-checked.ensures ∙ ap outcome c.in_default.is)
+
+pub returns-then-row-table : goal.returns-then-row-table
+unfolding outcome rows_in
+returns-then-row-table c = replace_beyond _ _ _ _ _ (good (goal.at.returns-then-row-table c).In-Accepted) c.if-row-table.true
+
+pub row_fits-requires : goal.row_fits-requires
+unfolding rows_in
+row_fits-requires c = record { settings_value = checked_table _ _ _ c.args.row c.args.new.now (good (goal.at.row_fits-requires c).In-Accepted); i_bound = c.if-row-table.false }
+
+-- what the new row comes to
+decided :
+    (c : After-row_fits)
+    → let args = c.args in
+    unless (BadRow args.row) c.row_fits.result ≡ replacing (settings_of args.settings.now) args.table.now args.index.now args.row args.new.now
+unfolding rows_in outcome
+decided c = replace_decides _ _ _ _ _ (sym c.table_and_index_check-checked.ensures ∙ ap outcome c.in-Accepted.is) c.if-row-table.false c.row_fits.ensures
+
+pub returns-then-not-row_fits : goal.returns-then-not-row_fits
+unfolding outcome unless
+returns-then-not-row_fits c = ap (unless _) (sym (not-true c.row_fits.result (ap not c.if-not-row_fits.true))) ∙ decided (goal.at.returns-then-not-row_fits c).After-row_fits
+
+pub returns : goal.returns
+unfolding outcome unless
+returns c = ap (unless (BadRow c.args.row)) (sym (not-false c.row_fits.result (ap not c.if-not-row_fits.false))) ∙ decided (goal.at.returns c).After-row_fits

@@ -1,0 +1,42 @@
+-- `sorted::true_order::names_before` meets its contract: the rows passed are counted, and how many are left is the measure. Assumes nothing.
+use mathlib.Core.Path.{◌≡◌, refl, sym, ap, ◌∙◌}
+use mathlib.Core.Logic.{⊎_elim}
+use Prim.Native.Nat.{◌≤◌, ◌-◌}
+use native.Mathlib.Omega.{arith}
+use borrow.Author.Rules.{rules}
+use lib.ListN.{length}
+use Rattle.rules.specs.SettingsAndUnitTable.{rows, rows_in, row, name}
+use Rattle.rows.specs.Laws.Rows.{length_row}
+use Rattle.index.specs.TheSortedIndex.{before, count, names_before}
+use Rattle.sorted.specs.Found.{count_next, count_same}
+use Rattle.sorted.proofs.true_order.names_before.Goals as goal
+use Rattle.sorted.proofs.true_order.names_before.Goals.{After-before-in-loop-i}
+
+pub loop-i-init : goal.loop-i-init
+unfolding rows_in count
+loop-i-init c = (refl, omega arith, omega arith, refl)
+
+pub name_of-requires : goal.name_of-requires
+name_of-requires c = ap length c.row_at.ensures ∙ length_row _ _ (omega arith)
+
+-- what was asked of the row's name
+asked :
+    (c : After-before-in-loop-i)
+    → let args = c.args in
+    c.before-in-loop-i.result ≡ before (name (row args.table.now c.loop-i.i)) args.wanted.now
+asked c =
+    c.before-in-loop-i.ensures ∙ ap (λ n. before n c.args.wanted.now) (c.name_of.ensures ∙ ap name c.row_at.ensures)
+
+pub loop-i-preserved : goal.loop-i-preserved
+loop-i-preserved c =
+    let inv = c.loop-i.invariant in
+    ⊎_elim
+    (λ w. (inv.0, omega arith, omega (arith, w.1), w.1 ∙ count_next _ c.loop-i.i inv.3 (sym (asked (goal.at.loop-i-preserved c).After-before-in-loop-i) ∙ w.0.taken)))
+    (λ w. (inv.0, omega arith, omega (arith, w.1), w.1 ∙ count_same _ c.loop-i.i inv.3 (sym (asked (goal.at.loop-i-preserved c).After-before-in-loop-i) ∙ w.0.left)))
+    c.if-before.branch
+
+pub returns : goal.returns
+unfolding names_before
+returns c =
+    let all : c.loop-i.i ≡ rows c.args.table.now = omega arith in
+    c.loop-i.invariant.3 ∙ ap (count _) all
