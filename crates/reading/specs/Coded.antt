@@ -176,13 +176,13 @@ spoken_of negative numeral unit ago = record {
   negative = negative;
   numeral = numeral;
   kind = kind_multiplier unit.kind;
-  row = negated_if ago.negated unit.own_val;
+  row = negated_if ago.negated unit.own;
 }
 
 -- what comes of the unit that was found, and of none
 abbrev pub with_unit : List ℕ → Bool → Counted → Found → UnitRow → Ago → SummedPart
 with_unit numerals negative counted Nowhere unit ago =
-    multiplied_part negative counted (negated_if ago.negated (times (kind_multiplier unit.kind) unit.own_val)) false ago.next
+    multiplied_part negative counted (negated_if ago.negated (times (kind_multiplier unit.kind) unit.own)) false ago.next
 with_unit numerals negative counted (Row i) unit ago =
     let product = spoken_product (spoken_of negative (row_multiplier (row numerals i)) unit ago) in
     multiplied_part negative counted product.multiplier product.out_of_range ago.next

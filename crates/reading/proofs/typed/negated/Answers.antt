@@ -5,8 +5,7 @@ use Rattle.rules.specs.declared.Multiplier.{Multiplier}
 use Rattle.rules.specs.Common.{if◌then◌else◌}
 use Rattle.rules.specs.ReadingOnePart.{negated}
 use Rattle.steps.specs.Units.{negated_if}
-use Rattle.reading.proofs.typed.negated.Statement.{statement}
-use Rattle.reading.proofs.typed.negated.Tie as tie
+use Rattle.reading.proofs.typed.negated.Goals as goal
 
 turned : (m : Multiplier) (negate : Bool) → record { negative = not (beq m.negative negate); coefficient = m.coefficient; up = m.up; down = m.down } ≡ negated_if negate m
 unfolding negated if◌then◌else◌
@@ -21,8 +20,5 @@ turned m false = ap (λ sign. record { negative = sign; coefficient = m.coeffici
     same true = refl
     same false = refl
 
-returns : tie.Need-returns
-returns c = turned c.before.args.m c.before.args.negate
-
-pub negated-spec : {M : Type 1} → statement M
-negated-spec = tie.close (tie.spec returns)
+pub returns : goal.returns
+returns c = turned c.args.m c.args.negate
