@@ -3,12 +3,8 @@ use mathlib.Core.Path.{refl}
 use Rattle.rules.specs.Common.{ascii}
 use Rattle.rules.specs.SettingsAndUnitTable.{low_first}
 use Rattle.rules.specs.CardAAndItsReadings.{space, conjunction, settings, settings_A}
-use Rattle.card_a.proofs.settings.Statement.{statement}
-use Rattle.card_a.proofs.settings.Tie as tie
+use Rattle.card_a.proofs.settings.Goals as goal
 
-returns : tie.Need-returns
+pub returns : goal.returns
 unfolding settings_A settings space conjunction ascii low_first
 returns c = refl
-
-pub settings-spec : {M : Type 1} → statement M
-settings-spec = tie.close (tie.spec returns)
