@@ -15,14 +15,12 @@ use Rattle.sorted.proofs.allowed.may_make.Goals.{After-card_check-checked, In-Ac
 -- what was checked is the table under its settings
 of-table :
     (c : After-card_check-checked)
-    → let args = c.args in
-    outcome c.card_check-checked.result ≡ table_right (settings_of args.settings.now) args.table.now
+    → outcome c.card_check-checked.result ≡ table_right (settings_of c.args.settings.now) c.args.table.now
 of-table c = c.card_check-checked.ensures ∙ table_only _ _
 
 good-table :
     (c : In-Accepted)
-    → let args = c.args in
-    table_right (settings_of args.settings.now) args.table.now ≡ got tt
+    → table_right (settings_of c.args.settings.now) c.args.table.now ≡ got tt
 unfolding outcome
 good-table c = sym (c.card_check-checked.ensures ∙ table_only _ _) ∙ ap outcome c.in-Accepted.is
 

@@ -16,8 +16,7 @@ use Rattle.sorted.proofs.allowed.may_replace.Goals.{After-row_fits, In-Accepted}
 -- table and index were accepted
 good :
     (c : In-Accepted)
-    → let args = c.args in
-    checking (settings_of args.settings.now) args.table.now args.index.now ≡ got tt
+    → checking (settings_of c.args.settings.now) c.args.table.now c.args.index.now ≡ got tt
 unfolding outcome
 good c = sym c.table_and_index_check-checked.ensures ∙ ap outcome c.in-Accepted.is
 
@@ -36,8 +35,7 @@ row_fits-requires c = record { settings_value = checked_table _ _ _ c.args.row c
 -- what the new row comes to
 decided :
     (c : After-row_fits)
-    → let args = c.args in
-    unless (BadRow args.row) c.row_fits.result ≡ replacing (settings_of args.settings.now) args.table.now args.index.now args.row args.new.now
+    → unless (BadRow c.args.row) c.row_fits.result ≡ replacing (settings_of c.args.settings.now) c.args.table.now c.args.index.now c.args.row c.args.new.now
 unfolding rows_in outcome
 decided c = replace_decides _ _ _ _ _ (sym c.table_and_index_check-checked.ensures ∙ ap outcome c.in-Accepted.is) c.if-row-table.false c.row_fits.ensures
 

@@ -14,14 +14,14 @@ abbrev card : Start → Indexed
 card c = indexed_of c.args.settings.now c.args.hall.now c.args.hall_index.now c.args.line.now c.args.line_index.now c.args.numerals.now
 
 -- the card was accepted, and then the hall's index
-good-card : (c : In-Accepted) → card_check (card c).card ≡ got tt
+good-card : (c : In-Accepted) → card_check (indexed_of c.args.settings.now c.args.hall.now c.args.hall_index.now c.args.line.now c.args.line_index.now c.args.numerals.now).card ≡ got tt
 unfolding outcome
 good-card c = sym c.card_check-of_the_card.ensures ∙ ap outcome c.in-Accepted.is
 
 good-hall :
     (c : In-Accepted-of_the_hall)
-    → let all = card c in
-    index_check WrongIndex all.card.hall all.hall-index ≡ got tt
+    → let all = (indexed_of c.args.settings.now c.args.hall.now c.args.hall_index.now c.args.line.now c.args.line_index.now c.args.numerals.now) in
+    index_check WrongIndex all.card.hall all.hall_index ≡ got tt
 unfolding outcome
 good-hall c = sym c.index_check-of_the_hall.ensures ∙ ap outcome c.in-Accepted-of_the_hall.is
 

@@ -17,8 +17,7 @@ card c = indexed_of c.args.settings.now c.args.hall.now c.args.hall_index.now c.
 -- settings and numerals were accepted
 good :
     (c : In-Accepted)
-    → let args = c.args in
-    (settings_check (settings_of args.settings.now) ≡ got tt) × (numerals_check args.numerals.now ≡ got tt)
+    → (settings_check (settings_of c.args.settings.now) ≡ got tt) × (numerals_check c.args.numerals.now ≡ got tt)
 unfolding outcome
 good c = without_tables _ _ (sym c.card_check.ensures ∙ ap outcome c.in-Accepted.is)
 

@@ -16,8 +16,7 @@ of-settings c = c.card_check-of_the_settings.ensures ∙ settings_only _
 
 of-table :
     (c : After-card_check-of_the_table)
-    → let args = c.args in
-    outcome c.card_check-of_the_table.result ≡ table_right (settings_of args.settings.now) args.table.now
+    → outcome c.card_check-of_the_table.result ≡ table_right (settings_of c.args.settings.now) c.args.table.now
 of-table c = c.card_check-of_the_table.ensures ∙ table_only _ _
 
 good-settings : (c : In-Accepted) → settings_check (settings_of c.args.settings.now) ≡ got tt
@@ -26,8 +25,7 @@ good-settings c = sym (of-settings (goal.at.told_right-requires c).After-card_ch
 
 good-table :
     (c : In-Accepted-of_the_table)
-    → let args = c.args in
-    table_right (settings_of args.settings.now) args.table.now ≡ got tt
+    → table_right (settings_of c.args.settings.now) c.args.table.now ≡ got tt
 unfolding outcome
 good-table c = sym (of-table (goal.at.index_check-requires c).After-card_check-of_the_table) ∙ ap outcome c.in-Accepted-of_the_table.is
 

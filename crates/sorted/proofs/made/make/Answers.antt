@@ -15,7 +15,7 @@ sift_down-requires c = (c.requires.0, make_sifts _ _ _ c.loop-i.invariant.2 (ome
 -- the next row is in its place
 next :
     (c : After-sift_down)
-    → Making c.args.table.now (c.sift_down.new.1.0 ++ drop (c.loop-i.i + 1) (set c.loop-i.index c.loop-i.i c.loop-i.i)) (c.loop-i.i + 1)
+    → Making c.args.table.now (c.sift_down.new.index ++ drop (c.loop-i.i + 1) (set c.loop-i.index c.loop-i.i c.loop-i.i)) (c.loop-i.i + 1)
 next c =
     make_next _ _ _ c.loop-i.invariant.2 (omega (arith, c.loop-i-test.true, c.loop-i.invariant.0)) c.sift_down.ensures
 

@@ -11,7 +11,7 @@ use Rattle.rules.specs.SettingsAndUnitTable.{rows, rows_in, row, name}
 use Rattle.rows.specs.Laws.Rows.{length_row}
 use Rattle.rows.specs.Laws.Lookup.{same_refl, same_equal}
 use Rattle.sorted.proofs.replaced.named_elsewhere.Goals as goal
-use Rattle.sorted.proofs.replaced.named_elsewhere.Goals.{After-same_name, Then-j-i}
+use Rattle.sorted.proofs.replaced.named_elsewhere.Goals.{then-j-i+else-same_name, else-j-i, After-same_name, Then-j-i}
 
 pub loop-j-init : goal.loop-j-init
 unfolding rows_in
@@ -27,8 +27,7 @@ same_name-requires c = record { row_len = (ap length c.row_at.ensures ∙ length
 -- what was asked is whether it has the new row's name
 asked :
     (c : After-same_name)
-    → let args = c.args in
-    c.same_name.result ≡ same (name (row args.table.now c.loop-j.j)) (name args.new.now)
+    → c.same_name.result ≡ same (name (row c.args.table.now c.loop-j.j)) (name c.args.new.now)
 asked c =
     c.same_name.ensures ∙ ap (λ r. same (name r) (name c.args.new.now)) c.row_at.ensures
 
@@ -41,12 +40,10 @@ loop-j-preserved c =
       c.loop-j.invariant.0,
       omega (arith, c.loop-j-test.true),
       below_more _ c.loop-j.j c.loop-j.invariant.2
-          (⊎_elim
-          (λ w.
-          let here : tie.After-same-name invariant-loop decreases-loop = record { before = record { before = record { before = c; if1 = w.0 }; row_at = w.1 }; same_name = w.2 } in
-          λ other e. false≢true (sym w.3.left ∙ asked here ∙ rw e (same_refl _)))
-          (λ w. λ other e. absurd (other w.left))
-          c.if-j-i.branch),
+      (elim c.if-j-i.branch [
+        then-j-i+else-same_name w ↦ (λ other e. false≢true (sym w.if-same_name.false ∙ w.same_name.ensures ∙ ap (λ r. same (name r) (name c.args.new.now)) w.row_at.ensures ∙ rw e (same_refl _)))
+        | else-j-i w ↦ (λ other e. absurd (other w.if-j-i.false))
+      ]),
     )
 
 pub returns : goal.returns

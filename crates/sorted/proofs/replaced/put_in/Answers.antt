@@ -14,7 +14,7 @@ place_of-place-requires c = stands _ _ _ c.args.new.now c.requires.i_bound.0 c.r
 -- the entry, moved to the end, may sink
 sinks :
     (c : After-move_last)
-    → Sifting (with_row c.args.table.now c.args.i c.args.new.now) c.move_last.new.0 (length c.move_last.new.0 - 1)
+    → Sifting (with_row c.args.table.now c.args.i c.args.new.now) c.move_last.new.index (length c.move_last.new.index - 1)
 sinks c =
     rw c.move_last.ensures.long
     (moved_sifting _ _ _ _ c.requires.i_bound.0 c.requires.i_bound.1 c.requires.right.0 c.place_of-place.ensures.0 c.place_of-place.ensures.1 c.move_last.ensures)

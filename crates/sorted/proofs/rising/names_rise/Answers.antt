@@ -23,8 +23,7 @@ loop-k-init c = (refl, omega arith, omega (arith, c.if-count-eq0.false), c.if-la
 -- the two rows, whole and padded
 rows_of :
     (c : After-row_at-in-loop-k)
-    → let loop = c.loop-k in
-    (loop.last < rows c.args.table.now) × (get_or c.args.index.now loop.k 0 < rows c.args.table.now)
+    → (c.loop-k.last < rows c.args.table.now) × (get_or c.args.index.now c.loop-k.k 0 < rows c.args.table.now)
 rows_of c =
     (omega (arith, c.loop-k.invariant.3, c.requires.index_len), omega (arith, c.if-entry-count.false, c.requires.index_len))
 

@@ -15,9 +15,8 @@ use Rattle.sorted.proofs.rising.told_right.Goals.{In-Good}
 -- each row passed by itself
 rows-alone :
     (c : In-Good)
-    → let args = c.args in
-    (length args.table.now % row_size ≡ 0) × (rows args.table.now ≤ most_rows)
-    × ((i : ℕ) → i < rows args.table.now → alone c.unit_rule.result (row args.table.now i) ≡ true)
+    → (length c.args.table.now % row_size ≡ 0) × (rows c.args.table.now ≤ most_rows)
+    × ((i : ℕ) → i < rows c.args.table.now → alone c.unit_rule.result (row c.args.table.now i) ≡ true)
 rows-alone c =
     each_alone _ _ (λ size bad. ap (said size bad) (sym c.in-Good.is) ∙ c.rows_found.ensures size bad)
 

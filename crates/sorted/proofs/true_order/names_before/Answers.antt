@@ -10,7 +10,7 @@ use Rattle.rows.specs.Laws.Rows.{length_row}
 use Rattle.index.specs.TheSortedIndex.{before, count, names_before}
 use Rattle.sorted.specs.Found.{count_next, count_same}
 use Rattle.sorted.proofs.true_order.names_before.Goals as goal
-use Rattle.sorted.proofs.true_order.names_before.Goals.{After-before-in-loop-i}
+use Rattle.sorted.proofs.true_order.names_before.Goals.{then-before, else-before, After-before-in-loop-i}
 
 pub loop-i-init : goal.loop-i-init
 unfolding rows_in count
@@ -22,18 +22,17 @@ name_of-requires c = ap length c.row_at.ensures ∙ length_row _ _ (omega arith)
 -- what was asked of the row's name
 asked :
     (c : After-before-in-loop-i)
-    → let args = c.args in
-    c.before-in-loop-i.result ≡ before (name (row args.table.now c.loop-i.i)) args.wanted.now
+    → c.before-in-loop-i.result ≡ before (name (row c.args.table.now c.loop-i.i)) c.args.wanted.now
 asked c =
     c.before-in-loop-i.ensures ∙ ap (λ n. before n c.args.wanted.now) (c.name_of.ensures ∙ ap name c.row_at.ensures)
 
 pub loop-i-preserved : goal.loop-i-preserved
 loop-i-preserved c =
     let inv = c.loop-i.invariant in
-    ⊎_elim
-    (λ w. (inv.0, omega arith, omega (arith, w.1), w.1 ∙ count_next _ c.loop-i.i inv.3 (sym (asked (goal.at.loop-i-preserved c).After-before-in-loop-i) ∙ w.0.taken)))
-    (λ w. (inv.0, omega arith, omega (arith, w.1), w.1 ∙ count_same _ c.loop-i.i inv.3 (sym (asked (goal.at.loop-i-preserved c).After-before-in-loop-i) ∙ w.0.left)))
-    c.if-before.branch
+    elim c.if-before.branch [
+      then-before w ↦ (inv.0, omega arith, omega (arith, w.found-is), w.found-is ∙ count_next _ c.loop-i.i inv.3 (sym (asked (goal.at.loop-i-preserved c).After-before-in-loop-i) ∙ w.if-before.true))
+      | else-before w ↦ (inv.0, omega arith, omega (arith, w.found-is), w.found-is ∙ count_same _ c.loop-i.i inv.3 (sym (asked (goal.at.loop-i-preserved c).After-before-in-loop-i) ∙ w.if-before.false))
+    ]
 
 pub returns : goal.returns
 unfolding names_before

@@ -12,7 +12,7 @@ use Rattle.sorted.specs.Found.{count_next, count_same}
 use Rattle.sorted.proofs.true_order.names_before.Given as goal
 
 abbrev pub invariant-loop-i : goal.invariant-loop-i
-invariant-loop-i l = (l.fn.rows_of_lem ≡ rows l.table) × (l.i ≤ rows l.table) × (l.found ≤ l.i) × (l.found ≡ count (λ k. before (name (row l.table k)) l.wanted) l.i)
+invariant-loop-i l = (l.count ≡ rows l.table) × (l.i ≤ rows l.table) × (l.found ≤ l.i) × (l.found ≡ count (λ k. before (name (row l.table k)) l.wanted) l.i)
 
 abbrev pub decreases-loop-i : goal.decreases-loop-i
-decreases-loop-i l = l.fn.rows_of_lem - l.i
+decreases-loop-i l = l.count - l.i
