@@ -4,7 +4,7 @@ use Rattle.std.specs.Prelude.{◌≡◌, Bool, true, false, not, List, [], ◌�
 use Rattle.std.proofs.Math.Path.{refl}
 use Rattle.std.proofs.Common.{sym, ap, ◌∙◌, leb-true, le-leb}
 use Rattle.std.proofs.lemmas.Bool.{false≢true}
-use Rattle.std.proofs.Math.Logic.{Iff·rfl, Iff·trans}
+use Rattle.std.proofs.Math.Logic.Iff
 use Rattle.rules.specs.declared.Length.{Length}
 use Rattle.rules.specs.declared.Refusal.{Refusal}
 use Rattle.rules.specs.declared.Refusal.TheVariants.{TextTooLong, Beyond, Malformed}
@@ -57,7 +57,7 @@ module _ {n q : ℕ} (text_number : of_the_text n ≡ true) where
     -- the card's check, and the text's size
     behind_card : {A : Type 0} {next : Outcome A} {X : Type 0} → RefusedWith next n q ↔ X → RefusedWith (card_check card >> next) n q ↔ ((card_check card ≡ got tt) × X)
     unfolding of_the_text among
-    behind_card found = behind found (by_one (card_by card)) refl Iff·rfl
+    behind_card found = behind found (by_one (card_by card)) refl Iff.rfl
 
     behind_size : {A : Type 0} {next : Outcome A} {X : Type 0} → RefusedWith next n q ↔ X → RefusedWith (unless TextTooLong (leb (length text) longest_text) >> next) n q ↔ ((length text ≤ longest_text) × X)
     unfolding of_the_text among number
@@ -84,7 +84,7 @@ module _ (card : Card) (text : List ℕ) where
     pub part_exactly : (place : ℕ) {X : Type 0} → RefusedWith (part_reading card text place) n q ↔ X → (part_answer card text place ≡ refused_at n q) ↔ InPart place X
     unfolding part_answer read_part done of_the_text among number
     part_exactly place {X} found =
-        Iff·trans (handed_back (λ r. done r.next r.length) (λ r. refl) (read_part card text place) n q some) whole
+        Iff.trans (handed_back (λ r. done r.next r.length) (λ r. refl) (read_part card text place) n q some) whole
       where
         whole : RefusedWith (read_part card text place) n q ↔ InPart place X
         whole =
@@ -110,7 +110,7 @@ module _ (card : Card) (text : List ℕ) where
       pub total_exactly : (total_answer card text ≡ refused_at n q) ↔ InTotal X
       unfolding total_answer read_total done
       total_exactly =
-          Iff·trans (handed_back (done (length text)) (λ l. refl) (read_total card text) n q some) whole
+          Iff.trans (handed_back (done (length text)) (λ l. refl) (read_total card text) n q some) whole
         where
           whole : RefusedWith (read_total card text) n q ↔ InTotal X
           whole = behind_card text_number card text (behind_size text_number card text of_a_part)
@@ -130,7 +130,7 @@ module _ (card : Card) (text : List ℕ) where
         pub shift_exactly : (shift_answer so_far card text ≡ refused_at n q) ↔ InShift so_far X
         unfolding shift_answer add_total done of_the_text among number
         shift_exactly =
-            Iff·trans (handed_back (done (length text)) (λ l. refl) (add_total so_far card text) n q some) whole
+            Iff.trans (handed_back (done (length text)) (λ l. refl) (add_total so_far card text) n q some) whole
           where
             whole : RefusedWith (add_total so_far card text) n q ↔ InShift so_far X
             whole =

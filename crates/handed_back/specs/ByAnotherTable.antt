@@ -4,7 +4,7 @@ use Rattle.std.specs.Prelude.{◌≡◌, refl, List, ℕ, length}
 use Rattle.rules.specs.declared.Answer.{Answer}
 use Rattle.rules.specs.declared.Length.{Length}
 use Rattle.rules.specs.declared.Refusal.{Refusal}
-use Rattle.rules.specs.NumbersHandedBack.{Outcome, got, refused, number, done, refusal, answered}
+use Rattle.rules.specs.NumbersHandedBack.{Outcome, got, refused, done, refusal, answered}
 use Rattle.rules.specs.SettingsAndUnitTable.{Card}
 use Rattle.rules.specs.WriterAndShiftTotal.{writing}
 use Rattle.rules.specs.WhatEveryEntryOwes.{read_part, part_answer, read_total, total_answer, write_answer, add_total, shift_answer}
