@@ -37,8 +37,7 @@ put_lines-requires c =
 
 pub returns-in-Wrong : goal.returns-in-Wrong
 returns-in-Wrong c =
-    let cause = c.cause-1.given in
-    let wrong : CheckedSo c.args.from c.args.to c.args.source.now (Wrong cause.0.0) = rw cause.1 at c.lines_check.ensures in
+    let wrong : CheckedSo c.args.from c.args.to c.args.source.now (Wrong c.in-Wrong.cause) = rw c.in-Wrong.is at c.lines_check.ensures in
     let laws = not_moved _ _ c.args.source.now c.args.target.now _ (lines_refused _ _ _ _ wrong) in
     record { value = c.refusal.ensures ∙ laws.0; target_after = laws.1 }
 
