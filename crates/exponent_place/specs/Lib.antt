@@ -2,7 +2,4 @@
 pub mod TheWrongDigit
 pub mod Examples
 pub mod OtherNumbers
-pub mod StepFour
-pub mod ExactlyThere
-pub mod WhatIsHandedBack
 pub mod TheAnswerBefore

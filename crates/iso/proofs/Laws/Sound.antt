@@ -30,6 +30,7 @@ Enters j k front = (kind : ℕ) → may_come j kind ≡ true → (kind < k) × (
 
 number_follows : (j k : ℕ) (front bytes : List ℕ) (cs : List Component) → Enters j k front → Number j bytes cs → Following k (front ++ bytes) cs × (none cs ≡ false)
 unfolding spelling_after none
+number_follows j k front bytes [] enters number = elim number [ ]
 number_follows j k front bytes (c ∷ cs) enters (number_first n m b e) =
     let i = enters c.kind m in
     let r = first_right k c cs (record { number = n; from = came_kind j c.kind m; below = i.0; behind = b }) in

@@ -1,7 +1,7 @@
 -- What components are worth, from the first on: whole numbers add up, and only what stands behind a mark has anything to round.
 -- Assumes nothing.
 use Rattle.std.specs.Prelude.{◌≡◌, refl, List, [], ◌∷◌, ◌++◌, ◌⊎◌, ℕ, ◌+◌, ◌*◌, ◌/◌, ◌^◌, length, drop}
-use Rattle.std.proofs.Common.{ap, ◌∙◌, append-nil, ⊎_elim, add-zero, add_comm, add-mul, mul_assoc, mul_comm, mul-one, div-one, zero-mul}
+use Rattle.std.proofs.Common.{subst, sym, ap, ◌∙◌, append-nil, ⊎_elim, add-zero, add_comm, add-mul, mul_assoc, mul_comm, mul-one, div-one, zero-mul}
 use Rattle.std.proofs.Math.Nat.{add-mul-div_right, max-zero, zero-max, sub-zero, sub_self, pow-zero}
 use Rattle.rules.specs.ThePartOfTheCrateWeTake.{nanoseconds_per_second}
 use Rattle.rules.specs.Evaluation.{spelled}
@@ -35,8 +35,13 @@ moved_up w n u e = ap (λ x. x / 10 ^ n) (add-mul (w * 10 ^ n * u) e nanoseconds
 
 no_fraction : (c : Component) (cs : List Component) → c.fraction ≡ [] → Apart c cs
 unfolding nanoseconds_of exact most_decimals decimals whole_worth fraction_worth spelled
-no_fraction c cs e =
-    rw (e, append-nil c.whole, zero-max (most_decimals cs), sub-zero, zero-mul, div-one, add-zero) (moved_up (spelled 0 c.whole) (most_decimals cs) (seconds_of c.kind) (exact (most_decimals cs) cs))
+no_fraction c cs e = subst (λ n. exact n (c ∷ cs) * nanoseconds_per_second / 10 ^ n ≡ whole_worth c + fraction_worth c + nanoseconds_of cs) (sym most) whole
+  where
+    most : most_decimals (c ∷ cs) ≡ most_decimals cs
+    most = rw e (zero-max (most_decimals cs))
+
+    whole : exact (most_decimals cs) (c ∷ cs) * nanoseconds_per_second / 10 ^ most_decimals cs ≡ whole_worth c + fraction_worth c + nanoseconds_of cs
+    whole = rw (e, append-nil c.whole, sub-zero, zero-mul, div-one, add-zero) (moved_up (spelled 0 c.whole) (most_decimals cs) (seconds_of c.kind) (exact (most_decimals cs) cs))
 
 alone : (c : Component) → nanoseconds_of (c ∷ []) ≡ whole_worth c + fraction_worth c
 unfolding nanoseconds_of exact most_decimals decimals whole_worth fraction_worth

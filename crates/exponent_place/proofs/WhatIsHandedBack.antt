@@ -10,7 +10,7 @@ use Rattle.handed_back.specs.RefusedWith.{refused_at}
 use Rattle.handed_back.specs.BehindTheChecks as handed
 use Rattle.handed_back.specs.BehindTheChecks.{of_the_text, InPart, InTotal, InShift}
 use Rattle.exponent_place.specs.TheWrongDigit.{WrongDigit, number_of}
-use Rattle.exponent_place.specs.ExactlyThere.{part_exactly}
+use Rattle.exponent_place.proofs.ExactlyThere.{part_exactly}
 
 -- no check refuses by 3 or 4
 no_check : (negative : Bool) → of_the_text (number_of negative) ≡ true

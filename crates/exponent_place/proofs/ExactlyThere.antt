@@ -17,8 +17,8 @@ use Rattle.handed_back.specs.TheStepsOfAPart.{Step, does, Comes, sign, number, e
 use Rattle.handed_back.specs.AStepRefuses.{part_told, due}
 use Rattle.handed_back.specs.RefusedWith.{RefusedWith, once}
 use Rattle.exponent_place.specs.TheWrongDigit.{minus_behind, WrongDigit, number_of, out_of_range}
-use Rattle.exponent_place.specs.StepFour as step_four
-use Rattle.exponent_place.specs.StepFour.{step_refuses}
+use Rattle.exponent_place.proofs.StepFour as step_four
+use Rattle.exponent_place.proofs.StepFour.{step_refuses}
 use Rattle.exponent_place.specs.OtherNumbers.{IfOutOfRange, other_numbers}
 
 -- ---- what an exponent out of range is refused with

@@ -12,8 +12,8 @@ use Rattle.handed_back.specs.RefusedWith as refused
 use Rattle.handed_back.specs.RefusedWith.{RefusedWith}
 use Rattle.six_slips.specs.TheAnswerBefore.{slip}
 use Rattle.six_slips.specs.TheSixSlips.{TextEnds, DelimitersEnd, ConjunctionSlip, FractionSlip, ExponentSlip, InfinitySlip, by_test, where_it_is, Says}
-use Rattle.six_slips.specs.WhatAStepRefuses.{reading_told}
-use Rattle.six_slips.specs.WhereItIsDue.{text_ends, delimiters_end, conjunction_slip, fraction_slip, exponent_slip, infinity_slip}
+use Rattle.six_slips.proofs.WhatAStepRefuses.{reading_told}
+use Rattle.six_slips.proofs.WhereItIsDue.{text_ends, delimiters_end, conjunction_slip, fraction_slip, exponent_slip, infinity_slip}
 
 module _ (card : Card) (text : List ℕ) (from : ℕ) where
   abbrev PartRefused : ℕ → ℕ → Type 0

@@ -12,7 +12,7 @@ use Rattle.handed_back.specs.BehindTheChecks as handed
 use Rattle.handed_back.specs.BehindTheChecks.{of_the_text, InPart, InTotal, InShift}
 use Rattle.six_slips.specs.TheAnswerBefore.{slip}
 use Rattle.six_slips.specs.TheSixSlips.{Says}
-use Rattle.six_slips.specs.ExactlyThese.{exactly}
+use Rattle.six_slips.proofs.ExactlyThese.{exactly}
 
 -- no check has one of the six
 no_check : (n : ℕ) → slip n ≡ true → of_the_text n ≡ true

@@ -1,6 +1,6 @@
 -- Wherever one of the six slips stands, the part is refused with its number there: what is left of the part at each step, and the refusal that
 -- the step gives. Assumes nothing.
-use Rattle.std.specs.Prelude.{◌≡◌, Bool, true, false, ◌||◌, List, [], ◌∷◌, ◌++◌, ℕ, ◌+◌, ◌<◌, drop}
+use Rattle.std.specs.Prelude.{◌≡◌, Bool, true, false, ◌||◌, List, ◌∷◌, ◌++◌, ℕ, ◌+◌, ◌<◌, drop}
 use Rattle.std.proofs.Math.Path.{refl, ap}
 use Rattle.std.proofs.Common.{sym, ◌∙◌, arith}
 use Rattle.std.proofs.Math.Bool.{not}
@@ -11,8 +11,7 @@ use Rattle.rules.specs.declared.Multiplier.{Multiplier}
 use Rattle.rules.specs.declared.Refusal.{Refusal}
 use Rattle.rules.specs.declared.Refusal.TheVariants.{SignEnds, DelimiterEnds, FractionOff, FractionEmpty, ExponentOff, ExponentByte, ExponentEnds, InfinityByte, InfinityEnds, InfinityGoesOn, ConjunctionEnds, ConjunctionGoesOn}
 use Rattle.rules.specs.declared.Settings.{Settings}
-use Rattle.rules.specs.declared.Unit as declared_unit
-use Rattle.rules.specs.Common.{if◌then◌else◌, ascii, ends, sees, run}
+use Rattle.rules.specs.Common.{ascii, ends, sees, run}
 use Rattle.rules.specs.NumbersHandedBack as numbers
 use Rattle.rules.specs.NumbersHandedBack.{refused, position}
 use Rattle.rules.specs.SettingsAndUnitTable.{DIGIT, POINT, is, is_next_duration, holds, Card}
@@ -26,7 +25,7 @@ use Rattle.exponent_place.specs.TheWrongDigit.{first_digit}
 use Rattle.handed_back.specs.RefusedWith.{RefusedWith}
 use Rattle.handed_back.specs.AStepRefuses.{due}
 use Rattle.handed_back.specs.TheLettersOfAWord.{letters_all, letters_wrong, letters_short}
-use Rattle.handed_back.specs.TheStepsOfAPart.{Step, Comes, number, connection}
+use Rattle.handed_back.specs.TheStepsOfAPart.{Step, Comes}
 use Rattle.six_slips.specs.TheSixSlips.{LastRun, TextEnds, behind_sign, in_exponent, Conjoins, Takes, behind_a_sign, between_number_and_unit, before_ago, before_spoken_ago, behind_numeral, of_connection, behind_conjunction, DelimitersEnd, ConjunctionSlip, conjunction_ends, conjunction_goes_on, FractionSlip, fractions_off, bare_point, ExponentSlip, exponents_off, no_digit, RightLetters, InfinitySlip, wrong_letter, ends_within, word_goes_on}
 
 module _ (card : Card) (text : List ℕ) (from : ℕ) where

@@ -1,0 +1,6 @@
+-- What is proved of the definitions.
+pub mod WhatAStepRefuses
+pub mod WhereItIsDue
+pub mod ExactlyThese
+pub mod WhatIsHandedBack
+pub mod TheAnswerBefore
