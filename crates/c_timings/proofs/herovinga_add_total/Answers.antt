@@ -20,4 +20,12 @@ pub returns : goal.returns
 returns c =
     let found = shifted (goal.at.returns c).After-shifted_total-shifted in
     let answer = handed c.put_answer.ensures found.0 in
-    let number = ap (λ (a : Answer). a.number) found.0 in record { value = answer.0; answer_after = answer.1; total_after = elim c.if-shifted-eq0.branch [ then-shifted-eq0 w ↦ w.3 ∙ w.2.ensures ∙ ap length_words found.1 ∙ shifted_done _ _ _ (sym number ∙ w.0.taken) | else-shifted-eq0 w ↦ w.1 ∙ shifted_kept _ _ _ (λ e. w.0.left (number ∙ e)) ] }
+    let number = ap (λ (a : Answer). a.number) found.0 in
+    record {
+      value = answer.0;
+      answer_after = answer.1;
+      total_after = elim c.if-shifted-eq0.branch [
+        then-shifted-eq0 w ↦ w.total-is ∙ w.put_total.ensures ∙ ap length_words found.1 ∙ shifted_done _ _ _ (sym number ∙ w.if-shifted-eq0.true)
+        | else-shifted-eq0 w ↦ w.total-is ∙ shifted_kept _ _ _ (λ e. w.if-shifted-eq0.false (number ∙ e))
+      ];
+    }
