@@ -15,7 +15,7 @@ use Rattle.rules.specs.declared.Repr.TheVariants.{Typed}
 use Rattle.rules.specs.declared.Settings.{Settings}
 use Rattle.rules.specs.Common.{if◌then◌else◌, between, run}
 use Rattle.rules.specs.NumbersHandedBack.{Outcome, got, refused, ◌>>=◌, ◌>>◌, unless}
-use Rattle.rules.specs.SettingsAndUnitTable.{rows_in, row, kind, row_formed_in, row_right, row_right_in, row_accepted, row_accepted_in, whole_rows_in, rows_check, units_check_in, table_check, line_check, numerals_check_in, card_check, lookup_from_in, lookup, lookup_in, line_first, stands, held_row, find_row}
+use Rattle.rules.specs.SettingsAndUnitTable.{rows_in, row, kind, row_formed_in, row_right_in, row_accepted, row_accepted_in, whole_rows_in, rows_check, units_check_in, table_check, line_check, numerals_check_in, card_check, lookup_from_in, lookup, lookup_in, line_first, stands, held_row, find_row}
 use Rattle.rules.specs.ReadingOnePart.{in_stretch, find_unit, unit_found, unit_step, numeral_found, numeral_step, infinite_part, finite_part, spoken_part, unsigned_part, part}
 use Rattle.rules.specs.Evaluation.{evaluated, part_reading, parts, total}
 use Rattle.rules.specs.WhatEveryEntryOwes.{read_part, part_answer, read_total, total_answer, add_total, shift_answer, shifted_record}

@@ -14,10 +14,12 @@ use Rattle.rules.proofs.Laws.Refusals.{among}
 use Rattle.handed_back.specs.RefusedWith.{RefusedWith, refused_at}
 use Rattle.handed_back.specs.BehindTheChecks as handed
 use Rattle.handed_back.specs.BehindTheChecks.{of_the_text, InPart, InTotal, InShift}
-use Rattle.spoken_numbers.specs.WhenNoUnitFollows as no_unit
-use Rattle.spoken_numbers.specs.WhenNoUnitFollows.{NoUnitAt, no_unit_exactly}
-use Rattle.spoken_numbers.specs.WhenAProductLeavesItsRange as out_of_range
-use Rattle.spoken_numbers.specs.WhenAProductLeavesItsRange.{OutOfItsRange, out_of_range_exactly}
+use Rattle.spoken_numbers.proofs.WhenNoUnitFollows as no_unit
+use Rattle.spoken_numbers.specs.WhenNoUnitFollows.{NoUnitAt}
+use Rattle.spoken_numbers.proofs.WhenNoUnitFollows.{no_unit_exactly}
+use Rattle.spoken_numbers.proofs.WhenAProductLeavesItsRange as out_of_range
+use Rattle.spoken_numbers.specs.WhenAProductLeavesItsRange.{OutOfItsRange}
+use Rattle.spoken_numbers.proofs.WhenAProductLeavesItsRange.{out_of_range_exactly}
 
 module _ (card : Card) (text : List ℕ) where
   -- ---- a part

@@ -18,8 +18,9 @@ use Rattle.card.specs.Laws.Table.{named_earlier, row_both, right_unnamed}
 use Rattle.card.specs.Laws.Accepted.{UnitsGood, units_accepted, card_settings, card_hall, card_line, card_numerals}
 use Rattle.line_names.specs.TheMergedTable.{others, merged}
 use Rattle.line_names.specs.OneBehindAnother.{Whole, row_before, row_behind, row_of_either, named_before, named_behind, row_whole, one_row, the_row}
-use Rattle.line_names.specs.EachRow.{each_other, merged_whole}
-use Rattle.line_names.specs.ReadAlike.{Alike, part_answer_alike, total_answer_alike, shift_answer_alike, shifted_record_alike, of_both, of_merged, merged_alike}
+use Rattle.line_names.proofs.EachRow.{each_other, merged_whole}
+use Rattle.line_names.specs.ReadAlike.{Alike, of_both, of_merged}
+use Rattle.line_names.proofs.ReadAlike.{part_answer_alike, total_answer_alike, shift_answer_alike, shifted_record_alike, merged_alike}
 
 module _ (s : Settings) where
   -- each row is accepted
