@@ -11,30 +11,26 @@ use crate::request::{ByteSet, Card, Length, Request, Segment, parse_bytes, segme
 const REQUESTS_IN_A_MODULE: usize = 100;
 
 const IMPORTS: &str = "\
-use mathlib.Core.Bool.{Bool, true, false, _&&_, Bool·beq}
-use mathlib.Core.List.{List, [], _∷_, _++_}
-use Prim.Native.Nat.{ℕ}
-use lib.Dec.{T, eqb}
-use lib.ListN.{replicate}
-use Rattle·rules.specs.declared.Length.{Length}
-use Rattle·rules.specs.declared.Answer.{Answer}
-use Rattle·rules.specs.SettingsAndUnitTable.{Card}
-use Rattle·rules.specs.Common.{same}
-use Rattle·rules.specs.Computing.{computing}
-use Rattle·rules.specs.CardAAndItsReadings.{same-length}
-use Rattle·rules.specs.WhatEveryEntryOwes.{part-answer, total-answer, write-answer, written-buffer, shift-answer, shifted-record}
+use Rattle.std.specs.Prelude.{Bool, true, false, ◌&&◌, List, [], ◌∷◌, ◌++◌, ℕ, T, eqb, replicate}
+use Rattle.rules.specs.declared.Length.{Length}
+use Rattle.rules.specs.declared.Answer.{Answer}
+use Rattle.rules.specs.SettingsAndUnitTable.{Card}
+use Rattle.rules.specs.Common.{same}
+use Rattle.rules.specs.Computing.{computing}
+use Rattle.rules.specs.CardAAndItsReadings.{same_length}
+use Rattle.rules.specs.WhatEveryEntryOwes.{part_answer, total_answer, write_answer, written_buffer, shift_answer, shifted_record}
 
 ";
 
 /// Every module says once what it means that an answer is the expected one;
 /// the position is a list of one place, or of none where any will do.
 const AGREES: &str = "\
-at-place : List ℕ → ℕ → Bool
-at-place [] p = true
-at-place (q ∷ qs) p = eqb q p
+at_place : List ℕ → ℕ → Bool
+at_place [] p = true
+at_place (q ∷ qs) p = eqb q p
 
 agrees : Answer → ℕ → List ℕ → Length → Bool
-agrees a n ps l = eqb (a .number) n && at-place ps (a .position) && same-length (a .length) l
+agrees a n ps l = eqb a.number n && at_place ps a.position && same_length a.length l
 
 ";
 
@@ -128,9 +124,9 @@ fn declare_request(
     };
     let expected = format!("{number} {position} ({})", record(sign, seconds, nanos));
     let (entry, also) = match request {
-        Request::Total { text, .. } => (format!("total-answer c{card} ({})", bytes(text)), None),
+        Request::Total { text, .. } => (format!("total_answer c{card} ({})", bytes(text)), None),
         Request::Part { place, text, .. } => (
-            format!("part-answer c{card} ({}) {place}", bytes(text)),
+            format!("part_answer c{card} ({}) {place}", bytes(text)),
             None,
         ),
         Request::Shift {
@@ -143,10 +139,10 @@ fn declare_request(
                 return Err(format!("line {line}: no record after a shift"));
             };
             let kept = format!(
-                "same-length (shifted-record {arguments}) ({})",
+                "same_length (shifted_record {arguments}) ({})",
                 record(sign, seconds, nanos)
             );
-            (format!("shift-answer {arguments}"), Some(kept))
+            (format!("shift_answer {arguments}"), Some(kept))
         }
         Request::Write {
             record: written,
@@ -158,8 +154,8 @@ fn declare_request(
                 return Err(format!("line {line}: no buffer after a write"));
             };
             let left = parse_bytes(left)?;
-            let kept = format!("same (written-buffer {arguments}) ({})", bytes(&left));
-            (format!("write-answer {arguments}"), Some(kept))
+            let kept = format!("same (written_buffer {arguments}) ({})", bytes(&left));
+            (format!("write_answer {arguments}"), Some(kept))
         }
     };
     let both = also.map_or(String::new(), |kept| format!(" && {kept}"));
@@ -170,7 +166,7 @@ fn declare_request(
     };
     let _ = writeln!(
         out,
-        "r{line} : T (agrees ({entry}) {expected}{both})\nunfolding computing same-length at-place agrees{cards}\nr{line} = tt\n"
+        "r{line} : T (agrees ({entry}) {expected}{both})\nunfolding computing same_length at_place agrees{cards}\nr{line} = tt\n"
     );
     Ok(())
 }
@@ -188,7 +184,7 @@ pub fn length(length: &Length) -> String {
 pub fn settings(card: &Card) -> String {
     let switches = &card.switches;
     let mut out = format!(
-        "record {{ negatives = {}; fractions = {}; exponents = {}; infinity = {}; ago = {}; «after_sign» = {}; «before_unit» = {}; inner = {}; outer = {}; conjunctions = {}; ",
+        "record {{ negatives = {}; fractions = {}; exponents = {}; infinity = {}; ago = {}; after_sign = {}; before_unit = {}; inner = {}; outer = {}; conjunctions = {}; ",
         switches.negatives,
         switches.fractions,
         switches.exponents,
@@ -208,7 +204,7 @@ pub fn settings(card: &Card) -> String {
             "{name} = record {{ size = {size}; letters = {letters} }}; "
         );
     }
-    let _ = write!(out, "«default_kind» = {} }}", card.kind);
+    let _ = write!(out, "default_kind = {} }}", card.kind);
     out
 }
 

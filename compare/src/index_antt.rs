@@ -20,27 +20,23 @@ const MOST_ROWS: usize = 12;
 const SEED: u64 = 7;
 
 const HEAD: &str = "\
-use mathlib.Core.Bool.{Bool, true, false, _&&_}
-use mathlib.Core.List.{List, [], _∷_, _++_}
-use Prim.Native.Nat.{ℕ}
-use lib.Dec.{T, eqb}
-use lib.ListN.{replicate}
-use Rattle·rules.specs.declared.Settings.{Settings}
-use Rattle·rules.specs.declared.Length.{Length}
-use Rattle·rules.specs.declared.Answer.{Answer}
-use Rattle·rules.specs.SettingsAndUnitTable.{Card}
-use Rattle·rules.specs.Common.{same}
-use Rattle·rules.specs.CardAAndItsReadings.{same-length}
-use Rattle·index.specs.declared.LookedUp.{LookedUp}
-use Rattle·index.specs.TheSortedIndex.{Indexed, make-answer, made-index, check-answer, replace-answer, replaced-table, replaced-index, indexed-part-answer, indexed-total-answer, indexed-shift-answer, indexed-shifted-record, lookup-answer, indexed-lookup-answer}
-use Rattle·index.specs.Computing.{computing-index}
+use Rattle.std.specs.Prelude.{Bool, true, false, ◌&&◌, List, [], ◌∷◌, ◌++◌, ℕ, T, eqb, replicate}
+use Rattle.rules.specs.declared.Settings.{Settings}
+use Rattle.rules.specs.declared.Length.{Length}
+use Rattle.rules.specs.declared.Answer.{Answer}
+use Rattle.rules.specs.SettingsAndUnitTable.{Card}
+use Rattle.rules.specs.Common.{same}
+use Rattle.rules.specs.CardAAndItsReadings.{same_length}
+use Rattle.index.specs.declared.LookedUp.{LookedUp}
+use Rattle.index.specs.TheSortedIndex.{Indexed, make_answer, made_index, check_answer, replace_answer, replaced_table, replaced_index, indexed_part_answer, indexed_total_answer, indexed_shift_answer, indexed_shifted_record, lookup_answer, indexed_lookup_answer}
+use Rattle.index.specs.Computing.{computing_index}
 
 agrees : Answer → ℕ → ℕ → Length → Bool
-agrees a n p l = eqb (a .number) n && eqb (a .position) p && same-length (a .length) l
+agrees a n p l = eqb a.number n && eqb a.position p && same_length a.length l
 
 finds : LookedUp → ℕ → ℕ → ℕ → ℕ → ℕ → Bool
 finds l n p table row compared =
-    eqb (l .number) n && eqb (l .position) p && eqb (l .table) table && eqb (l .row) row && eqb (l .compared) compared
+    eqb l.number n && eqb l.position p && eqb l.table table && eqb l.row row && eqb l.compared compared
 
 ";
 
@@ -87,7 +83,7 @@ fn declaration(number: usize, request: &IndexRequest, outcome: &Outcome) -> Resu
         bytes(&card.numerals)
     );
     Ok(format!(
-        "s{number} : Settings\ns{number} = {}\n\nc{number} : Card\nc{number} = {record}\n\nr{number} : T ({statement})\nunfolding computing-index same-length agrees finds s{number} c{number}\nr{number} = tt\n\n",
+        "s{number} : Settings\ns{number} = {}\n\nc{number} : Card\nc{number} = {record}\n\nr{number} : T ({statement})\nunfolding computing_index same_length agrees finds s{number} c{number}\nr{number} = tt\n\n",
         settings(&card)
     ))
 }
@@ -104,7 +100,7 @@ fn statement(number: usize, request: &IndexRequest, outcome: &Outcome) -> Option
     };
     let indexed = |indexes: &Indexes| {
         format!(
-            "(record {{ card = c{number}; hall-index = {}; line-index = {} }})",
+            "(record {{ card = c{number}; hall_index = {}; line_index = {} }})",
             bytes(&indexes.hall),
             bytes(&indexes.line)
         )
@@ -118,13 +114,13 @@ fn statement(number: usize, request: &IndexRequest, outcome: &Outcome) -> Option
             },
         ) => {
             let (card, lent) = one_table(card, index);
-            let made = format!("same (made-index {lent}) ({})", bytes(then));
-            let answer = agrees(&format!("make-answer {lent}"), answer);
+            let made = format!("same (made_index {lent}) ({})", bytes(then));
+            let answer = agrees(&format!("make_answer {lent}"), answer);
             (card, format!("{answer} && {made}"))
         }
         (IndexRequest::Check { card, index }, Outcome::Answered(answer)) => {
             let (card, lent) = one_table(card, index);
-            (card, agrees(&format!("check-answer {lent}"), answer))
+            (card, agrees(&format!("check_answer {lent}"), answer))
         }
         (
             IndexRequest::Replace {
@@ -141,9 +137,9 @@ fn statement(number: usize, request: &IndexRequest, outcome: &Outcome) -> Option
         ) => {
             let (card, lent) = one_table(card, index);
             let lent = format!("{lent} {row} ({})", bytes(new_row));
-            let table = format!("same (replaced-table {lent}) ({})", bytes(table));
-            let index = format!("same (replaced-index {lent}) ({})", bytes(then));
-            let answer = agrees(&format!("replace-answer {lent}"), answer);
+            let table = format!("same (replaced_table {lent}) ({})", bytes(table));
+            let index = format!("same (replaced_index {lent}) ({})", bytes(then));
+            let answer = agrees(&format!("replace_answer {lent}"), answer);
             (card, format!("{answer} && {table} && {index}"))
         }
         (
@@ -156,7 +152,7 @@ fn statement(number: usize, request: &IndexRequest, outcome: &Outcome) -> Option
             Outcome::Answered(answer),
         ) => {
             let lent = format!("{} ({}) {place}", indexed(indexes), bytes(text));
-            let answer = agrees(&format!("indexed-part-answer {lent}"), answer);
+            let answer = agrees(&format!("indexed_part_answer {lent}"), answer);
             (card.clone(), answer)
         }
         (
@@ -168,7 +164,7 @@ fn statement(number: usize, request: &IndexRequest, outcome: &Outcome) -> Option
             Outcome::Answered(answer),
         ) => {
             let lent = format!("{} ({})", indexed(indexes), bytes(text));
-            let answer = agrees(&format!("indexed-total-answer {lent}"), answer);
+            let answer = agrees(&format!("indexed_total_answer {lent}"), answer);
             (card.clone(), answer)
         }
         (
@@ -185,12 +181,12 @@ fn statement(number: usize, request: &IndexRequest, outcome: &Outcome) -> Option
         ) => {
             let (so_far, then) = (length(record), length(then));
             let lent = format!("({so_far}) {} ({})", indexed(indexes), bytes(text));
-            let kept = format!("same-length (indexed-shifted-record {lent}) ({then})");
-            let answer = agrees(&format!("indexed-shift-answer {lent}"), answer);
+            let kept = format!("same_length (indexed_shifted_record {lent}) ({then})");
+            let answer = agrees(&format!("indexed_shift_answer {lent}"), answer);
             (card.clone(), format!("{answer} && {kept}"))
         }
         (IndexRequest::LookUp { card, name }, Outcome::LookedUp(found)) => {
-            let entry = format!("lookup-answer c{number} ({})", bytes(name));
+            let entry = format!("lookup_answer c{number} ({})", bytes(name));
             (without_numerals(card), finds(&entry, found))
         }
         (
@@ -202,7 +198,7 @@ fn statement(number: usize, request: &IndexRequest, outcome: &Outcome) -> Option
             Outcome::LookedUp(found),
         ) => {
             let lent = format!("{} ({})", indexed(indexes), bytes(name));
-            let entry = format!("indexed-lookup-answer {lent}");
+            let entry = format!("indexed_lookup_answer {lent}");
             (without_numerals(card), finds(&entry, found))
         }
         _ => return None,

@@ -17,20 +17,16 @@ const LENGTHS: usize = 240;
 const BEFORE: u8 = 7;
 
 const HEAD: &str = "\
-use mathlib.Core.Bool.{Bool, true, false, _&&_}
-use mathlib.Core.List.{List, [], _∷_, _++_}
-use Prim.Native.Nat.{ℕ}
-use lib.Dec.{T, eqb}
-use lib.ListN.{replicate}
-use Rattle·rules.specs.declared.Length.{Length}
-use Rattle·rules.specs.declared.Answer.{Answer}
-use Rattle·rules.specs.Common.{same}
-use Rattle·rules.specs.CardAAndItsReadings.{same-length}
-use Rattle·iso.specs.IsoTimings.{iso-answer, iso-written, iso-write-answer, iso-written-buffer}
-use Rattle·iso.specs.Computing.{computing-iso}
+use Rattle.std.specs.Prelude.{Bool, true, false, ◌&&◌, List, [], ◌∷◌, ◌++◌, ℕ, T, eqb, replicate}
+use Rattle.rules.specs.declared.Length.{Length}
+use Rattle.rules.specs.declared.Answer.{Answer}
+use Rattle.rules.specs.Common.{same}
+use Rattle.rules.specs.CardAAndItsReadings.{same_length}
+use Rattle.iso.specs.IsoTimings.{iso_answer, iso_written, iso_write_answer, iso_written_buffer}
+use Rattle.iso.specs.Computing.{computing_iso}
 
 agrees : Answer → ℕ → ℕ → Length → Bool
-agrees a n p l = eqb (a .number) n && eqb (a .position) p && same-length (a .length) l
+agrees a n p l = eqb a.number n && eqb a.position p && same_length a.length l
 
 ";
 
@@ -38,7 +34,7 @@ agrees a n p l = eqb (a .number) n && eqb (a .position) p && same-length (a .len
 /// texts they hold.
 pub fn write_texts(specs: &Path) -> Result<usize, String> {
     let statement = |text: &Vec<u8>| {
-        let entry = format!("iso-answer ({})", bytes(text));
+        let entry = format!("iso_answer ({})", bytes(text));
         agreement(&entry, &iso::read(text))
     };
     write_statements(iso_texts::texts().iter().map(statement), specs)
@@ -65,7 +61,7 @@ fn write_statements(
 ) -> Result<usize, String> {
     let declaration = |(number, statement): (usize, String)| {
         format!(
-            "r{number} : T ({statement})\nunfolding computing-iso same-length agrees\nr{number} = tt\n\n"
+            "r{number} : T ({statement})\nunfolding computing_iso same_length agrees\nr{number} = tt\n\n"
         )
     };
     let declarations: Vec<String> = statements.enumerate().map(declaration).collect();
@@ -81,7 +77,7 @@ fn agreement(entry: &str, answer: &Answer) -> String {
 fn text_statement(record: Length) -> String {
     let written = iso::written(record);
     format!(
-        "same (iso-written ({})) ({})",
+        "same (iso_written ({})) ({})",
         length(&record),
         bytes(written.as_bytes())
     )
@@ -100,6 +96,6 @@ fn write_statement(record: Length, room: usize, place: u64) -> String {
         length(&record),
         bytes(&vec![BEFORE; room])
     );
-    let kept = format!("same (iso-written-buffer {arguments}) ({})", bytes(&after));
-    agreement(&format!("iso-write-answer {arguments}"), &answer) + " && " + &kept
+    let kept = format!("same (iso_written_buffer {arguments}) ({})", bytes(&after));
+    agreement(&format!("iso_write_answer {arguments}"), &answer) + " && " + &kept
 }

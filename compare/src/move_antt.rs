@@ -9,25 +9,16 @@ use crate::move_limits::{self, Case};
 use crate::moves::OLD;
 
 const HEAD: &str = "\
-use mathlib.Core.Bool.{Bool, true, false, _&&_}
-use mathlib.Core.List.{List, [], _∷_, _++_}
-use Prim.Native.Nat.{ℕ}
-use lib.Dec.{T, eqb}
-use lib.ListN.{replicate}
-use Rattle·rules.specs.declared.Length.{Length}
-use Rattle·rules.specs.declared.Answer.{Answer}
-use Rattle·rules.specs.Common.{same}
-use Rattle·rules.specs.CardAAndItsReadings.{same-length}
-use Rattle·rules.specs.Computing.{computing}
-use Rattle·stored.specs.Lines.{digit-value, spells, paired, line-accepted-in, restored-in}
-use Rattle·moves.specs.NamesLongerThanSixteenBytes.{with-byte, lines, row-stands, line-stands, moved-row, move-line, move-lines, moving, move-answer, written-over, moved-target, to-new-answer, new-target, to-old-answer, old-target}
+use Rattle.std.specs.Prelude.{Bool, true, false, ◌&&◌, List, [], ◌∷◌, ◌++◌, ℕ, T, eqb, replicate}
+use Rattle.rules.specs.declared.Length.{Length}
+use Rattle.rules.specs.declared.Answer.{Answer}
+use Rattle.rules.specs.Common.{same}
+use Rattle.rules.specs.CardAAndItsReadings.{same_length}
+use Rattle.moves.specs.NamesLongerThanSixteenBytes.{to_new_answer, new_target, to_old_answer, old_target}
+use Rattle.moves.specs.Computing.{computing_moves}
 
 agrees : Answer → ℕ → ℕ → Length → Bool
-agrees a n p l = eqb (a .number) n && eqb (a .position) p && same-length (a .length) l
-
-unfoldable computing-moves : Unit {0}
-unfolding computing digit-value spells paired line-accepted-in restored-in with-byte lines row-stands line-stands moved-row move-line move-lines moving move-answer written-over moved-target to-new-answer new-target to-old-answer old-target
-computing-moves = tt
+agrees a n p l = eqb a.number n && eqb a.position p && same_length a.length l
 
 ";
 
@@ -46,9 +37,9 @@ pub fn write_limits(specs: &Path) -> Result<usize, String> {
 /// Source and target of a case, what is handed back, and the target then.
 fn declaration(number: usize, case: &Case) -> String {
     let (answer, target) = if case.from == OLD {
-        ("to-new-answer", "new-target")
+        ("to_new_answer", "new_target")
     } else {
-        ("to-old-answer", "old-target")
+        ("to_old_answer", "old_target")
     };
     let wanted = &case.wanted.answer;
     let statement = format!(
@@ -59,7 +50,7 @@ fn declaration(number: usize, case: &Case) -> String {
         bytes(&case.wanted.target)
     );
     format!(
-        "source{number} : List ℕ\nsource{number} = {}\n\ntarget{number} : List ℕ\ntarget{number} = {}\n\nr{number} : T ({statement})\nunfolding computing-moves same-length agrees source{number} target{number}\nr{number} = tt\n\n",
+        "source{number} : List ℕ\nsource{number} = {}\n\ntarget{number} : List ℕ\ntarget{number} = {}\n\nr{number} : T ({statement})\nunfolding computing_moves same_length agrees source{number} target{number}\nr{number} = tt\n\n",
         bytes(&case.source),
         bytes(&case.target)
     )
