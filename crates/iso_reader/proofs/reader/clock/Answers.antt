@@ -59,7 +59,7 @@ overflow_add-next c = let within = (known (goal.at.overflow_add-next c).In-Got).
 open-ended :
     (c : Else-closes)
     → closes (component_of c.args.text.now c.in-Got.counted) ≡ false
-open-ended c = sym (c.closes.ensures _ (sized_clock _ _ _ c.loop-cause.invariant.0 (lettered c))) ∙ c.if-closes.false
+open-ended c = sym (c.closes.ensures _ (sized_clock _ _ _ c.loop-cause.invariant.0 (rw c.in-Got.is at c.component.ensures.component_within))) ∙ c.if-closes.false
 
 pub returns-then-next-text : goal.returns-then-next-text
 returns-then-next-text c =

@@ -31,7 +31,7 @@ component-from :
     component_outcome text c.component.result ≡ components text
 component-from c =
     c.component.ensures.result_value
-    ∙ sym (first_is _ (sym c.stands.ensures ∙ not-false _ c.if-not-stands.false)) ∙ date_number _ 1 (sym c.stands-2.ensures ∙ c.if-stands.false))
+    ∙ sym (first_is _ (sym c.stands.ensures ∙ not-false _ (ap not c.if-not-stands.false)) ∙ date_number _ 1 (sym c.stands-2.ensures ∙ c.if-stands.false))
 
 pub dated-requires : goal.dated-requires
 dated-requires c = rw c.in-Got.is at c.component.ensures.component_within
