@@ -5,10 +5,10 @@
 
 use answers::refusal;
 use card::table::card_check;
-use libc::STDOUT_FILENO;
 use lists::cards::{MOST_BYTES, Next, next_card};
 use lists::fields::half_at;
 use lists::lines::{first_bytes, read_line};
+use lists::streams::STDOUT;
 use settings::Checked;
 use settings::fields::words_of;
 
@@ -36,14 +36,14 @@ fn check_often<'a>(
 fn print(checked: Checked) {
     match checked {
         Checked::Accepted => {
-            io::write_all(STDOUT_FILENO, b"0 0\n");
+            io::write_all(STDOUT, b"0 0\n");
         }
         Checked::Refused(cause) => {
             let answer = refusal(cause);
-            io::print_decimal(STDOUT_FILENO, answer.number as u64);
-            io::write_all(STDOUT_FILENO, b" ");
-            io::print_decimal(STDOUT_FILENO, answer.position as u64);
-            io::write_all(STDOUT_FILENO, b"\n");
+            io::print_decimal(STDOUT, answer.number as u64);
+            io::write_all(STDOUT, b" ");
+            io::print_decimal(STDOUT, answer.position as u64);
+            io::write_all(STDOUT, b"\n");
         }
     }
 }
@@ -83,6 +83,6 @@ fn main() {
     if !read_line(&mut head) {
         return;
     }
-    io::print_decimal(STDOUT_FILENO, check_all(half_at(&head, 0)));
-    io::write_all(STDOUT_FILENO, b" cards\n");
+    io::print_decimal(STDOUT, check_all(half_at(&head, 0)));
+    io::write_all(STDOUT, b" cards\n");
 }

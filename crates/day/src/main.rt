@@ -6,10 +6,10 @@
 
 use entries::{shifted_total, write_length};
 use lengths::duration::zero;
-use libc::STDOUT_FILENO;
 use lists::cards::{MOST_BYTES, Next, next_card};
 use lists::fields::half_at;
 use lists::lines::{first_bytes, read_line};
+use lists::streams::STDOUT;
 use lists::texts::{ROOM, TEXT, Text, next_text};
 use rules::{Answer, Length};
 use settings::fields::words_of;
@@ -44,14 +44,14 @@ fn write_often(length: Length, buffer: &mut [u8], rounds: u32) -> usize {
 }
 
 fn print_added(answer: Answer, total: Length, rounds: u32) {
-    io::print_decimal(STDOUT_FILENO, answer.number as u64);
-    io::write_all(STDOUT_FILENO, b" ");
-    io::print_decimal(STDOUT_FILENO, answer.position as u64);
-    io::write_all(STDOUT_FILENO, b" ");
+    io::print_decimal(STDOUT, answer.number as u64);
+    io::write_all(STDOUT, b" ");
+    io::print_decimal(STDOUT, answer.position as u64);
+    io::write_all(STDOUT, b" ");
     let mut buffer = [0u8; ONE];
     let size = write_often(total, &mut buffer, rounds);
-    io::write_all(STDOUT_FILENO, first_bytes(&buffer, size));
-    io::write_all(STDOUT_FILENO, b"\n");
+    io::write_all(STDOUT, first_bytes(&buffer, size));
+    io::write_all(STDOUT, b"\n");
 }
 
 // The first bytes of a buffer added to the total, and printed.

@@ -4,9 +4,9 @@
 // down.
 #![tactic(auto)]
 
-use libc::STDOUT_FILENO;
 use lists::fields::{flag_at, further, length_at, same_length, short_at, word_at};
 use lists::lines::read_line;
+use lists::streams::STDOUT;
 use rules::{DurationRepr, Exponent, Fract, Length, Multiplier};
 use value::digits::{parse_digits_strip_zeros, sum_digits};
 use value::evaluation::evaluate;
@@ -132,8 +132,8 @@ fn count() -> Counts {
 
 fn main() {
     let counts = count();
-    io::print_decimal(STDOUT_FILENO, counts.cases);
-    io::write_all(STDOUT_FILENO, b" cases, ");
-    io::print_decimal(STDOUT_FILENO, counts.differ);
-    io::write_all(STDOUT_FILENO, b" differ\n");
+    io::print_decimal(STDOUT, counts.cases);
+    io::write_all(STDOUT, b" cases, ");
+    io::print_decimal(STDOUT, counts.differ);
+    io::write_all(STDOUT, b" differ\n");
 }

@@ -11,10 +11,10 @@ mod replaced;
 
 use index_entries::read_total_indexed;
 use indexes::{INDEX, ROW, TWICE, exchanged, make_twice, turned};
-use libc::STDOUT_FILENO;
 use lists::cards::{MOST_BYTES, Next, next_card};
 use lists::lines::{first_bytes, part};
 use lists::printed::print_answer;
+use lists::streams::STDOUT;
 use lists::texts::{ROOM, TEXT, Text, next_text};
 use lookups::look_up_all;
 use replaced::replace_first;
@@ -24,8 +24,8 @@ use settings::fields::words_of;
 const MOST_CARDS: u64 = 1_000_000;
 
 fn print_number(number: u64, behind: &[u8]) {
-    io::print_decimal(STDOUT_FILENO, number);
-    io::write_all(STDOUT_FILENO, behind);
+    io::print_decimal(STDOUT, number);
+    io::write_all(STDOUT, behind);
 }
 
 // The text behind a card, read through both indexes and with the line's left out, and printed. False where the list ends.

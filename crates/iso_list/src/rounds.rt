@@ -3,10 +3,10 @@
 // has to end with a text for which there is no room.
 use crate::reads::put_next;
 use iso_entries::{read_iso, write_iso};
-use libc::STDOUT_FILENO;
 use lists::fields::{further, half_at};
 use lists::lines::{first_bytes, read_line};
 use lists::printed::print_answer;
+use lists::streams::STDOUT;
 use lists::texts::{ROOM, Text};
 use rules::{Answer, Length};
 
@@ -48,8 +48,8 @@ fn write_often(length: Length, buffer: &mut [u8], rounds: u32) -> usize {
 fn print_written(length: Length, rounds: u32) {
     let mut one = [0u8; ONE];
     let size = write_often(length, &mut one, rounds);
-    io::write_all(STDOUT_FILENO, first_bytes(&one, size));
-    io::write_all(STDOUT_FILENO, b"\n");
+    io::write_all(STDOUT, first_bytes(&one, size));
+    io::write_all(STDOUT, b"\n");
 }
 
 // The text behind the line, read and written so often.

@@ -1,11 +1,11 @@
 // Lengths written and read again, and the edges of a buffer.
 use crate::lengths::{LENGTHS, nth};
 use iso_entries::{read_iso, write_iso};
-use libc::STDOUT_FILENO;
 use lists::counts::{COUNTS, DIFFERENCE, added, count, count_answer, print_count, print_counts};
 use lists::edges::{BEFORE, BEYOND, EDGE, untouched};
 use lists::lines::first_bytes;
 use lists::printed::same_answer;
+use lists::streams::STDOUT;
 use rules::{Answer, Length};
 
 // The numbers of the writer's refusals.
@@ -130,8 +130,8 @@ fn write_one(length: Length, counts: &mut [u64; COUNTS]) -> usize {
     let mut one = [BEFORE; EDGE];
     let size = write_iso(length, &mut one, 0).position;
     let text = first_bytes(&one, size);
-    io::write_all(STDOUT_FILENO, text);
-    io::write_all(STDOUT_FILENO, b"\n");
+    io::write_all(STDOUT, text);
+    io::write_all(STDOUT, b"\n");
     if !reads_as(text, 0, length) {
         count(DIFFERENCE, counts);
     }

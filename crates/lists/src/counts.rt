@@ -1,5 +1,5 @@
 // Counts, which have an end so that their sums are proved to fit.
-use libc::STDOUT_FILENO;
+use crate::streams::STDOUT;
 
 // More of anything than a list has.
 pub const MOST: u64 = 1_000_000_000_000;
@@ -52,9 +52,9 @@ pub fn count_answer(number: u8, agrees: bool, counts: &mut [u64; COUNTS]) {
 }
 
 pub fn print_count(name: &[u8], count: u64) {
-    io::write_all(STDOUT_FILENO, name);
-    io::print_decimal(STDOUT_FILENO, count);
-    io::write_all(STDOUT_FILENO, b"\n");
+    io::write_all(STDOUT, name);
+    io::print_decimal(STDOUT, count);
+    io::write_all(STDOUT, b"\n");
 }
 
 // How many answers there were of each number, a line for each: of the numbers below an end in any case, of the others where there were any.
@@ -63,7 +63,7 @@ pub fn print_counts(name: &[u8], counts: &[u64; COUNTS], end: usize) {
     while number < NUMBERS {
         let came = counts[number];
         if (number < end) | (came > 0) {
-            io::print_decimal(STDOUT_FILENO, number as u64);
+            io::print_decimal(STDOUT, number as u64);
             print_count(name, came);
         }
         number += 1;

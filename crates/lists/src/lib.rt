@@ -8,5 +8,6 @@ pub mod edges;
 pub mod fields;
 pub mod lines;
 pub mod printed;
+pub mod streams;
 pub mod sums;
 pub mod texts;

@@ -1,10 +1,10 @@
 // Lines of a list, from standard input. Their sizes are known before they are read, so a line is one read.
-use libc::STDIN_FILENO;
+use crate::streams::STDIN;
 
 // Fills a line, its newline included. False where the list ends.
 pub fn read_line(line: &mut [u8]) -> bool {
     let size = line.len();
-    let got = io::read_full(STDIN_FILENO, line);
+    let got = io::read_full(STDIN, line);
     size <= got
 }
 

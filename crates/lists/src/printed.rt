@@ -1,7 +1,7 @@
 // Answers: printed as the line program prints them, and compared.
 use crate::fields::same_length;
 use crate::lines::first_bytes;
-use libc::STDOUT_FILENO;
+use crate::streams::STDOUT;
 use printing::put_answer;
 use rules::Answer;
 
@@ -12,7 +12,7 @@ const LONGEST_LINE: usize = 86;
 pub fn print_answer(answer: Answer) {
     let mut line = [0u8; LONGEST_LINE];
     let printed = put_answer(answer, &mut line, 0);
-    io::write_all(STDOUT_FILENO, first_bytes(&line, printed));
+    io::write_all(STDOUT, first_bytes(&line, printed));
 }
 
 pub fn same_answer(a: Answer, b: Answer) -> bool {

@@ -2,8 +2,8 @@
 // refusal's number and line. How lines are moved is proved in `mover`; here bytes are read and written.
 #![tactic(auto)]
 
-use libc::{STDIN_FILENO, STDOUT_FILENO};
 use lists::lines::first_bytes;
+use lists::streams::{STDIN, STDOUT};
 use move_entries::{move_to_new, move_to_old};
 use rules::Answer;
 
@@ -33,19 +33,19 @@ fn move_read(to_new: bool, most: usize, read: &[u8], target: &mut [u8]) -> Answe
 }
 
 fn print_refusal(answer: Answer) {
-    io::print_decimal(STDOUT_FILENO, answer.number as u64);
-    io::write_all(STDOUT_FILENO, b" ");
-    io::print_decimal(STDOUT_FILENO, answer.position as u64);
-    io::write_all(STDOUT_FILENO, b"\n");
+    io::print_decimal(STDOUT, answer.number as u64);
+    io::write_all(STDOUT, b" ");
+    io::print_decimal(STDOUT, answer.position as u64);
+    io::write_all(STDOUT, b"\n");
 }
 
 // All of standard input, of which so many bytes are taken, by way of a source that has room for a byte more and a target that has room for what becomes
 // of them.
 pub fn move_input(to_new: bool, most: usize, source: &mut [u8], target: &mut [u8]) {
-    let read = io::read_full(STDIN_FILENO, source);
+    let read = io::read_full(STDIN, source);
     let answer = move_read(to_new, most, first_bytes(source, read), target);
     if answer.number == 0 {
-        io::write_all(STDOUT_FILENO, first_bytes(target, answer.position));
+        io::write_all(STDOUT, first_bytes(target, answer.position));
         return;
     }
     print_refusal(answer);

@@ -10,8 +10,8 @@ mod spoiled;
 mod whole;
 
 use forms::{EIGHT_ROWS, NEW_LINES, OLD_LINES, fill_lines, move_lines};
-use libc::STDOUT_FILENO;
 use lists::lines::{part, read_line};
+use lists::streams::STDOUT;
 use spoiled::{WAYS, last_spoiled, lines_spoiled};
 use whole::{behind, moved_whole, too_short};
 
@@ -24,8 +24,8 @@ const TEN_ROWS: usize = 970;
 const TWO_ROWS: usize = 194;
 
 fn print_number(number: u64, behind: &[u8]) {
-    io::print_decimal(STDOUT_FILENO, number);
-    io::write_all(STDOUT_FILENO, behind);
+    io::print_decimal(STDOUT, number);
+    io::write_all(STDOUT, behind);
 }
 
 // All that is tried of a list of so many lines.

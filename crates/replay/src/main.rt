@@ -5,7 +5,6 @@
 #![tactic(auto)]
 
 use entries::{read_part, read_total};
-use libc::STDOUT_FILENO;
 use lists::cards::{MOST_BYTES, Next, next_card};
 use lists::counts::{
     CARD, COUNTS, DIFFERENCE, ENTRY, MOST, NUMBERS, count, count_answer, print_counts,
@@ -13,6 +12,7 @@ use lists::counts::{
 use lists::fields::{byte_at, flag_at, half_at, length_at, word_at};
 use lists::lines::{first_bytes, read_line};
 use lists::printed::{print_answer, same_answer};
+use lists::streams::STDOUT;
 use lists::texts::{Text, next_text};
 use rules::Answer;
 use settings::fields::words_of;
@@ -76,9 +76,9 @@ fn ask<'a>(
 // A request that differs, by its place in the list, and the answer that was found. The first of them are shown.
 fn show(answer: Answer, counts: &[u64; COUNTS]) {
     if counts[DIFFERENCE] <= SHOWN {
-        io::write_all(STDOUT_FILENO, b"request ");
-        io::print_decimal(STDOUT_FILENO, counts[ENTRY]);
-        io::write_all(STDOUT_FILENO, b" differs: ");
+        io::write_all(STDOUT, b"request ");
+        io::print_decimal(STDOUT, counts[ENTRY]);
+        io::write_all(STDOUT, b" differs: ");
         print_answer(answer);
     }
 }
@@ -177,12 +177,12 @@ fn replay_all(text: &mut [u8], counts: &mut [u64; COUNTS]) {
 }
 
 fn print_all(counts: &[u64; COUNTS]) {
-    io::print_decimal(STDOUT_FILENO, counts[ENTRY]);
-    io::write_all(STDOUT_FILENO, b" requests under ");
-    io::print_decimal(STDOUT_FILENO, counts[CARD]);
-    io::write_all(STDOUT_FILENO, b" cards, ");
-    io::print_decimal(STDOUT_FILENO, counts[DIFFERENCE]);
-    io::write_all(STDOUT_FILENO, b" differ\n");
+    io::print_decimal(STDOUT, counts[ENTRY]);
+    io::write_all(STDOUT, b" requests under ");
+    io::print_decimal(STDOUT, counts[CARD]);
+    io::write_all(STDOUT, b" cards, ");
+    io::print_decimal(STDOUT, counts[DIFFERENCE]);
+    io::write_all(STDOUT, b" differ\n");
     print_counts(b": ", counts, NUMBERS);
 }
 

@@ -5,7 +5,6 @@
 
 use entries::{read_part, read_total, write_length};
 use lengths::duration::zero;
-use libc::STDOUT_FILENO;
 use lists::cards::{MOST_BYTES, Next, next_card};
 use lists::counts::{
     COUNTS, DIFFERENCE, added, count_answer, one_more, print_count, print_counts, unless,
@@ -13,6 +12,7 @@ use lists::counts::{
 use lists::edges::{BEFORE, BEYOND, EDGE, untouched};
 use lists::fields::same_length;
 use lists::lines::first_bytes;
+use lists::streams::STDOUT;
 use rules::{Answer, LONGEST_TEXT, Length};
 use settings::fields::words_of;
 use tables::pow10;
@@ -175,14 +175,14 @@ fn try_edges(length: Length, counts: &mut [u64; COUNTS]) {
 
 // How many lengths and bytes a list has, and its total as it is written.
 fn print_list(line: Line, total: Length) {
-    io::print_decimal(STDOUT_FILENO, line.lengths);
-    io::write_all(STDOUT_FILENO, b" ");
-    io::print_decimal(STDOUT_FILENO, line.size as u64);
-    io::write_all(STDOUT_FILENO, b" ");
+    io::print_decimal(STDOUT, line.lengths);
+    io::write_all(STDOUT, b" ");
+    io::print_decimal(STDOUT, line.size as u64);
+    io::write_all(STDOUT, b" ");
     let mut one = [0u8; ONE];
     let answer = write_length(total, &mut one, 0);
-    io::write_all(STDOUT_FILENO, first_bytes(&one, answer.position));
-    io::write_all(STDOUT_FILENO, b"\n");
+    io::write_all(STDOUT, first_bytes(&one, answer.position));
+    io::write_all(STDOUT, b"\n");
 }
 
 // A list written, read part by part and in total, and printed.
