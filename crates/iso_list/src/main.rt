@@ -2,7 +2,7 @@
 // reads each again, prints it, and tries the edges of a buffer; then repeats one text, if there is one behind the list.
 #![tactic(auto)]
 
-mod lengths;
+mod made_lengths;
 mod reads;
 mod rounds;
 mod writes;

@@ -1,5 +1,5 @@
 // Lengths written and read again, and the edges of a buffer.
-use crate::lengths::{LENGTHS, nth};
+use crate::made_lengths::{LENGTHS, nth};
 use iso_entries::{read_iso, write_iso};
 use lists::counts::{COUNTS, DIFFERENCE, added, count, count_answer, print_count, print_counts};
 use lists::edges::{BEFORE, BEYOND, EDGE, untouched};

@@ -1,0 +1,12 @@
+-- `moves_list::forms::fill_lines` is safe and ends: the buffer keeps its length, and each turn leaves fewer bytes. Assumes nothing.
+use mathlib.Core.Path.{◌≡◌}
+use Prim.Native.Nat.{◌-◌}
+use borrow.Author.Rules.{rules}
+use lib.ListN.{length}
+use Rattle.moves_list.proofs.forms.fill_lines.Given as goal
+
+abbrev pub invariant-loop-i : goal.invariant-loop-i
+invariant-loop-i l = length l.buffer ≡ length l.initial.buffer
+
+abbrev pub decreases-loop-i : goal.decreases-loop-i
+decreases-loop-i l = length l.initial.buffer - l.i
