@@ -2,14 +2,12 @@
 -- that no text finds, before one that is bad itself; and a row that a spoken number finds, and no text that counts. Assumes nothing.
 use Rattle.std.specs.Prelude.{◌≡◌, refl, Bool, true, false, not, ◌&&◌, List, [], ◌++◌, ℕ, ◌-◌, ◌^◌, T}
 use Prim.Native.String.{String}
-use Rattle.std.proofs.Common.{arith}
 use Rattle.rules.specs.declared.Settings.{Settings}
 use Rattle.rules.specs.declared.Length.{Length}
-use Rattle.rules.specs.declared.Refusal.TheVariants.{BadRow, BadLineRow}
 use Rattle.rules.specs.Common.{ascii, same}
 use Rattle.rules.specs.ThePartOfTheCrateWeTake.{zero_length}
-use Rattle.rules.specs.NumbersHandedBack.{Outcome, got, refused, position}
-use Rattle.rules.specs.SettingsAndUnitTable.{row, name, row_right, Card, card_check, Line, Hall, Neither}
+use Rattle.rules.specs.NumbersHandedBack.{Outcome, got, refused}
+use Rattle.rules.specs.SettingsAndUnitTable.{row, name, row_right, Card, Line, Hall, Neither}
 use Rattle.rules.specs.Evaluation.{total}
 use Rattle.rules.specs.Computing.{computing}
 use Rattle.rules.specs.CardAAndItsReadings.{space, conjunction, settings, settings_A, row_of, same_length, plus}
@@ -19,7 +17,6 @@ use Rattle.findable.specs.WhereAPartFindsItsUnit.{unit_stands, number_unit, unsi
 use Rattle.findable.specs.OneOfTheTwoTables.{Whose, OfHall, OfLine, row_in}
 use Rattle.findable.specs.TheReadersOwn.{HasSpoken, spoken_here, spoken_later}
 use Rattle.findable.specs.TheTextForARow.{first_held, joint, text_for}
-use Rattle.findable.specs.ExactlyIf.{Findable, bad_row_exactly}
 
 -- `eon`, `s` and a row of minus five seconds
 unfoldable pub table : List ℕ
@@ -105,13 +102,6 @@ pub right_and_wrong :
 unfolding computing space conjunction settings settings_A row_of none asked seconds eon_and_kind_9
 right_and_wrong = (refl, refl)
 
--- the card is refused by 7 with the first, and so no text finds it
-pub eon_not_found : (card_check (only OfHall (asked false false space) eon_and_kind_9 []) ≡ refused (BadRow 0)) × (Findable (only OfHall (asked false false space) eon_and_kind_9 []) OfHall 0 → ⊥)
-unfolding computing space conjunction settings settings_A row_of none asked seconds only eon_and_kind_9
-eon_not_found =
-    let card : Card = only OfHall (asked false false space) eon_and_kind_9 [] in
-    (refl, (bad_row_exactly card OfHall refl refl refl 0 (omega arith) refl (λ j before. absurd (omega arith))).0 refl)
-
 -- ---- spoken numbers (request four)
 
 -- exponents off, nothing before units, and the numeral `five`
@@ -128,12 +118,3 @@ pub not_counted :
     × T (for_each (λ whose. card_finds (speaking whose) whose "1s five eon" false false false && card_finds (speaking whose) whose "1s inf 2owed" false true true))
 unfolding computing space conjunction settings settings_A row_of plus numeral none asked seconds table only for_each speaking card_finds unit_stands number_unit unsigned_unit unit_of counted units same_holder among among_got finds
 not_counted = (refl, refl, tt, spoken_later refl refl (spoken_here refl), tt)
-
--- so the row is refused as without numerals, with 128 more if it is the line's, and no text that counts finds it
-pub still_refused :
-    (card_check (speaking OfHall) ≡ refused (BadRow 0))
-    × (card_check (speaking OfLine) ≡ refused (BadLineRow 0))
-    × (position (BadLineRow 0) ≡ 128)
-    × (Findable (speaking OfLine) OfLine 0 → ⊥)
-unfolding computing space conjunction settings settings_A row_of numeral none asked seconds table only speaking
-still_refused = (refl, refl, refl, (bad_row_exactly (speaking OfLine) OfLine refl refl refl 0 (omega arith) refl (λ j before. absurd (omega arith))).0 refl)

@@ -4,8 +4,4 @@ pub mod TheTextForARow
 pub mod OneOfTheTwoTables
 pub mod Examples
 pub mod TheReadersOwn
-pub mod OfEveryUnit
-pub mod NobodyCouldType
-pub mod HiddenByTheLine
-pub mod ATextForEachRow
 pub mod ExactlyIf

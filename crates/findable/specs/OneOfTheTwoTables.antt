@@ -4,7 +4,7 @@ use Rattle.std.proofs.Common.{ap, eq-eqb, eqb-true}
 use Rattle.std.proofs.lemmas.Bool.{false≢true}
 use Rattle.rules.specs.declared.Found.{Found}
 use Rattle.rules.specs.declared.Found.TheVariants.{Row, Nowhere}
-use Rattle.rules.specs.SettingsAndUnitTable.{row_size, rows_in, row, name, Card, lookup_from_in, lookup, lookup_in, Holder, Line, Hall, Neither, line_first, stands, held_row}
+use Rattle.rules.specs.SettingsAndUnitTable.{row_size, row, name, Card, lookup, Holder, Line, Hall, Neither, line_first, stands, held_row}
 use Rattle.rows.specs.Laws.Rows.{length_row}
 use Rattle.rows.specs.Laws.Lookup.{lookup_found}
 use Rattle.findable.specs.WhereAPartFindsItsUnit.{same_holder}
@@ -38,21 +38,10 @@ abbrev pub Unhidden : Whose → Card → List ℕ → Type 0
 Unhidden OfHall card wanted = lookup card.line wanted ≡ Nowhere
 Unhidden OfLine card wanted = Unit {0}
 
--- it is found where it stands
-pub stands_there : (whose : Whose) (card : Card) (wanted : List ℕ) (i : ℕ) → Unhidden whose card wanted → lookup (table_of whose card) wanted ≡ Row i → stands card.hall card.line wanted ≡ row_in whose i
-unfolding stands line_first
-stands_there OfHall card wanted i before at = rw (before, at)
-stands_there OfLine card wanted i before at = rw at
-
 -- the table by itself: the other is empty, so that nothing is hidden
 abbrev pub Alone : Whose → Card → Type 0
 Alone OfHall card = card.line ≡ []
 Alone OfLine card = card.hall ≡ []
-
-pub alone_unhidden : (whose : Whose) (card : Card) → Alone whose card → (wanted : List ℕ) → Unhidden whose card wanted
-unfolding lookup_in lookup_from_in rows_in
-alone_unhidden OfHall card empty wanted = rw empty
-alone_unhidden OfLine card empty wanted = tt
 
 -- ---- where a name stands, whatever the tables are
 

@@ -5,17 +5,16 @@ use Rattle.std.proofs.Math.Bool.{true}
 use mathlib.Core.List.{List, [], ◌∷◌, map, flatten}
 use native.Mathlib.Omega.{arith}
 use Rattle.std.proofs.Math.ListN.{length-append}
-use borrow.Author.Tests.{le-leb, leb-true}
+use borrow.Author.Tests.{le-leb}
 use Rattle.rules.specs.Common.{all}
 use Rattle.rules.specs.SettingsAndUnitTable.{row_size_in, name_size, stored, two_digits}
-use Rattle.rules.proofs.Laws.Choices.{and_left, and_right, and_both, all_first, all_others, all_weaken}
+use Rattle.rules.proofs.Laws.Choices.{and_right, and_both, all_first, all_others, all_weaken}
 use Rattle.stored.specs.Lines.{line_size_in, line_accepted_in, restored_in}
-use Rattle.stored.specs.Laws.{length_restored, length_two_digits}
+use Rattle.stored.specs.Laws.{length_two_digits}
 use Rattle.moves.specs.NamesLongerThanSixteenBytes.{row_stands, line_stands}
 use Rattle.moves.proofs.Laws.Digits.{moved_long}
 use Rattle.moves.proofs.Laws.Moves.{line_moves, moved_line, stands_accepted, moves_stand, moves_small, moves_fit}
 use Rattle.moved.specs.Standing.{name_within}
-use Rattle.moved.specs.Rows.{Movable}
 
 unfoldable pub moved_lines : ℕ → ℕ → List (List ℕ) → List ℕ
 moved_lines from to ls = flatten (map (moved_line from to) ls)
@@ -28,14 +27,6 @@ module _ (from to : ℕ) where
   module _ (line : List ℕ) (e : line_moves from to line ≡ true) where
     pub moves_accepted : line_accepted_in from line ≡ true
     moves_accepted = stands_accepted from line (moves_stand from to line e)
-
-    pub moves_movable : Movable from to (restored_in from line)
-    unfolding line_moves line_stands
-    moves_movable = record {
-      whole = length_restored from line moves_accepted;
-      stands = search (and_left, and_right);
-      fits = leb-true (name_size (restored_in from line)) to (search (and_left, and_right));
-    }
 
     length_moved : length (moved_line from to line) ≡ line_size_in to
     unfolding moved_line

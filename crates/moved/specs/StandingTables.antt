@@ -1,20 +1,19 @@
 -- A table that passes its check has whole rows, and each of them stands; those with names that fit move. Assumes nothing.
 use Rattle.std.specs.Prelude.{◌≡◌, Bool, true, List, eqb, leb}
-use Prim.Native.Nat.{ℕ, suc, ◌*◌, ◌%◌, ◌≤◌, ◌<◌}
-use Rattle.std.proofs.Common.{le-div_iff_mul-le, arith, length-take, length-drop}
+use Prim.Native.Nat.{ℕ, ◌%◌, ◌≤◌, ◌<◌}
+use Rattle.std.proofs.Common.{arith}
 use Rattle.std.proofs.Math.ListN.{length}
 use borrow.Author.Tests.{eqb-true}
 use Rattle.rules.specs.declared.Refusal.{Refusal}
 use Rattle.rules.specs.declared.Refusal.TheVariants.{NumeralsSize, BadNumeral}
 use Rattle.rules.specs.declared.Settings.{Settings}
-use Rattle.rules.specs.NumbersHandedBack.{got, ◌>>◌}
+use Rattle.rules.specs.NumbersHandedBack.{got}
 use Rattle.rules.specs.SettingsAndUnitTable.{row_size_in, rows_in, row_in, name_size, name, most_rows, most_numerals, can_be_typed, rows_check, row_formed_in, row_right_in, row_accepted_in, numeral_accepted_in, whole_rows_in, units_check_in, numerals_check_in}
 use Rattle.rules.proofs.Laws.Choices.{and_left, and_right}
 use Rattle.rules.proofs.Laws.Outcomes.{passed}
 use Rattle.rules.proofs.Laws.RowsCheck.{rows_good}
 use Rattle.moves.specs.NamesLongerThanSixteenBytes.{row_stands}
 use Rattle.moved.specs.Standing.{stands_of, name_within}
-use Rattle.moved.specs.Tables.{AllMovable}
 
 -- a table of whole rows, each of which stands
 pub record TableStands (room : ℕ) (table : List ℕ) : Type 0 where
@@ -54,18 +53,9 @@ module _ (room : ℕ) (table : List ℕ) where
         each = λ i h. formed_stands _ _ i (rows_good (numeral_accepted_in room table) BadNumeral (rows_in room table) i right h);
       }
 
-  row_whole : (i : ℕ) → i < rows_in room table → length (row_in room table i) ≡ row_size_in room
-  unfolding row_in rows_in
-  row_whole i h =
-      let within : suc i * row_size_in room ≤ length table = (le-div_iff_mul-le {k = row_size_in room} (omega arith)).0 h in
-      simp (length-take, length-drop) (omega arith)
-
 -- ---- rows that move
 
 module _ (from to : ℕ) (table : List ℕ) (t : TableStands from table) where
   -- all names fit where the room is no smaller
   pub fit_larger : from ≤ to → NamesFit from to table
   fit_larger larger i h = omega (arith, name_within from (row_in from table i) (t.each i h))
-
-  pub all_movable : NamesFit from to table → AllMovable from to table
-  all_movable fit i h = record { whole = row_whole from table i h; stands = t.each i h; fits = fit i h }

@@ -14,7 +14,7 @@ use Rattle.rules.specs.Evaluation.{part_reading}
 use Rattle.rules.proofs.Laws.Outcomes.{All, all_got, all_refused, of_got, all_if, all_bind, always}
 use Rattle.findable.specs.WhereAPartFindsItsUnit.{unit_of, counted, units, same_holder, among, among_got, finds}
 use Rattle.findable.specs.OneOfTheTwoTables.{same_holders}
-use Rattle.findable.specs.TheReadersOwn.{refused_among}
+use Rattle.findable.proofs.TheReadersOwn.{refused_among}
 
 got_among : (at : Holder) (found : List Holder) → among_got at (got found) ≡ true → among at found ≡ true
 unfolding among_got

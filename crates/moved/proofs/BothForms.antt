@@ -15,12 +15,15 @@ use Rattle.moves.specs.NamesLongerThanSixteenBytes.{lines, line_stands, moving, 
 use Rattle.moves.proofs.Laws.Moves.{line_moves}
 use Rattle.moved.specs.MovedLines.{moved_lines, larger_moves}
 use Rattle.moved.specs.Accepted.{moving_got}
-use Rattle.moved.specs.ThereAndBack.{there_and_back}
+use Rattle.moved.proofs.ThereAndBack.{there_and_back}
 use Rattle.moved.specs.Tables.{moved_table}
-use Rattle.moved.specs.StandingTables.{TableStands, NamesFit, units_stand, numerals_stand, fit_larger, all_movable}
-use Rattle.moved.specs.AcceptedTables.{table_back, lookup_there, multiplier_there, units_accepted, numerals_accepted}
-use Rattle.moved.specs.StoredTables.{stored_table, stored_table_moved}
-use Rattle.moved.specs.HandedBack.{written, there_and_back_written}
+use Rattle.moved.specs.StandingTables.{TableStands, NamesFit, units_stand, numerals_stand, fit_larger}
+use Rattle.moved.proofs.StandingTables.{all_movable}
+use Rattle.moved.proofs.AcceptedTables.{table_back, lookup_there, multiplier_there, units_accepted, numerals_accepted}
+use Rattle.moved.specs.StoredTables.{stored_table}
+use Rattle.moved.proofs.StoredTables.{stored_table_moved}
+use Rattle.moved.specs.HandedBack.{written}
+use Rattle.moved.proofs.HandedBack.{there_and_back_written}
 
 -- ---- there and back
 

@@ -13,8 +13,9 @@ use Rattle.rules.specs.SettingsAndUnitTable.{row_size_in, rows_in, row_in, name,
 use Rattle.rules.proofs.Laws.RowsCheck.{rows_alike}
 use Rattle.moves.specs.NamesLongerThanSixteenBytes.{moved_row}
 use Rattle.moved.specs.Standing.{stands_sized, stands_after, stands_end}
-use Rattle.moved.specs.Rows.{moved_stands, same_name, same_kind, same_product}
-use Rattle.moved.specs.Tables.{moved_table, AllMovable, length_moved_table, same_rows, row_moved, row_name, same_named}
+use Rattle.moved.proofs.Rows.{moved_stands, same_name, same_kind, same_product}
+use Rattle.moved.specs.Tables.{moved_table, AllMovable}
+use Rattle.moved.proofs.Tables.{length_moved_table, same_rows, row_moved, row_name, same_named}
 
 module _ (from to : ℕ) (table : List ℕ) (m : AllMovable from to table) where
   module _ (i : ℕ) (h : i < rows_in from table) where

@@ -20,7 +20,7 @@ use Rattle.rules.proofs.Laws.Outcomes.{All, all_got, all_refused, all_of, all_if
 use Rattle.rules.proofs.Laws.Layout.{gap_none}
 use Rattle.findable.specs.WhereAPartFindsItsUnit.{unit_stands, number_unit, unsigned_unit, unit_of, finds}
 use Rattle.findable.specs.OneOfTheTwoTables.{row_held, Stands, somewhere, nowhere, where_it_stands}
-use Rattle.findable.specs.OfEveryUnit.{found_holds}
+use Rattle.findable.proofs.OfEveryUnit.{found_holds}
 
 -- ---- an empty set holds nothing
 

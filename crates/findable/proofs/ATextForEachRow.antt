@@ -35,8 +35,9 @@ use Rattle.rows.specs.Laws.Rows.{length_row}
 use Rattle.rows.specs.Laws.Rooms.{name_some, size_most, name_bytes}
 use Rattle.findable.specs.TheTextForARow.{first_held, joint, text_for}
 use Rattle.findable.specs.WhereAPartFindsItsUnit.{unit_stands, number_unit, unsigned_unit, unit_of, counted, units, among, among_got, finds}
-use Rattle.findable.specs.OneOfTheTwoTables.{row_held, Whose, table_of, row_in, held_there, Unhidden, stands_there, holder_same}
-use Rattle.findable.specs.TheReadersOwn.{a_row}
+use Rattle.findable.specs.OneOfTheTwoTables.{row_held, Whose, table_of, row_in, held_there, Unhidden, holder_same}
+use Rattle.findable.proofs.OneOfTheTwoTables.{stands_there}
+use Rattle.findable.proofs.TheReadersOwn.{a_row}
 
 -- the text can be read, comes to zero, and a part of it finds its unit there
 abbrev pub Reads : Card → Holder → List ℕ → Type 0

@@ -13,12 +13,14 @@ use Rattle.rules.proofs.Laws.Lists.{Bytes}
 use Rattle.stored.specs.Lines.{line_size_in, restored_in}
 use Rattle.stored.specs.Laws.{stored_restored, bytes_restored}
 use Rattle.moves.specs.NamesLongerThanSixteenBytes.{lines, moved_row, moving}
-use Rattle.moved.specs.Rows.{Movable, moved_movable, moved_back}
+use Rattle.moved.specs.Rows.{Movable}
+use Rattle.moved.proofs.Rows.{moved_movable, moved_back}
 use Rattle.moved.specs.Lines.{lines_appended, lines_stored}
 use Rattle.moves.proofs.Laws.Moves.{line_moves, moved_line}
-use Rattle.moved.specs.MovedLines.{moved_lines, moves_accepted, moves_movable, length_moved_lines}
+use Rattle.moved.specs.MovedLines.{moved_lines, moves_accepted, length_moved_lines}
+use Rattle.moved.proofs.MovedLines.{moves_movable}
 use Rattle.moved.specs.Accepted.{moving_got, moving_right, moving_gives}
-use Rattle.moved.specs.StoredRows.{bytes_moved, stored_moves, stored_moved}
+use Rattle.moved.proofs.StoredRows.{bytes_moved, stored_moves, stored_moved}
 
 module _ (from to : ℕ) where
   module _ (line : List ℕ) (e : line_moves from to line ≡ true) where

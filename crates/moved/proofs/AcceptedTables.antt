@@ -12,11 +12,13 @@ use Rattle.rules.specs.NumbersHandedBack.{got}
 use Rattle.rules.specs.SettingsAndUnitTable.{row_size_in, rows_in, row_in, name, product_in, units_check_in, numerals_check_in, lookup_from_in, lookup_in}
 use Rattle.rules.proofs.Laws.Choices.{if_either}
 use Rattle.moves.specs.NamesLongerThanSixteenBytes.{moved_row}
-use Rattle.moved.specs.Rows.{moved_back}
+use Rattle.moved.proofs.Rows.{moved_back}
 use Rattle.moved.specs.Pieces.{appended, appended_same, pieces_of}
-use Rattle.moved.specs.Tables.{moved_table, AllMovable, same_rows, row_moved, row_product, same_lookup}
-use Rattle.moved.specs.Checks.{same_units_check, same_numerals_check}
-use Rattle.moved.specs.StandingTables.{TableStands, NamesFit, units_stand, numerals_stand, all_movable}
+use Rattle.moved.specs.Tables.{moved_table, AllMovable}
+use Rattle.moved.proofs.Tables.{same_rows, row_moved, row_product, same_lookup}
+use Rattle.moved.proofs.Checks.{same_units_check, same_numerals_check}
+use Rattle.moved.specs.StandingTables.{TableStands, NamesFit, units_stand, numerals_stand}
+use Rattle.moved.proofs.StandingTables.{all_movable}
 
 -- a row that is found is one of those that were looked at
 found_below : (room : ℕ) (table wanted : List ℕ) {k : ℕ} (n i : ℕ) → lookup_from_in room table wanted i n ≡ Row k → k < i + n

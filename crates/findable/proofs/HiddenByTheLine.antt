@@ -11,7 +11,7 @@ use Rattle.rules.specs.ReadingOnePart.{gap, sign_step, number_step, exponent_ste
 use Rattle.rules.proofs.Laws.Outcomes.{All, all_got, all_of, all_if, all_bind, always}
 use Rattle.rows.specs.Laws.Lookup.{lookup_found}
 use Rattle.findable.specs.WhereAPartFindsItsUnit.{unit_stands, number_unit, unsigned_unit, unit_of, finds}
-use Rattle.findable.specs.OfEveryUnit.{found_holds}
+use Rattle.findable.proofs.OfEveryUnit.{found_holds}
 
 module _ (card : Card) (text : List ℕ) where
   abbrev s : Settings
