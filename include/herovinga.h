@@ -4,8 +4,9 @@
  * read, and a length written as one; an index beside a unit table made, checked, and kept while a row is replaced; part, total and shift total
  * through such indexes; a name looked up without them and through them; and stored rows moved from their old form to the new one and back. They
  * keep nothing between calls, so any number of threads may call them. The library is target/staticlib/libherovinga.a (./library), for Linux on
- * x86-64; every function in it is proved to answer as document 01 and the requests that followed it say, whatever it is passed. Eight more stand
- * here in C and only call those of the library that read a text or look up a name: they take what it is read under as one card.
+ * x86-64, from x86-64-v2 on; every function in it is proved to answer as document 01 and the requests that followed it say, whatever it is
+ * passed. Eight more stand here in C and only call those of the library that read a text or look up a name: they take what it is read under as
+ * one card.
  *
  * Each function returns a number of enum herovinga_number and writes the whole answer. On 0 the answer has the position and the length
  * that stand at the function below; on a refusal it has the position that stands at the number, and a length of zero with a plus, and
