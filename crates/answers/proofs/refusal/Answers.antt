@@ -1,5 +1,4 @@
 -- `answers::refusal` meets its contract: number and position of the cause, and a zero length. Assumes nothing.
-use borrow.Author.Rules.{rules}
 use Rattle.rules.specs.NumbersHandedBack.{refusal}
 use Rattle.answers.proofs.refusal.Goals as goal
 

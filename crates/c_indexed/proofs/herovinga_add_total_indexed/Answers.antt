@@ -1,6 +1,5 @@
 -- `c_indexed::herovinga_add_total_indexed` meets its contract: the words are stored exactly if the number is 0. Assumes nothing.
 use mathlib.Core.Path.{◌≡◌, sym, ap, ◌∙◌}
-use mathlib.Core.Logic.{⊎_elim}
 use Rattle.rules.specs.declared.Answer.{Answer}
 use Rattle.index.specs.TheSortedIndex.{Indexed, indexed_of, indexed_shift_answer, indexed_shifted_record}
 use Rattle.c_words.specs.Words.{length_of, length_words}
@@ -27,7 +26,7 @@ returns c =
       value = answer.0;
       answer_after = answer.1;
       total_after = elim c.if-shifted-eq0.branch [
-        then-shifted-eq0 w ↦ w.total-is ∙ w.put_total.ensures ∙ ap length_words found.1 ∙ indexed_shifted_done _ _ _ (sym number ∙ w.if-shifted-eq0.true)
+        | then-shifted-eq0 w ↦ w.total-is ∙ w.put_total.ensures ∙ ap length_words found.1 ∙ indexed_shifted_done _ _ _ (sym number ∙ w.if-shifted-eq0.true)
         | else-shifted-eq0 w ↦ w.total-is ∙ indexed_shifted_kept _ _ _ (λ e. w.if-shifted-eq0.false (number ∙ e))
       ];
     }

@@ -1,5 +1,4 @@
 -- `c_iso::herovinga_read_iso` meets its contract. Assumes nothing.
-use borrow.Author.Rules.{rules}
 use Rattle.c_words.specs.Laws.{handed}
 use Rattle.c_iso.proofs.herovinga_read_iso.Goals as goal
 

@@ -1,6 +1,5 @@
 -- `c_iso::herovinga_write_iso` meets its contract. Assumes nothing.
 use mathlib.Core.Path.{ap, ◌∙◌}
-use borrow.Author.Rules.{rules}
 use Rattle.iso.specs.IsoTimings.{iso_write_answer, iso_written_buffer}
 use Rattle.c_words.specs.Laws.{handed}
 use Rattle.c_iso.proofs.herovinga_write_iso.Goals as goal

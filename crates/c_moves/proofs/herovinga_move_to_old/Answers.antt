@@ -1,5 +1,4 @@
 -- `c_moves::herovinga_move_to_old` meets its contract. Assumes nothing.
-use borrow.Author.Rules.{rules}
 use Rattle.c_words.specs.Laws.{handed}
 use Rattle.c_moves.proofs.herovinga_move_to_old.Goals as goal
 

@@ -1,5 +1,4 @@
 -- `c_tables::herovinga_make_index` meets its contract. Assumes nothing.
-use borrow.Author.Rules.{rules}
 use Rattle.c_words.specs.Laws.{handed}
 use Rattle.c_tables.proofs.herovinga_make_index.Goals as goal
 

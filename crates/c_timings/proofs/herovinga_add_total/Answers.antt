@@ -1,6 +1,5 @@
 -- `c_timings::herovinga_add_total` meets its contract: the words are stored exactly if the number is 0. Assumes nothing.
 use mathlib.Core.Path.{◌≡◌, sym, ap, ◌∙◌}
-use mathlib.Core.Logic.{⊎_elim}
 use Rattle.rules.specs.declared.Answer.{Answer}
 use Rattle.rules.specs.SettingsAsWords.{card_of}
 use Rattle.rules.specs.WhatEveryEntryOwes.{shift_answer, shifted_record}
@@ -25,7 +24,7 @@ returns c =
       value = answer.0;
       answer_after = answer.1;
       total_after = elim c.if-shifted-eq0.branch [
-        then-shifted-eq0 w ↦ w.total-is ∙ w.put_total.ensures ∙ ap length_words found.1 ∙ shifted_done _ _ _ (sym number ∙ w.if-shifted-eq0.true)
+        | then-shifted-eq0 w ↦ w.total-is ∙ w.put_total.ensures ∙ ap length_words found.1 ∙ shifted_done _ _ _ (sym number ∙ w.if-shifted-eq0.true)
         | else-shifted-eq0 w ↦ w.total-is ∙ shifted_kept _ _ _ (λ e. w.if-shifted-eq0.false (number ∙ e))
       ];
     }

@@ -1,6 +1,5 @@
 -- `c_timings::herovinga_write` meets its contract. Assumes nothing.
 use mathlib.Core.Path.{ap, ◌∙◌}
-use borrow.Author.Rules.{rules}
 use Rattle.rules.specs.WhatEveryEntryOwes.{write_answer, written_buffer}
 use Rattle.c_words.specs.Laws.{handed}
 use Rattle.c_timings.proofs.herovinga_write.Goals as goal

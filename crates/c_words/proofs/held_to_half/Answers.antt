@@ -1,5 +1,4 @@
 -- `c_words::held_to_half` meets its contract: over the limit, or within it. Assumes nothing.
-use borrow.Author.Rules.{rules}
 use Rattle.rules.proofs.Laws.SettingsAsWords.{held_fits, held_over}
 use Rattle.c_words.proofs.held_to_half.Goals as goal
 

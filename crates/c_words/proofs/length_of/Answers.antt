@@ -1,5 +1,4 @@
 -- `c_words::length_of` meets its contract. Assumes nothing.
-use borrow.Author.Rules.{rules}
 use Rattle.rules.specs.SettingsAsWords.{on}
 use Rattle.c_words.specs.Words.{length_of}
 use Rattle.c_words.proofs.length_of.Goals as goal

@@ -1,6 +1,5 @@
 -- `cards::check_all` is safe and ends: it counts at most a million cards. Assumes nothing.
 use Prim.Native.Nat.{◌-◌}
-use borrow.Author.Rules.{rules}
 use Rattle.cards.proofs.check_all.Given as goal
 
 abbrev pub invariant-loop-cards : goal.invariant-loop-cards

@@ -1,5 +1,4 @@
 -- `cards::check_often` is safe and ends: each turn leaves fewer. Assumes nothing.
-use borrow.Author.Rules.{rules}
 use Rattle.cards.proofs.check_often.Given as goal
 
 abbrev pub invariant-loop-left : goal.invariant-loop-left

@@ -1,6 +1,5 @@
 -- `day::write_often` is safe and ends: the buffer keeps its length, and each turn leaves fewer. Assumes nothing.
 use mathlib.Core.Path.{◌≡◌}
-use borrow.Author.Rules.{rules}
 use lib.ListN.{length}
 use Rattle.day.proofs.write_often.Given as goal
 

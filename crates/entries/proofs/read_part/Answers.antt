@@ -1,7 +1,6 @@
 -- `entries::read_part` meets its contract: 7, and then what a checked card gives. Assumes nothing.
 use mathlib.Core.Path.{refl, sym, ap, ◌∙◌}
 use mathlib.Core.Logic.{inl}
-use borrow.Author.Rules.{rules}
 use Rattle.settings.specs.Outcomes.{outcome}
 use Rattle.reading.specs.Entries.{part_card}
 use Rattle.entries.proofs.read_part.Goals as goal

@@ -1,7 +1,6 @@
 -- `entries::shifted_total` meets its contract: 7, and then what a checked card gives. Assumes nothing.
 use mathlib.Core.Path.{refl, sym, ap, ◌∙◌}
 use mathlib.Core.Logic.{inl}
-use borrow.Author.Rules.{rules}
 use Rattle.settings.specs.Outcomes.{outcome}
 use Rattle.reading.specs.Shifts.{card_refuses, kept}
 use Rattle.entries.proofs.shifted_total.Goals as goal

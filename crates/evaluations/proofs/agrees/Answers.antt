@@ -1,7 +1,6 @@
 -- `evaluations::agrees` is safe: what stands before and after the point are digits of the line, and were summed up. Assumes nothing.
 use Prim.Native.Nat.{zero-le}
 use native.Mathlib.Omega.{arith}
-use borrow.Author.Rules.{rules}
 use Rattle.value.specs.Numbers.{typed}
 use Rattle.value.specs.Places.{spans_both}
 use Rattle.value.specs.Sums.{sum_both}

@@ -1,8 +1,5 @@
 -- `evaluations::count` is safe and ends: no more cases differ than there are, and there are at most a million. Assumes nothing.
-use mathlib.Core.Logic.{⊎_elim}
 use Prim.Native.Nat.{◌≤◌, ◌-◌}
-use native.Mathlib.Omega.{arith}
-use borrow.Author.Rules.{rules}
 use Rattle.evaluations.proofs.count.Given as goal
 
 abbrev pub invariant-loop-cases : goal.invariant-loop-cases

@@ -1,6 +1,5 @@
 -- `index_entries::shifted_total_indexed` meets its contract: 7 and 23, and then what a checked card gives. Assumes nothing.
 use mathlib.Core.Path.{◌≡◌, sym, ap, ◌∙◌}
-use borrow.Author.Rules.{rules}
 use Rattle.rules.specs.NumbersHandedBack.{got}
 use Rattle.settings.specs.Outcomes.{outcome}
 use Rattle.index.specs.TheSortedIndex.{Indexed, indexed_of, indexed_check}

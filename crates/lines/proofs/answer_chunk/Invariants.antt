@@ -1,7 +1,6 @@
 -- `lines::answer_chunk` is safe and ends: each turn answers some bytes of the chunk, and the buffer keeps its length. Assumes nothing.
 use mathlib.Core.Path.{◌≡◌}
 use Prim.Native.Nat.{◌-◌}
-use borrow.Author.Rules.{rules}
 use lib.ListN.{length}
 use Rattle.lines.proofs.answer_chunk.Given as goal
 

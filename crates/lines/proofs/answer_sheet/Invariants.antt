@@ -1,6 +1,5 @@
 -- `lines::answer_sheet` is safe and ends: the buffers keep their lengths, and each turn leaves fewer turns. Assumes nothing.
 use mathlib.Core.Path.{◌≡◌}
-use borrow.Author.Rules.{rules}
 use lib.ListN.{length}
 use Rattle.lines.proofs.answer_sheet.Given as goal
 

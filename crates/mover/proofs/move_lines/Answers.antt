@@ -3,7 +3,6 @@ use mathlib.Core.Path.{ap, ◌∙◌}
 use Prim.Native.Nat.{◌*◌, ◌≤◌}
 use native.Mathlib.Omega.{arith}
 use lib.ListN.{length}
-use borrow.Author.Rules.{rules}
 use Rattle.rules.specs.NumbersHandedBack.{done}
 use Rattle.moves.proofs.Laws.Moves.{lines_refused, not_moved}
 use Rattle.mover.specs.declared.checked.Lines.TheVariants.{Right, Wrong}

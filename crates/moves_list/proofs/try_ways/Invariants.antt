@@ -1,7 +1,6 @@
 -- `moves_list::try_ways` is safe and ends: the lines of both forms keep their lengths, and each turn leaves fewer ways. Assumes nothing.
 use mathlib.Core.Path.{◌≡◌}
 use Prim.Native.Nat.{◌-◌}
-use borrow.Author.Rules.{rules}
 use lib.ListN.{length}
 use Rattle.moves_list.proofs.try_ways.Given as goal
 

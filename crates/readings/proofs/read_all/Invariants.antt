@@ -1,6 +1,5 @@
 -- `readings::read_all` is safe and ends: the buffer keeps its length, and each turn leaves fewer texts. Assumes nothing.
 use mathlib.Core.Path.{◌≡◌}
-use borrow.Author.Rules.{rules}
 use lib.ListN.{length}
 use Rattle.readings.proofs.read_all.Given as goal
 

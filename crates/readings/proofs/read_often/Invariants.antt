@@ -1,7 +1,4 @@
 -- `readings::read_often` is safe and ends: each turn leaves fewer, and the card stays as it was accepted. Assumes nothing.
-use mathlib.Core.Path.{refl}
-use mathlib.Core.Logic.{inl}
-use borrow.Author.Rules.{rules}
 use Rattle.readings.proofs.read_often.Given as goal
 
 abbrev pub invariant-loop-left : goal.invariant-loop-left

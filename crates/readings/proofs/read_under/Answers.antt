@@ -1,6 +1,5 @@
 -- `readings::read_under` is safe: what accepts the card is what a checked card asks for. Assumes nothing.
 use mathlib.Core.Path.{sym, ap, ◌∙◌}
-use borrow.Author.Rules.{rules}
 use Rattle.settings.specs.Outcomes.{outcome}
 use Rattle.readings.proofs.read_under.Goals as goal
 

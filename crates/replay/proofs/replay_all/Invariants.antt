@@ -1,6 +1,5 @@
 -- `replay::replay_all` is safe and ends: the buffers keep their lengths, and each turn leaves fewer cards. Assumes nothing.
 use mathlib.Core.Path.{◌≡◌}
-use borrow.Author.Rules.{rules}
 use lib.ListN.{length}
 use Rattle.replay.proofs.replay_all.Given as goal
 

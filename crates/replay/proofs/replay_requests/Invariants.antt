@@ -1,6 +1,5 @@
 -- `replay::replay_requests` is safe and ends: the buffer keeps its length, and each turn leaves fewer requests. Assumes nothing.
 use mathlib.Core.Path.{◌≡◌}
-use borrow.Author.Rules.{rules}
 use lib.ListN.{length}
 use Rattle.replay.proofs.replay_requests.Given as goal
 

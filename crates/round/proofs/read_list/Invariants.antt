@@ -1,6 +1,5 @@
 -- `round::read_list` is safe and ends: each turn leaves fewer lengths to read. Assumes nothing.
 use Prim.Native.Nat.{◌-◌}
-use borrow.Author.Rules.{rules}
 use Rattle.round.proofs.read_list.Given as goal
 
 abbrev pub invariant-loop-read : goal.invariant-loop-read

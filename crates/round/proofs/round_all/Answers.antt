@@ -1,8 +1,5 @@
 -- `round::round_all` is safe and ends: each turn leaves fewer. Assumes nothing.
-use mathlib.Core.Path.{◌≡◌}
 use native.Mathlib.Omega.{arith}
-use borrow.Author.Rules.{rules}
-use lib.ListN.{length}
 use Rattle.round.proofs.round_all.Goals as goal
 
 pub overflow_sub-left : goal.overflow_sub-left

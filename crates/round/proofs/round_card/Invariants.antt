@@ -1,6 +1,5 @@
 -- `round::round_card` is safe and ends: each turn leaves fewer lists. Assumes nothing.
 use Prim.Native.Nat.{◌-◌, ◌≤◌}
-use borrow.Author.Rules.{rules}
 use Rattle.round.proofs.round_card.Given as goal
 
 abbrev pub invariant-loop-lists : goal.invariant-loop-lists

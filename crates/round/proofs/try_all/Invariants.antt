@@ -1,6 +1,5 @@
 -- `round::try_all` is safe and ends: each turn leaves fewer lengths to try. Assumes nothing.
 use Prim.Native.Nat.{◌-◌}
-use borrow.Author.Rules.{rules}
 use Rattle.round.proofs.try_all.Given as goal
 
 abbrev pub invariant-loop-tried : goal.invariant-loop-tried

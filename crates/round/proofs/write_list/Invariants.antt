@@ -1,7 +1,6 @@
 -- `round::write_list` is safe and ends: the buffer keeps its length, and each turn leaves fewer lengths to write. Assumes nothing.
 use mathlib.Core.Path.{◌≡◌}
 use Prim.Native.Nat.{◌-◌}
-use borrow.Author.Rules.{rules}
 use lib.ListN.{length}
 use Rattle.round.proofs.write_list.Given as goal
 

@@ -1,6 +1,5 @@
 -- `spoken::multiplied` meets its contract, in range and out of it. Assumes nothing.
 use mathlib.Core.Path.{sym, ◌∙◌}
-use borrow.Author.Rules.{rules}
 use Rattle.spoken.specs.Laws.{product_in, product_out}
 use Rattle.spoken.proofs.multiplied.Goals as goal
 

@@ -1,5 +1,4 @@
 -- `spoken::product_in_range` meets its contract: coefficient and power are tested one after another. Assumes nothing.
-use borrow.Author.Rules.{rules}
 use borrow.Author.Tests.{not-true, not-false, le-leb, lt-leb}
 use Rattle.rules.specs.SettingsAndUnitTable.{times, in_range}
 use Rattle.std.proofs.Common.{ap, not}

@@ -1,6 +1,5 @@
 -- `spoken::spoken_product` meets its contract: the first product that is out of range is the last. Assumes nothing.
 use mathlib.Core.Path.{◌∙◌}
-use borrow.Author.Rules.{rules}
 use Rattle.rules.specs.Evaluation.{spoken_multiplier}
 use Rattle.spoken.specs.Products.{spoken_product}
 use Rattle.spoken.specs.Laws.{product_stops, product_goes_on}

@@ -1,7 +1,6 @@
 -- `spoken::times` meets its contract: in range the product fits, and so do its powers, taken off each other. Assumes nothing.
 use mathlib.Core.Bool.{xor}
 use native.Mathlib.Omega.{arith}
-use borrow.Author.Rules.{rules}
 use Rattle.rules.specs.SettingsAndUnitTable.{times}
 use Rattle.rules.proofs.Laws.Powers.{net}
 use Rattle.rows.specs.Laws.Rows.{in_range_bounds}

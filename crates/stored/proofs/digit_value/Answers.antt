@@ -1,6 +1,5 @@
 -- `stored::digit_value` meets its contract: the two runs of digits, and the bytes before, between and after them. Assumes nothing.
 use native.Mathlib.Omega.{arith}
-use borrow.Author.Rules.{rules}
 use Rattle.rules.proofs.Laws.Tests.{between_below, between_above}
 use Rattle.stored.specs.Laws.{value_low, value_high, value_none}
 use Rattle.stored.proofs.digit_value.Goals as goal

@@ -1,6 +1,5 @@
 -- `stored::hexadecimal` meets its contract: ten digits, then letters. Assumes nothing.
 use borrow.Author.Tests.{lt-ltb, le-ltb}
-use borrow.Author.Rules.{rules}
 use Rattle.rules.specs.SettingsAndUnitTable.{hexadecimal}
 use Rattle.rules.specs.Common.{if◌then◌else◌}
 use Rattle.stored.proofs.hexadecimal.Goals as goal

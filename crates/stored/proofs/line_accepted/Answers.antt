@@ -1,5 +1,4 @@
 -- `stored::line_accepted` meets its contract: its length, its newline, and its digits. Assumes nothing.
-use borrow.Author.Rules.{rules}
 use mathlib.Core.Bool.{true, false}
 use mathlib.Core.Path.{◌≡◌, sym, ◌∙◌}
 use Prim.Native.Nat.{◌-◌}

@@ -1,10 +1,9 @@
 -- `stored::put_bytes` meets its contract: before turn `i` the row begins with the bytes of the first `i` pairs of digits, and goes
 -- on as it was. The measure is how many pairs are left. Assumes nothing.
-use mathlib.Core.List.{◌++◌}
 use mathlib.Core.Path.{◌≡◌, refl}
-use Prim.Native.Nat.{◌+◌, ◌*◌, ◌-◌, ◌≤◌}
+use Prim.Native.Nat.{◌+◌, ◌*◌}
 use native.Mathlib.Omega.{arith}
-use lib.ListN.{length, take, drop, length-set}
+use lib.ListN.{length-set}
 use Rattle.stored.specs.Laws.{bytes_turn, digit_below}
 use Rattle.stored.specs.Lines.{digit_value, paired}
 use Rattle.stored.proofs.put_bytes.Goals as goal

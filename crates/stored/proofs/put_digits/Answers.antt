@@ -1,11 +1,9 @@
 -- `stored::put_digits` meets its contract: before turn `i` the line begins with the digits of the first `i` bytes, and goes on as
 -- it was. The measure is how many bytes are left. Assumes nothing.
-use mathlib.Core.List.{◌++◌}
 use mathlib.Core.Path.{◌≡◌, refl}
-use Prim.Native.Nat.{◌*◌, ◌-◌, ◌≤◌}
 use native.Mathlib.Omega.{arith}
 use lib.Seq.{take_all}
-use lib.ListN.{length, take, drop, length-set}
+use lib.ListN.{length-set}
 use Rattle.rules.specs.SettingsAndUnitTable.{hexadecimal, two_digits}
 use Rattle.stored.specs.Laws.{digits_turn}
 use Rattle.stored.proofs.put_digits.Goals as goal

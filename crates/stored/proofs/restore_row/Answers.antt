@@ -4,7 +4,6 @@ use mathlib.Core.Path.{◌≡◌, sym, ◌∙◌}
 use native.Mathlib.Omega.{arith}
 use lib.ListN.{length}
 use borrow.Author.Tests.{le-leb, lt-leb, not-true, not-false}
-use borrow.Author.Rules.{rules}
 use Rattle.rules.specs.Common.{if◌then◌else◌}
 use Rattle.rules.specs.SettingsAndUnitTable.{name_room, row_size}
 use Rattle.rules.proofs.Laws.Tests.{and_false}

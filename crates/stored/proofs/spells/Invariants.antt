@@ -1,12 +1,9 @@
 -- `stored::spells` meets its contract: the bytes from `i` on decide what all of them do. The measure is how many are left.
 -- Assumes nothing.
-use mathlib.Core.Path.{◌≡◌, refl}
+use mathlib.Core.Path.{◌≡◌}
 use Prim.Native.Nat.{◌≤◌, ◌-◌}
-use native.Mathlib.Omega.{arith}
 use lib.ListN.{length, drop}
-use borrow.Author.Tests.{lt-ltb, le-ltb}
 use Rattle.rules.specs.Common.{all}
-use Rattle.rules.proofs.Laws.Lists.{all_from, all_done}
 use Rattle.stored.specs.Lines.{spells}
 use Rattle.stored.proofs.spells.Given as goal
 

@@ -4,7 +4,6 @@ use Prim.Native.Nat.{◌≤◌, ◌*◌}
 use native.Mathlib.Omega.{arith}
 use lib.ListN.{length, set}
 use borrow.Author.Tests.{eq-eqb, ne_eqb, le-leb, lt-leb}
-use borrow.Author.Rules.{rules}
 use Rattle.rules.specs.SettingsAndUnitTable.{stored, two_digits}
 use Rattle.rules.specs.Common.{if◌then◌else◌}
 use Rattle.stored.specs.Laws.{line_kept, put_one, length_two_digits}
@@ -26,6 +25,9 @@ returns c =
     let row = c.args.row.now in
     let line = c.args.line.now in
     let whole : length row ≡ 48 = omega arith in
-    let room : 97 ≤ length line = omega arith in record { value = rw (eq-eqb (length row) 48 whole, le-leb 97 (length line) room); line_after = rw (eq-eqb (length row) 48 whole, le-leb 97 (length line) room)
+    let room : 97 ≤ length line = omega arith in record {
+      value = rw (eq-eqb (length row) 48 whole, le-leb 97 (length line) room);
+      line_after = rw (eq-eqb (length row) 48 whole, le-leb 97 (length line) room)
           (ap (λ l. set l 96 10) c.put_digits.ensures
-          ∙ put_one (two_digits row) line 96 10 (length_two_digits row ∙ ap (λ n. 2 * n) whole) room) }
+          ∙ put_one (two_digits row) line 96 10 (length_two_digits row ∙ ap (λ n. 2 * n) whole) room);
+    }

@@ -1,6 +1,5 @@
 -- `table_entries::check_index` meets its contract: 7 and 23, and then the number of rows. Assumes nothing.
 use mathlib.Core.Path.{sym, ap, ◌∙◌}
-use borrow.Author.Rules.{rules}
 use Rattle.settings.specs.Outcomes.{outcome}
 use Rattle.table_entries.specs.Changes.{check_refused, check_passed}
 use Rattle.table_entries.proofs.check_index.Goals as goal

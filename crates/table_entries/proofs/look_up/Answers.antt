@@ -1,6 +1,5 @@
 -- `table_entries::look_up` meets its contract: 7, and then both searches. Assumes nothing.
 use mathlib.Core.Path.{◌≡◌, sym, ap, ◌∙◌}
-use borrow.Author.Rules.{rules}
 use Rattle.rules.specs.NumbersHandedBack.{got}
 use Rattle.rules.specs.SettingsAndUnitTable.{Card, card_check}
 use Rattle.settings.specs.Outcomes.{outcome}

@@ -1,6 +1,5 @@
 -- `table_entries::look_up_indexed` meets its contract: 7 and 23, and then both searches. Assumes nothing.
 use mathlib.Core.Path.{◌≡◌, sym, ap, ◌∙◌}
-use borrow.Author.Rules.{rules}
 use mathlib.Core.List.{[]}
 use Rattle.rules.specs.NumbersHandedBack.{got}
 use Rattle.settings.specs.Outcomes.{outcome}

@@ -1,7 +1,6 @@
 -- `table_entries::make_index` meets its contract: what stands before it, and then the index. Assumes nothing.
 use mathlib.Core.Path.{◌≡◌, sym, ap, ◌∙◌}
-use borrow.Author.Rules.{rules}
-use Rattle.rules.specs.NumbersHandedBack.{got, refused}
+use Rattle.rules.specs.NumbersHandedBack.{got}
 use Rattle.rules.specs.SettingsAsWords.{settings_of}
 use Rattle.settings.specs.Outcomes.{outcome}
 use Rattle.index.specs.TheSortedIndex.{making}

@@ -1,5 +1,4 @@
 -- `table_entries::not_looked_up` meets its contract: number and position of the cause, and zeros. Assumes nothing.
-use borrow.Author.Rules.{rules}
 use Rattle.rules.specs.NumbersHandedBack.{refusal}
 use Rattle.index.specs.TheSortedIndex.{looked_up}
 use Rattle.table_entries.proofs.not_looked_up.Goals as goal

@@ -1,6 +1,5 @@
 -- `table_entries::replace_row` meets its contract: what stands before it, and then both the table and the index. Assumes nothing.
 use mathlib.Core.Path.{◌≡◌, sym, ap, ◌∙◌}
-use borrow.Author.Rules.{rules}
 use Rattle.rules.specs.ThePartOfTheCrateWeTake.{zero_length}
 use Rattle.rules.specs.NumbersHandedBack.{got, done}
 use Rattle.rules.specs.SettingsAndUnitTable.{rows}

@@ -1,6 +1,5 @@
 -- `table_entries::rows_done` meets its contract. Assumes nothing.
 use mathlib.Core.Path.{ap, ◌∙◌}
-use borrow.Author.Rules.{rules}
 use Rattle.rules.specs.NumbersHandedBack.{done}
 use Rattle.rules.specs.SettingsAndUnitTable.{rows_in}
 use Rattle.table_entries.proofs.rows_done.Goals as goal

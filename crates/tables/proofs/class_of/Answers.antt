@@ -2,7 +2,6 @@
 -- have the class of the byte whose entry is read. Assumes nothing.
 use mathlib.Core.Path.{◌≡◌, refl, ◌∙◌}
 use mathlib.Core.Bool.{◌||◌}
-use mathlib.Core.List.{List}
 use mathlib.Core.Logic.{⊎_elim, inl, inr}
 use Prim.Native.Nat.{ℕ, ◌<◌}
 use native.Mathlib.Omega.{arith}
@@ -38,7 +37,7 @@ unfolding runs class between if◌then◌else◌
 returns-in-65-to-90 c =
     class_at 65 (lit< tt)
     ∙ elim c.in-65-to-90-1.branch [
-      then-b-lt91 w ↦ alike class 65 65 26 {x = c.args.b} refl (omega arith) (omega arith)
+      | then-b-lt91 w ↦ alike class 65 65 26 {x = c.args.b} refl (omega arith) (omega arith)
       | else-b-lt91+else-b-lt97+then-b-lt123 w ↦ alike class 65 97 26 {x = c.args.b} refl (omega arith) (omega arith)
     ]
 
@@ -48,7 +47,7 @@ unfolding runs class between if◌then◌else◌
 returns-in_default c =
     class_at 0 (lit< tt)
     ∙ elim c.in_default.branch [
-      in_default-via-then-b-lt48 w ↦ alike_but class 0 0 48 {x = c.args.b} (λ x. eqb x 43 || (eqb x 45 || eqb x 46)) refl (omega arith) (omega arith) (rw (ne_eqb _ 43 (λ e. c.in_default-1.rest.0.1 (inl e)), ne_eqb _ 45 (λ e. c.in_default-1.rest.0.1 (inr e)), ne_eqb _ 46 c.in_default-1.rest.1))
+      | in_default-via-then-b-lt48 w ↦ alike_but class 0 0 48 {x = c.args.b} (λ x. eqb x 43 || (eqb x 45 || eqb x 46)) refl (omega arith) (omega arith) (rw (ne_eqb _ 43 (λ e. c.in_default-1.rest.0.1 (inl e)), ne_eqb _ 45 (λ e. c.in_default-1.rest.0.1 (inr e)), ne_eqb _ 46 c.in_default-1.rest.1))
       | in_default-via-else-b-lt48+else-b-lt58+then-b-lt65 w ↦ alike class 0 58 7 {x = c.args.b} refl (omega arith) (omega arith)
       | in_default-via-else-b-lt48+else-b-lt58+else-b-lt65+else-b-lt91+then-b-lt97 w ↦ alike class 0 91 6 {x = c.args.b} refl (omega arith) (omega arith)
       | in_default-via-else-b-lt48+else-b-lt58+else-b-lt65+else-b-lt91+else-b-lt97+else-b-lt123 w ↦ alike class 0 123 133 {x = c.args.b} refl (omega arith) (omega arith)

@@ -4,7 +4,6 @@ use Prim.Native.Nat.{◌≤◌}
 use native.Mathlib.Omega.{arith}
 use lib.ListN.{get_or-eq_default}
 use Rattle.rules.specs.SettingsAndUnitTable.{kind_coefficients, kind_downs, kind_multiplier}
-use Rattle.tables.specs.Arms.{beyond}
 use Rattle.tables.proofs.kind_multiplier.Goals as goal
 
 pub returns-in_default : goal.returns-in_default

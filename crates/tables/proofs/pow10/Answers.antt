@@ -1,8 +1,6 @@
 -- `tables::pow10` meets its contract: the entry that an arm reads is the power of its number, which is 19 in the last. Assumes nothing.
 use mathlib.Core.Path.{◌≡◌}
 use native.Mathlib.Omega.{arith}
-use lib.Dec.{lit<}
-use Rattle.tables.specs.Arms.{beyond}
 use Rattle.tables.proofs.pow10.Goals as goal
 
 pub returns-in_default : goal.returns-in_default

@@ -4,7 +4,6 @@ use mathlib.Core.Bool.{false≢true}
 use native.Mathlib.Omega.{arith}
 use lib.ListN.{length, take, drop, length-take, length-drop}
 use borrow.Author.Tests.{eqb-true}
-use borrow.Author.Rules.{rules}
 use Rattle.rules.proofs.Laws.Lists.{Bytes}
 use Rattle.words.specs.LowFirst.{bytes_part}
 use Rattle.words.specs.Bytewise.{eight_sixes_fit, eight_digits_only}
@@ -20,11 +19,10 @@ eight :
     → let args = c.args in
     let bytes = take 8 (drop args.at args.bytes.now) in
     (length bytes ≡ 8) × Bytes bytes
-eight c =
-    (
-      simp (length-take, length-drop) (omega (arith, c.requires)),
-      bytes_part c.args.bytes.now 8 c.args.at (λ k. (c.shared_slice_known-1.given k).fits),
-    )
+eight c = (
+  simp (length-take, length-drop) (omega (arith, c.requires)),
+  bytes_part c.args.bytes.now 8 c.args.at (λ k. (c.shared_slice_known-1.given k).fits),
+)
 
 pub overflow_add-result : goal.overflow_add-result
 overflow_add-result c =

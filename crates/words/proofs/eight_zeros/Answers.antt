@@ -2,7 +2,6 @@
 use native.Mathlib.Omega.{arith}
 use lib.ListN.{take, drop, length-take, length-drop}
 use borrow.Author.Tests.{eqb-true}
-use borrow.Author.Rules.{rules}
 use Rattle.words.specs.LowFirst.{bytes_part}
 use Rattle.words.specs.Bytewise.{eight_zeros_only}
 use Rattle.words.proofs.eight_zeros.Goals as goal

@@ -1,6 +1,5 @@
 -- `words::half_at` meets its contract: one half and the other. Assumes nothing.
 use native.Mathlib.Omega.{arith}
-use borrow.Author.Rules.{rules}
 use Rattle.words.specs.LowFirst.{low_first_twice}
 use Rattle.words.proofs.half_at.Goals as goal
 

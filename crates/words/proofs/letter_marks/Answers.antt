@@ -4,7 +4,6 @@ use native.Mathlib.Omega.{arith}
 use lib.Bits.{bit_and}
 use lib.ListN.{length, take, drop, length-take, length-drop}
 use lib.Seq.{take-take}
-use borrow.Author.Rules.{rules}
 use Rattle.rules.specs.SettingsAndUnitTable.{low_first}
 use Rattle.rules.proofs.Laws.Lists.{Bytes}
 use Rattle.words.specs.LowFirst.{bytes_part}
@@ -21,12 +20,11 @@ eight :
     → let args = c.args in
     let bytes = take 8 (drop args.at args.bytes.now) in
     (length bytes ≡ 8) × Bytes bytes × (bit_and (low_first bytes) 9259542123273814144 ≡ 0)
-eight c =
-    (
-      simp (length-take, length-drop) (omega (arith, c.requires)),
-      bytes_part c.args.bytes.now 8 c.args.at (λ k. (c.shared_slice_known-1.given k).fits),
-      rw (← c.word_at-word.ensures) c.if-word-ne0.false,
-    )
+eight c = (
+  simp (length-take, length-drop) (omega (arith, c.requires)),
+  bytes_part c.args.bytes.now 8 c.args.at (λ k. (c.shared_slice_known-1.given k).fits),
+  rw (← c.word_at-word.ensures) c.if-word-ne0.false,
+)
 
 pub overflow_add-result : goal.overflow_add-result
 overflow_add-result c = let (long, bytes, low) = eight c in rw c.word_at-word.ensures (omega (arith, eight_small_fit _ long bytes low))

@@ -1,7 +1,6 @@
 -- `words::short_at` meets its contract: one byte and the next. Assumes nothing.
 use Prim.Native.Nat.{◌+◌}
 use native.Mathlib.Omega.{arith}
-use borrow.Author.Rules.{rules}
 use Rattle.words.specs.LowFirst.{low_first_twice, low_first_byte}
 use Rattle.words.proofs.short_at.Goals as goal
 

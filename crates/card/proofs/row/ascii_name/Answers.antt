@@ -1,10 +1,9 @@
 -- `card::row::ascii_name` meets its contract: the bytes from `i` on decide what all of them do. The measure is how many are left.
 -- Assumes nothing.
-use mathlib.Core.Path.{◌≡◌, refl}
-use Prim.Native.Nat.{◌≤◌, ◌-◌, zero-le}
+use mathlib.Core.Path.{refl}
+use Prim.Native.Nat.{zero-le}
 use native.Mathlib.Omega.{arith}
-use lib.ListN.{length, drop}
-use Rattle.rules.specs.Common.{all, between}
+use Rattle.rules.specs.Common.{between}
 use Rattle.rules.proofs.Laws.Lists.{all_from, all_done}
 use Rattle.rules.proofs.Laws.Tests.{between_in, between_above}
 use Rattle.card.proofs.row.ascii_name.Goals as goal

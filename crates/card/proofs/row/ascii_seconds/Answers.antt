@@ -1,5 +1,4 @@
 -- `card::row::ascii_seconds` meets its contract: the kind, and then the name. Assumes nothing.
-use native.Mathlib.Omega.{arith}
 use borrow.Author.Tests.{eq-eqb, ne_eqb}
 use Rattle.rules.specs.SettingsAndUnitTable.{kind_in}
 use Rattle.card.specs.Fields.{asked_further}

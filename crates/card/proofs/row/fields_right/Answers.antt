@@ -1,6 +1,5 @@
 -- `card::row::fields_right` meets its contract: the kind, the zeros, and the range. Assumes nothing.
 use Prim.Native.Nat.{zero-le}
-use borrow.Author.Rules.{rules}
 use borrow.Author.Tests.{not-true, not-false}
 use Rattle.rules.specs.SettingsAndUnitTable.{kind_in}
 use Rattle.rules.proofs.Laws.Tests.{between_in, between_above}

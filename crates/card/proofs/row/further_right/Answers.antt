@@ -1,5 +1,4 @@
 -- `card::row::further_right` meets its contract: what each rule asks. Assumes nothing.
-use borrow.Author.Rules.{rules}
 use Rattle.card.specs.Fields.{asked_further}
 use Rattle.card.proofs.row.further_right.Goals as goal
 

@@ -1,13 +1,11 @@
 -- `card::row::name_accepted` meets its contract: the bytes that are left decide what all of them do. The measure is how many there are. Assumes nothing.
-use mathlib.Core.Path.{◌≡◌, refl, sym, ◌∙◌}
+use mathlib.Core.Path.{◌≡◌, sym, ◌∙◌}
 use mathlib.Core.Bool.{false}
 use mathlib.Core.List.{List}
 use Prim.Native.Nat.{ℕ, ◌≤◌}
 use native.Mathlib.Omega.{arith}
 use lib.ListN.{length, take, length-take, length-drop}
 use borrow.Author.Tests.{not-true, not-false}
-use Rattle.rules.specs.Common.{all}
-use Rattle.settings.specs.Sets.{bytes_of, passes}
 use Rattle.card.specs.Laws.Names.{word_fails, word_passes}
 use Rattle.std.proofs.Common.{ap, not}
 use Rattle.card.proofs.row.name_accepted.Goals as goal

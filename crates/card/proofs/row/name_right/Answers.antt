@@ -1,6 +1,5 @@
 -- `card::row::name_right` meets its contract: the room, and then the bytes of the name. Assumes nothing.
 use mathlib.Core.Path.{ap, ◌∙◌}
-use borrow.Author.Rules.{rules}
 use borrow.Author.Tests.{not-true, not-false}
 use Rattle.rules.specs.Common.{all}
 use Rattle.card.specs.Fields.{name_right}

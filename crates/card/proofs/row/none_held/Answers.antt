@@ -1,11 +1,8 @@
 -- `card::row::none_held` meets its contract: the bytes from `i` on decide what all of them do. The measure is how many are left.
 -- Assumes nothing.
-use mathlib.Core.Path.{◌≡◌, refl}
+use mathlib.Core.Path.{refl}
 use mathlib.Core.Bool.{false}
-use Prim.Native.Nat.{◌≤◌, ◌-◌}
 use native.Mathlib.Omega.{arith}
-use lib.ListN.{length, drop}
-use Rattle.rules.specs.Common.{all}
 use Rattle.rules.proofs.Laws.Lists.{all_from, all_done}
 use Rattle.settings.specs.Sets.{bytes_of, passes}
 use Rattle.card.specs.Laws.Unnameable.{outside}

@@ -2,7 +2,6 @@
 use mathlib.Core.Path.{◌≡◌, sym, ◌∙◌}
 use mathlib.Core.Bool.{true}
 use borrow.Author.Tests.{not-true, not-false}
-use borrow.Author.Rules.{rules}
 use Rattle.rules.proofs.Laws.Choices.{and_left}
 use Rattle.rows.specs.Named.{padded}
 use Rattle.card.specs.Fields.{name_right, asked_further, alone}

@@ -3,7 +3,6 @@ use mathlib.Core.Path.{◌≡◌, sym, ◌∙◌}
 use mathlib.Core.Bool.{false}
 use Prim.Native.Nat.{ℕ, ◌+◌, ◌*◌, ◌<◌}
 use native.Mathlib.Omega.{arith}
-use borrow.Author.Rules.{rules}
 use Rattle.rules.specs.SettingsAndUnitTable.{name_size, name}
 use Rattle.rules.specs.Common.{same}
 use Rattle.rows.specs.Laws.Rooms.{word_of, each_of_four, words_apart, sizes_decide}

@@ -1,10 +1,8 @@
 -- `card::row::short_letters` meets its contract: zeros behind a name that ends in its first word, and marks of letters for as many bytes as it has.
 -- Assumes nothing.
 use mathlib.Core.Path.{refl, sym, ◌∙◌}
-use mathlib.Core.Bool.{false≢true}
 use native.Mathlib.Omega.{arith}
 use lib.ListN.{get_or}
-use borrow.Author.Rules.{rules}
 use Rattle.rules.specs.SettingsAndUnitTable.{name_size, name}
 use Rattle.words.specs.Bytewise.{marks_cut}
 use Rattle.rows.specs.Laws.Rooms.{word_of, short_padded}

@@ -1,7 +1,5 @@
 -- `card::row::simple` meets its contract: the name, and then each field. Assumes nothing.
-use mathlib.Core.Bool.{false≢true}
 use Prim.Native.Nat.{zero-le}
-use borrow.Author.Rules.{rules}
 use borrow.Author.Tests.{not-false}
 use Rattle.rules.specs.SettingsAndUnitTable.{kind_in}
 use Rattle.rules.proofs.Laws.Tests.{between_in}

@@ -1,12 +1,7 @@
 -- `card::row::zero_words` meets its contract: what is left of the room decides. The measure is how much that is. Assumes nothing.
-use mathlib.Core.Path.{◌≡◌, refl, sym, ◌∙◌}
-use Prim.Native.Nat.{◌-◌, ◌%◌}
+use mathlib.Core.Path.{refl, sym, ◌∙◌}
 use native.Mathlib.Omega.{arith}
-use lib.Dec.{eqb}
-use lib.ListN.{take, drop}
 use borrow.Author.Tests.{eq-eqb, ne_eqb}
-use Rattle.rules.specs.SettingsAndUnitTable.{kind_at}
-use Rattle.rules.specs.Common.{all}
 use Rattle.rows.specs.Laws.Rooms.{word_of, zeros_on, zeros_ended}
 use Rattle.card.proofs.row.zero_words.Goals as goal
 

@@ -1,13 +1,10 @@
 -- `card::row::zero_words` meets its contract: what is left of the room decides. The measure is how much that is. Assumes nothing.
-use mathlib.Core.Path.{◌≡◌, refl, sym, ◌∙◌}
+use mathlib.Core.Path.{◌≡◌}
 use Prim.Native.Nat.{◌-◌, ◌%◌}
-use native.Mathlib.Omega.{arith}
 use lib.Dec.{eqb}
 use lib.ListN.{take, drop}
-use borrow.Author.Tests.{eq-eqb, ne_eqb}
 use Rattle.rules.specs.SettingsAndUnitTable.{kind_at}
 use Rattle.rules.specs.Common.{all}
-use Rattle.rows.specs.Laws.Rooms.{word_of, zeros_on, zeros_ended}
 use Rattle.card.proofs.row.zero_words.Given as goal
 
 abbrev pub invariant-loop-at : goal.invariant-loop-at

@@ -1,6 +1,5 @@
 -- `card::table::card_check` meets its contract: what the settings come to, then the hall's table, then the line's, then the numerals. Assumes nothing.
 use mathlib.Core.Path.{◌≡◌, sym, ap, ◌∙◌}
-use borrow.Author.Rules.{rules}
 use Rattle.rules.specs.SettingsAsWords.{settings_of}
 use Rattle.rules.specs.SettingsAndUnitTable.{settings_check, table_check, line_check, card_check}
 use Rattle.rules.specs.NumbersHandedBack.{got, ◌>>◌}

@@ -1,10 +1,8 @@
 -- `card::table::different_rows` meets its contract: each row passed has a name of its own. The measure is how many are left. Assumes nothing.
-use mathlib.Core.Path.{◌≡◌, sym, ◌∙◌}
+use mathlib.Core.Path.{◌≡◌}
 use mathlib.Core.Bool.{false}
 use Prim.Native.Nat.{ℕ, ◌-◌, ◌<◌}
-use native.Mathlib.Omega.{arith}
-use borrow.Author.Count.{below_more}
-use Rattle.rules.specs.SettingsAndUnitTable.{row, name, named, named_in}
+use Rattle.rules.specs.SettingsAndUnitTable.{row, name, named}
 use Rattle.card.proofs.table.different_rows.Given as goal
 
 abbrev pub invariant-loop-i : goal.invariant-loop-i

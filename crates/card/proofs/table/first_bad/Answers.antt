@@ -2,14 +2,12 @@
 -- name. The measure is how many are left. Assumes nothing.
 use mathlib.Core.Bool.{true}
 use mathlib.Core.Path.{◌≡◌, refl, sym, ◌∙◌}
-use Prim.Native.Nat.{ℕ, ◌-◌, ◌≤◌, ◌<◌}
 use native.Mathlib.Omega.{arith}
 use borrow.Author.Tests.{not-true, not-false}
 use borrow.Author.Count.{below_more}
-use Rattle.rules.specs.SettingsAndUnitTable.{rows, rows_in, row}
-use Rattle.rows.specs.Named.{padded}
+use Rattle.rules.specs.SettingsAndUnitTable.{rows_in}
 use Rattle.card.specs.Fields.{tested}
-use Rattle.card.specs.Laws.Table.{first_bad, bad_from, bad_after, bad_end, bad_here, bad_next, tested_padded}
+use Rattle.card.specs.Laws.Table.{bad_after, bad_end, bad_here, bad_next, tested_padded}
 use Rattle.std.proofs.Common.{ap, not}
 use Rattle.card.proofs.table.first_bad.Goals as goal
 

@@ -1,16 +1,12 @@
 -- `card::table::first_bad` meets its contract: those behind the rows that the short test accepts, from `i` on, decide which is the first bad one, and each row passed has zeros after its
 -- name. The measure is how many are left. Assumes nothing.
 use mathlib.Core.Bool.{true}
-use mathlib.Core.Path.{◌≡◌, refl, sym, ◌∙◌}
+use mathlib.Core.Path.{◌≡◌}
 use Prim.Native.Nat.{ℕ, ◌-◌, ◌≤◌, ◌<◌}
-use native.Mathlib.Omega.{arith}
-use borrow.Author.Tests.{not-true, not-false}
-use borrow.Author.Count.{below_more}
-use Rattle.rules.specs.SettingsAndUnitTable.{rows, rows_in, row}
+use Rattle.rules.specs.SettingsAndUnitTable.{rows, row}
 use Rattle.rows.specs.Named.{padded}
 use Rattle.card.specs.Fields.{tested}
-use Rattle.card.specs.Laws.Table.{first_bad, bad_from, bad_after, bad_end, bad_here, bad_next, tested_padded}
-use Rattle.std.proofs.Common.{ap, not}
+use Rattle.card.specs.Laws.Table.{first_bad, bad_from}
 use Rattle.card.proofs.table.first_bad.Given as goal
 
 abbrev pub invariant-loop-i : goal.invariant-loop-i

@@ -1,14 +1,11 @@
 -- `card::table::further_rows` meets its contract: each row passed has it. The measure is how many are left. Assumes nothing.
-use mathlib.Core.Path.{◌≡◌, sym, ap, ◌∙◌}
-use mathlib.Core.Bool.{true}
-use Prim.Native.Nat.{◌-◌, ◌≤◌}
+use mathlib.Core.Path.{sym, ap, ◌∙◌}
 use native.Mathlib.Omega.{arith}
 use lib.ListN.{length}
-use borrow.Author.Rules.{rules}
 use borrow.Author.Tests.{not-false}
 use borrow.Author.Count.{below_none, below_more}
 use Rattle.rows.specs.Laws.Rows.{length_row}
-use Rattle.card.specs.Fields.{asked_further, Each}
+use Rattle.card.specs.Fields.{asked_further}
 use Rattle.std.proofs.Common.{not}
 use Rattle.card.proofs.table.further_rows.Goals as goal
 

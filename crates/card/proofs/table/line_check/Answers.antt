@@ -1,7 +1,6 @@
 -- `card::table::line_check` meets its contract: no rows are good, and what was found is said of the line's table. Assumes nothing.
 use mathlib.Core.Path.{◌≡◌, sym, ap, ◌∙◌}
 use native.Mathlib.Omega.{arith}
-use borrow.Author.Rules.{rules}
 use Rattle.rules.specs.declared.Refusal.TheVariants.{LineSize, BadLineRow}
 use Rattle.rules.specs.SettingsAsWords.{settings_of}
 use Rattle.rules.specs.SettingsAndUnitTable.{units_check_in, line_check}

@@ -1,12 +1,8 @@
 -- `card::table::named_before` meets its contract: none of the rows passed has the name. The measure is how many are left. Assumes nothing.
 use mathlib.Core.Bool.{false}
-use mathlib.Core.Path.{◌≡◌, refl, sym, ap, ◌∙◌}
+use mathlib.Core.Path.{◌≡◌}
 use Prim.Native.Nat.{◌≤◌, ◌-◌}
-use native.Mathlib.Omega.{arith}
-use lib.ListN.{length}
-use Rattle.rules.specs.SettingsAndUnitTable.{name, named, named_in}
-use Rattle.card.specs.Laws.Table.{named_earlier, named_not_yet}
-use Rattle.rows.specs.Laws.Rows.{length_row}
+use Rattle.rules.specs.SettingsAndUnitTable.{name, named}
 use Rattle.card.proofs.table.named_before.Given as goal
 
 abbrev pub invariant-loop-earlier : goal.invariant-loop-earlier

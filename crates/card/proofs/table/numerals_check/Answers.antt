@@ -1,7 +1,6 @@
 -- `card::table::numerals_check` meets its contract: no rows are good, and what was found is said of the numerals. Assumes nothing.
 use mathlib.Core.Path.{◌≡◌, sym, ap, ◌∙◌}
 use native.Mathlib.Omega.{arith}
-use borrow.Author.Rules.{rules}
 use Rattle.rules.specs.declared.Refusal.TheVariants.{NumeralsSize, BadNumeral}
 use Rattle.rules.specs.SettingsAndUnitTable.{numerals_check, numerals_check_in}
 use Rattle.settings.specs.Outcomes.{outcome}

@@ -1,14 +1,8 @@
 -- `card::table::simple_rows` meets its contract: each row passed is as nearly all are. The measure is how many are left. Assumes nothing.
-use mathlib.Core.Path.{◌≡◌, refl, ap, ◌∙◌}
+use mathlib.Core.Path.{◌≡◌}
 use Prim.Native.Nat.{◌-◌, ◌≤◌}
-use native.Mathlib.Omega.{arith}
-use lib.ListN.{length}
-use borrow.Author.Tests.{not-false}
-use borrow.Author.Count.{below_none, below_more}
-use Rattle.rules.specs.SettingsAndUnitTable.{rows, rows_in}
-use Rattle.rows.specs.Laws.Rows.{length_row}
+use Rattle.rules.specs.SettingsAndUnitTable.{rows}
 use Rattle.card.specs.Fields.{Simple, Each}
-use Rattle.std.proofs.Common.{not}
 use Rattle.card.proofs.table.simple_rows.Given as goal
 
 abbrev pub invariant-loop-i : goal.invariant-loop-i

@@ -1,7 +1,6 @@
 -- `index_list::indexes::exchange_with` is safe and ends: the index keeps its length, and each turn leaves fewer entries. Assumes nothing.
 use mathlib.Core.Path.{◌≡◌}
 use Prim.Native.Nat.{◌-◌}
-use borrow.Author.Rules.{rules}
 use lib.ListN.{length}
 use Rattle.index_list.proofs.indexes.exchange_with.Given as goal
 

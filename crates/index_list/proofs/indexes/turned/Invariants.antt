@@ -1,6 +1,5 @@
 -- `index_list::indexes::turned` is safe and ends: each turn leaves fewer turns. Assumes nothing.
 use Prim.Native.Nat.{◌-◌}
-use borrow.Author.Rules.{rules}
 use Rattle.index_list.proofs.indexes.turned.Given as goal
 
 abbrev pub invariant-loop-by : goal.invariant-loop-by

@@ -1,6 +1,5 @@
 -- `index_list::lookups::look_up_rows` is safe and ends: each turn leaves fewer rows. Assumes nothing.
 use Prim.Native.Nat.{◌-◌}
-use borrow.Author.Rules.{rules}
 use Rattle.index_list.proofs.lookups.look_up_rows.Given as goal
 
 abbrev pub invariant-loop-row : goal.invariant-loop-row

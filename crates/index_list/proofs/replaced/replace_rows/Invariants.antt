@@ -1,7 +1,6 @@
 -- `index_list::replaced::replace_rows` is safe and ends: table and index keep their lengths, and each turn leaves fewer rows. Assumes nothing.
 use mathlib.Core.Path.{◌≡◌}
 use Prim.Native.Nat.{◌-◌}
-use borrow.Author.Rules.{rules}
 use lib.ListN.{length}
 use Rattle.index_list.proofs.replaced.replace_rows.Given as goal
 

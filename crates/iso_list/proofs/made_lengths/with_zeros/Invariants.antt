@@ -1,5 +1,4 @@
 -- `iso_list::lengths::with_zeros` is safe and ends: each turn leaves fewer zeros. Assumes nothing.
-use borrow.Author.Rules.{rules}
 use Rattle.iso_list.proofs.made_lengths.with_zeros.Given as goal
 
 abbrev pub invariant-loop-left : goal.invariant-loop-left

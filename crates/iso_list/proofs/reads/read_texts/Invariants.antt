@@ -1,6 +1,5 @@
 -- `iso_list::reads::read_texts` is safe and ends: the buffer keeps its length, and each turn leaves fewer texts. Assumes nothing.
 use mathlib.Core.Path.{◌≡◌}
-use borrow.Author.Rules.{rules}
 use lib.ListN.{length}
 use Rattle.iso_list.proofs.reads.read_texts.Given as goal
 

@@ -1,5 +1,4 @@
 -- `iso_list::rounds::read_often` is safe and ends: each turn leaves fewer. Assumes nothing.
-use borrow.Author.Rules.{rules}
 use Rattle.iso_list.proofs.rounds.read_often.Given as goal
 
 abbrev pub invariant-loop-left : goal.invariant-loop-left

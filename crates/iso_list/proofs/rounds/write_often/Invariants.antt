@@ -1,6 +1,5 @@
 -- `iso_list::rounds::write_often` is safe and ends: the buffer keeps its length, and each turn leaves fewer. Assumes nothing.
 use mathlib.Core.Path.{◌≡◌}
-use borrow.Author.Rules.{rules}
 use lib.ListN.{length}
 use Rattle.iso_list.proofs.rounds.write_often.Given as goal
 

@@ -1,6 +1,5 @@
 -- `iso_list::writes::write_lengths` is safe and ends: each turn leaves fewer lengths. Assumes nothing.
 use Prim.Native.Nat.{◌-◌}
-use borrow.Author.Rules.{rules}
 use Rattle.iso_list.proofs.writes.write_lengths.Given as goal
 
 abbrev pub invariant-loop-number : goal.invariant-loop-number

@@ -2,7 +2,6 @@
 use mathlib.Core.Path.{sym}
 use native.Mathlib.Omega.{arith}
 use lib.Seq.{length-take-le}
-use borrow.Author.Rules.{rules}
 use Rattle.iso_list.proofs.writes.write_within.Goals as goal
 
 pub slice_bounds-write_iso-end-2 : goal.slice_bounds-write_iso-end-2

@@ -1,7 +1,6 @@
 -- `iso_reader::components::component` meets its contract: a number, and the letter at its end. Assumes nothing.
 use mathlib.Core.Path.{◌≡◌, sym, ap, ◌∙◌}
 use mathlib.Core.Bool.{false}
-use borrow.Author.Rules.{rules}
 use lib.ListN.{get_or, drop}
 use Rattle.iso.specs.IsoTimings.{wanted, kind_of, may_come, read_from}
 use Rattle.iso_reader.specs.Steps.{typed_whole, typed_fraction, letter_from, number_outcome, Within, component_outcome, letter_none, letter_comes, letter_year, letter_other}

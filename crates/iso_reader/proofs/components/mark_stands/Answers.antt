@@ -1,6 +1,5 @@
 -- `iso_reader::components::mark_stands` meets its contract: `.`, or `,`. Assumes nothing.
 use mathlib.Core.Path.{sym, ◌∙◌}
-use borrow.Author.Rules.{rules}
 use Rattle.iso_reader.specs.Steps.{sees_mark}
 use Rattle.iso_reader.proofs.components.mark_stands.Goals as goal
 

@@ -1,5 +1,4 @@
 -- `iso_reader::components::may_come` meets its contract: before `T`, and after it. Assumes nothing.
-use borrow.Author.Rules.{rules}
 use borrow.Author.Tests.{lt-leb, le-leb}
 use Rattle.rules.specs.Common.{if◌then◌else◌}
 use Rattle.iso.specs.IsoTimings.{may_come}

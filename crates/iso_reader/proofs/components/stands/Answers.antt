@@ -1,6 +1,5 @@
 -- `iso_reader::components::stands` meets its contract: the byte there, and none beyond the end. Assumes nothing.
 use mathlib.Core.Path.{sym}
-use borrow.Author.Rules.{rules}
 use lib.Dec.{eqb}
 use Rattle.iso_reader.specs.Steps.{sees_byte}
 use Rattle.rules.proofs.Laws.Texts.{sees_end}

@@ -2,7 +2,6 @@
 -- start. The kinds fall. Assumes nothing.
 use mathlib.Core.Path.{◌≡◌, refl, sym, ap, ◌∙◌}
 use mathlib.Core.Bool.{false}
-use Prim.Native.Nat.{◌≤◌}
 use native.Mathlib.Nat.{le_trans, le-suc}
 use native.Mathlib.Omega.{arith}
 use borrow.Author.Rules.{rules}

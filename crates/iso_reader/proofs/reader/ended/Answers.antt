@@ -1,6 +1,5 @@
 -- `iso_reader::reader::ended` meets its contract: something comes, or nothing. Assumes nothing.
 use mathlib.Core.Path.{sym, ap, ◌∙◌}
-use borrow.Author.Rules.{rules}
 use Rattle.rules.proofs.Laws.Outcomes.{bind_got, bind_refused}
 use Rattle.iso_reader.specs.Due.{due}
 use Rattle.iso_reader.specs.Sums.{closed_ends, closed_refused}

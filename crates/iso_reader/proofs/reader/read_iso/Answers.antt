@@ -1,6 +1,5 @@
 -- `iso_reader::reader::read_iso` meets its contract: a text that is too long, one that is refused, and one that is read. Assumes nothing.
 use mathlib.Core.Path.{sym, ap, ◌∙◌}
-use borrow.Author.Rules.{rules}
 use Rattle.answers.specs.Outcomes.{total}
 use Rattle.iso_reader.specs.Answers.{answer_too_long, answer_refused, answer_read}
 use Rattle.iso_reader.proofs.reader.read_iso.Goals as goal

@@ -1,6 +1,5 @@
 -- `iso_reader::reader::timing` meets its contract: no `P`, `T` after it, and a component after it. Assumes nothing.
 use mathlib.Core.Path.{◌≡◌, sym, ap, ◌∙◌}
-use borrow.Author.Rules.{rules}
 use borrow.Author.Tests.{not-true, not-false}
 use lib.ListN.{drop}
 use Rattle.rules.proofs.Laws.Outcomes.{bind_refused}

@@ -2,7 +2,6 @@
 use mathlib.Core.Path.{ap, ◌∙◌}
 use Prim.Native.Nat.{◌+◌, ◌*◌, ◌^◌}
 use native.Mathlib.Nat.{le_trans}
-use borrow.Author.Rules.{rules}
 use lib.Seq.{slice}
 use Rattle.rules.specs.Evaluation.{spelled}
 use Rattle.iso.proofs.Laws.Worth.{whole_worth}

@@ -4,7 +4,7 @@ use Prim.Native.Nat.{◌+◌, ◌*◌, ◌-◌, ◌^◌, ◌<◌}
 use native.Mathlib.Omega.{arith}
 use borrow.Author.Rules.{rules}
 use Rattle.value.specs.Digits.{digit_low}
-use Rattle.iso_reader.specs.Tenths.{tenths, Known, known_none, known_more, known_done, digit_before, tenth_fits}
+use Rattle.iso_reader.specs.Tenths.{tenths, known_none, known_more, known_done, digit_before, tenth_fits}
 use Rattle.iso_reader.proofs.worth.fraction_nanoseconds.Goals as goal
 use Rattle.iso_reader.proofs.worth.fraction_nanoseconds.Goals.{After-wide}
 

@@ -15,9 +15,8 @@ returns-then-not-shows c =
     )
 
 pub returns : goal.returns
-returns c =
-    (
-      part_is _ c.args.needed c.args.number c.args.nanoseconds c.requires
-          (sym (not-false _ (ap not c.if-not-shows.false)) ∙ c.shows.ensures) (λ _. (c.whole.ensures.0, c.fraction.ensures.0)),
-      (c.whole.ensures.1, c.fraction.ensures.1),
-    )
+returns c = (
+  part_is _ c.args.needed c.args.number c.args.nanoseconds c.requires
+      (sym (not-false _ (ap not c.if-not-shows.false)) ∙ c.shows.ensures) (λ _. (c.whole.ensures.0, c.fraction.ensures.0)),
+  (c.whole.ensures.1, c.fraction.ensures.1),
+)

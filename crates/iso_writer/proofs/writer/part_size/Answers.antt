@@ -1,6 +1,5 @@
 -- `iso_writer::writer::part_size` meets its contract. Assumes nothing.
 use native.Mathlib.Omega.{arith}
-use borrow.Author.Rules.{rules}
 use Rattle.writing.specs.Forms.{fraction_size_most}
 use Rattle.iso_writer.specs.Forms.{left_size, shown_size}
 use Rattle.iso_writer.proofs.writer.part_size.Goals as goal

@@ -5,13 +5,11 @@ use mathlib.Core.Bool.{true, false}
 use Prim.Native.Nat.{◌+◌}
 use native.Mathlib.Omega.{arith}
 use borrow.Author.Tests.{not-true, not-false}
-use borrow.Author.Rules.{rules}
 use lib.ListN.{length, set}
 use Rattle.writing.specs.Digits.{decimals_length}
 use Rattle.writing.specs.Forms.{behind_point, behind_length}
 use Rattle.writing.specs.Laid.{laid, laid_length, laid_nothing}
 use Rattle.iso_writer.specs.Forms.{part_length, left_size, left_bytes, shown_size, part_laid}
-use Rattle.std.proofs.Common.{not}
 use Rattle.iso_writer.proofs.writer.put_part.Goals as goal
 use Rattle.iso_writer.proofs.writer.put_part.Goals.{Else-not-part}
 
@@ -50,8 +48,11 @@ pub returns : goal.returns
 returns c =
     let part = c.args.part in
     let point = c.args.place + part.whole.count in
-    let decimals = c.put_fraction.ensures ∙ ap (λ b. laid b point (behind_point part.decimals)) c.put.ensures in record { value = omega (arith, c.fraction_size.ensures, shown_size part (some (goal.at.returns c).Else-not-part)); buffer_after = ap₂ (λ b n. set b (point + n) part.letter) decimals c.fraction_size.ensures
-          ∙ part_laid part (some (goal.at.returns c).Else-not-part) c.args.buffer.now c.args.place c.requires.1 }
+    let decimals = c.put_fraction.ensures ∙ ap (λ b. laid b point (behind_point part.decimals)) c.put.ensures in record {
+      value = omega (arith, c.fraction_size.ensures, shown_size part (some (goal.at.returns c).Else-not-part));
+      buffer_after = ap₂ (λ b n. set b (point + n) part.letter) decimals c.fraction_size.ensures
+          ∙ part_laid part (some (goal.at.returns c).Else-not-part) c.args.buffer.now c.args.place c.requires.1;
+    }
 
 pub shape_of-buffer : goal.shape_of-buffer
 shape_of-buffer c = ap length (returns c).buffer_after ∙ laid_length _ _ _ (omega (arith, part_length c.args.part, c.requires.1))

@@ -1,6 +1,5 @@
 -- `iso_writer::writer::size` meets its contract. Assumes nothing.
 use native.Mathlib.Omega.{arith}
-use borrow.Author.Rules.{rules}
 use Rattle.iso_writer.specs.Forms.{part_most}
 use Rattle.iso_writer.proofs.writer.size.Goals as goal
 

@@ -1,7 +1,6 @@
 -- `lengths::duration::calculate_duration` meets its contract: a coefficient multiplies seconds and attoseconds apart, and each product is
 -- known to fit before it is made. Assumes nothing.
 use mathlib.Core.Path.{◌≡◌, sym, ◌∙◌, ap}
-use mathlib.Core.Logic.{⊎_elim}
 use Prim.Native.Nat.{◌*◌}
 use native.Mathlib.Nat.{lt_trans, zero-add}
 use native.Mathlib.Omega.{arith}

@@ -1,6 +1,5 @@
 -- `lengths::duration::cut_words` meets its contract: the first division cuts to nanoseconds, the second parts them; so few seconds fit
 -- the low word. Assumes nothing.
-use borrow.Author.Rules.{rules}
 use Rattle.lengths.proofs.Cuts.{cut_twice}
 use Rattle.lengths.proofs.duration.cut_words.Goals as goal
 

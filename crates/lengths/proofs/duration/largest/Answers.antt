@@ -1,6 +1,5 @@
 -- `lengths::duration::largest` meets its contract: the record is that of the definition. Assumes nothing.
 use mathlib.Core.Path.{refl}
-use borrow.Author.Rules.{rules}
 use Rattle.rules.specs.ThePartOfTheCrateWeTake.{largest}
 use Rattle.lengths.proofs.duration.largest.Goals as goal
 

@@ -1,6 +1,5 @@
 -- `lengths::duration::limited` meets its contract: where the seconds do not fit, the length passes the largest. Assumes nothing.
 use mathlib.Core.Path.{sym, ◌∙◌, ap}
-use mathlib.Core.Logic.{⊎_elim}
 use native.Mathlib.Omega.{arith}
 use borrow.Author.Rules.{rules}
 use Rattle.rules.specs.Evaluation.{length_of}

@@ -1,7 +1,6 @@
 -- `lengths::duration::subtract` meets its contract: one second borrowed is as many nanoseconds. Assumes nothing.
 use mathlib.Core.Path.{◌∙◌, ap}
 use native.Mathlib.Omega.{arith}
-use borrow.Author.Rules.{rules}
 use Rattle.rules.specs.ThePartOfTheCrateWeTake.{size}
 use Rattle.rules.specs.Evaluation.{length_of}
 use Rattle.lengths.proofs.duration.subtract.Goals as goal

@@ -1,10 +1,9 @@
 -- `lengths::wide::four_columns` meets its contract. The loop's invariant is that of four columns made a word (`Carrying`); a column is small, so
 -- that what is carried stays small too. Assumes nothing.
-use Prim.Native.Nat.{◌+◌, ◌*◌, ◌-◌, ◌^◌, ◌≤◌, ◌<◌}
+use Prim.Native.Nat.{◌*◌, ◌≤◌}
 use native.Mathlib.Omega.{arith}
-use borrow.Author.Rules.{rules}
 use Rattle.lengths.specs.Columns.{column_most}
-use Rattle.lengths.proofs.Carrying.{Carrying, carry_start, carry_step, carry_end}
+use Rattle.lengths.proofs.Carrying.{carry_start, carry_step, carry_end}
 use Rattle.lengths.proofs.wide.four_columns.Goals as goal
 use Rattle.lengths.proofs.wide.four_columns.Goals.{After-column}
 

@@ -1,10 +1,7 @@
 -- `lengths::wide::four_columns` meets its contract. The loop's invariant is that of four columns made a word (`Carrying`); a column is small, so
 -- that what is carried stays small too. Assumes nothing.
-use Prim.Native.Nat.{◌+◌, ◌*◌, ◌-◌, ◌^◌, ◌≤◌, ◌<◌}
-use native.Mathlib.Omega.{arith}
-use borrow.Author.Rules.{rules}
-use Rattle.lengths.specs.Columns.{column_most}
-use Rattle.lengths.proofs.Carrying.{Carrying, carry_start, carry_step, carry_end}
+use Prim.Native.Nat.{◌+◌, ◌-◌, ◌^◌, ◌≤◌, ◌<◌}
+use Rattle.lengths.proofs.Carrying.{Carrying}
 use Rattle.lengths.proofs.wide.four_columns.Given as goal
 
 abbrev pub invariant-loop-position : goal.invariant-loop-position

@@ -5,7 +5,6 @@ use Prim.Native.Nat.{ℕ, ◌/◌, ◌^◌}
 use native.Mathlib.Omega.{arith}
 use lib.Arith.{mod-mul}
 use lib.Dec.{lit<}
-use borrow.Author.Rules.{rules}
 use Rattle.lengths.specs.Columns.{pieces}
 use Rattle.lengths.proofs.wide.pieces.Goals as goal
 

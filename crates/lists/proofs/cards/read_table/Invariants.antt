@@ -1,7 +1,6 @@
 -- `lists::cards::read_table` is safe and ends: the table keeps its length, and each row brings its end nearer. Assumes nothing.
 use mathlib.Core.Path.{◌≡◌}
 use Prim.Native.Nat.{◌-◌}
-use borrow.Author.Rules.{rules}
 use lib.ListN.{length}
 use Rattle.lists.proofs.cards.read_table.Given as goal
 

@@ -1,6 +1,5 @@
 -- `lists::counts::print_counts` is safe and ends: each turn leaves fewer numbers. Assumes nothing.
 use Prim.Native.Nat.{◌-◌}
-use borrow.Author.Rules.{rules}
 use Rattle.lists.proofs.counts.print_counts.Given as goal
 
 abbrev pub invariant-loop-number : goal.invariant-loop-number

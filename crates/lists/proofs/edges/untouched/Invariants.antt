@@ -1,6 +1,5 @@
 -- `lists::edges::untouched` is safe and ends: each turn leaves fewer bytes. Assumes nothing.
 use Prim.Native.Nat.{◌-◌}
-use borrow.Author.Rules.{rules}
 use lib.ListN.{length}
 use Rattle.lists.proofs.edges.untouched.Given as goal
 

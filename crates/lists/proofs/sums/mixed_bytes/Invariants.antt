@@ -1,6 +1,5 @@
 -- `lists::sums::mixed_bytes` is safe and ends: each turn leaves fewer bytes. Assumes nothing.
 use Prim.Native.Nat.{◌-◌}
-use borrow.Author.Rules.{rules}
 use lib.ListN.{length}
 use Rattle.lists.proofs.sums.mixed_bytes.Given as goal
 

@@ -1,7 +1,6 @@
 -- `lists::texts::fill` is safe and ends: the buffer keeps its length, and each turn leaves fewer bytes. Assumes nothing.
 use mathlib.Core.Path.{◌≡◌}
 use Prim.Native.Nat.{◌-◌}
-use borrow.Author.Rules.{rules}
 use lib.ListN.{length}
 use Rattle.lists.proofs.texts.fill.Given as goal
 

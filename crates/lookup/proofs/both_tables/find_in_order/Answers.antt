@@ -2,7 +2,6 @@
 use mathlib.Core.Path.{◌≡◌, sym, ap, ap₂, ◌∙◌}
 use Prim.Native.Nat.{◌+◌}
 use native.Mathlib.Omega.{arith}
-use borrow.Author.Rules.{rules}
 use Rattle.rules.specs.SettingsAndUnitTable.{lookup}
 use Rattle.rows.specs.Laws.Lookup.{lookup_found, line_wins, hall_behind}
 use Rattle.index.specs.declared.Searched.{Searched}
@@ -37,5 +36,8 @@ returns-in-Row c = let it = c.in-Row.is in record { result_value = c.row_at.ensu
 
 pub returns-in-Nowhere : goal.returns-in-Nowhere
 returns-in-Nowhere c =
-    let none = c.in-Nowhere.is in record { result_value = c.row_named-row.ensures.result_value ∙ hall_behind _ _ _ (sym (in_line (goal.at.returns-in-Nowhere c).After-find-in_line).0 ∙ none); compared_after = ap₂ ◌+◌ (in_line (goal.at.returns-in-Nowhere c).After-find-in_line).1 c.row_named-row.ensures.compared_after
-          ∙ compared_both _ _ (sym (ap (λ (s : Searched). s.found) c.find-in_line.ensures) ∙ none) }
+    let none = c.in-Nowhere.is in record {
+      result_value = c.row_named-row.ensures.result_value ∙ hall_behind _ _ _ (sym (in_line (goal.at.returns-in-Nowhere c).After-find-in_line).0 ∙ none);
+      compared_after = ap₂ ◌+◌ (in_line (goal.at.returns-in-Nowhere c).After-find-in_line).1 c.row_named-row.ensures.compared_after
+          ∙ compared_both _ _ (sym (ap (λ (s : Searched). s.found) c.find-in_line.ensures) ∙ none);
+    }

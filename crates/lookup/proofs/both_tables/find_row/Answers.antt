@@ -1,6 +1,5 @@
 -- `lookup::both_tables::find_row` meets its contract: without indexes the old search of both tables, else the row that a lookup's numbers lead to. Assumes nothing.
 use mathlib.Core.Path.{◌≡◌, ap, ap₂, ◌∙◌}
-use borrow.Author.Rules.{rules}
 use Rattle.rules.specs.SettingsAndUnitTable.{stands, find_row}
 use Rattle.index.specs.declared.LookedUp.{LookedUp}
 use Rattle.index.specs.TheSortedIndex.{compared_in_both, found_in}

@@ -2,7 +2,6 @@
 use mathlib.Core.Path.{◌≡◌, sym, ap, ap₂, ◌∙◌}
 use Prim.Native.Nat.{◌+◌}
 use native.Mathlib.Omega.{arith}
-use borrow.Author.Rules.{rules}
 use Rattle.rules.specs.declared.Found.TheVariants.{Nowhere}
 use Rattle.index.specs.declared.Searched.{Searched}
 use Rattle.lookup.specs.Searching.{searched, held_at}

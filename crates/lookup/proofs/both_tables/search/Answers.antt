@@ -1,7 +1,6 @@
 -- `lookup::both_tables::search` meets its contract: which search is made. Assumes nothing.
 use mathlib.Core.Path.{◌∙◌}
 use mathlib.Core.Logic.{⊎_elim}
-use borrow.Author.Rules.{rules}
 use Rattle.lookup.specs.Laws.BothTables.{searched_rows, searched_index}
 use Rattle.lookup.proofs.both_tables.search.Goals as goal
 

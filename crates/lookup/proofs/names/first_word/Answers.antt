@@ -1,8 +1,7 @@
 -- `lookup::names::first_word` meets its contract: the word is that of the bytes up to `i`. The measure is how many of eight are left. Assumes nothing.
 use mathlib.Core.Path.{◌≡◌, refl, sym, ap, ◌∙◌}
-use Prim.Native.Nat.{◌*◌, ◌-◌, ◌≤◌}
 use native.Mathlib.Omega.{arith}
-use lib.ListN.{length, take}
+use lib.ListN.{take}
 use lib.Seq.{take_all}
 use Rattle.rules.specs.SettingsAndUnitTable.{low_first}
 use Rattle.words.specs.LowFirst.{low_first_part, low_first_more}

@@ -1,11 +1,8 @@
 -- `lookup::names::first_word` meets its contract: the word is that of the bytes up to `i`. The measure is how many of eight are left. Assumes nothing.
-use mathlib.Core.Path.{◌≡◌, refl, sym, ap, ◌∙◌}
+use mathlib.Core.Path.{◌≡◌}
 use Prim.Native.Nat.{◌*◌, ◌-◌, ◌≤◌}
-use native.Mathlib.Omega.{arith}
 use lib.ListN.{length, take}
-use lib.Seq.{take_all}
 use Rattle.rules.specs.SettingsAndUnitTable.{low_first}
-use Rattle.words.specs.LowFirst.{low_first_part, low_first_more}
 use Rattle.lookup.proofs.names.first_word.Given as goal
 
 abbrev pub invariant-loop-bits : goal.invariant-loop-bits

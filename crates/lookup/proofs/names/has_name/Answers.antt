@@ -7,7 +7,6 @@ use lib.Dec.{eqb}
 use lib.ListN.{length, get_or, drop, length-drop}
 use lib.Seq.{take_all}
 use borrow.Author.Tests.{eq-eqb, ne_eqb}
-use borrow.Author.Rules.{rules}
 use Rattle.rules.specs.Common.{same}
 use Rattle.rules.specs.SettingsAndUnitTable.{name_room, name_size, name}
 use Rattle.rows.specs.Laws.Rooms.{word_of, size_most, told_by_word, no_longer, behind_word}

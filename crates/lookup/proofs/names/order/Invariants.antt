@@ -1,11 +1,9 @@
 -- `lookup::names::order` meets its contract: the bytes from `i` on decide what all of them do. The measure is how many are left.
 -- Assumes nothing.
-use mathlib.Core.Path.{◌≡◌, refl, sym, ◌∙◌}
+use mathlib.Core.Path.{◌≡◌}
 use Prim.Native.Nat.{◌≤◌, ◌-◌}
-use native.Mathlib.Omega.{arith}
 use lib.ListN.{length, drop}
 use Rattle.index.specs.TheSortedIndex.{order}
-use Rattle.lookup.specs.Laws.Names.{after_prefix, less_byte, more_byte, same_byte, before_longer, all_same}
 use Rattle.lookup.proofs.names.order.Given as goal
 
 abbrev pub invariant-loop-i : goal.invariant-loop-i

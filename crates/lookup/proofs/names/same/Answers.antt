@@ -1,11 +1,9 @@
 -- `lookup::names::same` meets its contract: the bytes from `i` on decide what all of them do. The measure is how many are left.
 -- Assumes nothing.
-use mathlib.Core.Path.{◌≡◌, refl, ap}
-use Prim.Native.Nat.{◌≤◌, ◌-◌}
+use mathlib.Core.Path.{refl, ap}
 use native.Mathlib.Omega.{arith}
-use lib.ListN.{length, drop}
+use lib.ListN.{length}
 use borrow.Author.Tests.{eq-eqb, ne_eqb}
-use Rattle.rules.specs.Common.{same}
 use Rattle.rows.specs.Laws.Lookup.{not_same, same_from, same_done}
 use Rattle.lookup.proofs.names.same.Goals as goal
 
@@ -24,12 +22,11 @@ returns-then-a-i c =
     )
 
 pub loop-i-preserved : goal.loop-i-preserved
-loop-i-preserved c =
-    (
-      omega arith,
-      omega arith,
-      rw (← c.loop-i.invariant.2, same_from c.args.a.now c.args.b.now c.loop-i.i (omega arith) (omega arith), eq-eqb _ _ c.if-a-i.false),
-    )
+loop-i-preserved c = (
+  omega arith,
+  omega arith,
+  rw (← c.loop-i.invariant.2, same_from c.args.a.now c.args.b.now c.loop-i.i (omega arith) (omega arith), eq-eqb _ _ c.if-a-i.false),
+)
 
 pub returns : goal.returns
 returns c =

@@ -1,12 +1,9 @@
 -- `lookup::names::same` meets its contract: the bytes from `i` on decide what all of them do. The measure is how many are left.
 -- Assumes nothing.
-use mathlib.Core.Path.{◌≡◌, refl, ap}
+use mathlib.Core.Path.{◌≡◌}
 use Prim.Native.Nat.{◌≤◌, ◌-◌}
-use native.Mathlib.Omega.{arith}
 use lib.ListN.{length, drop}
-use borrow.Author.Tests.{eq-eqb, ne_eqb}
 use Rattle.rules.specs.Common.{same}
-use Rattle.rows.specs.Laws.Lookup.{not_same, same_from, same_done}
 use Rattle.lookup.proofs.names.same.Given as goal
 
 abbrev pub invariant-loop-i : goal.invariant-loop-i

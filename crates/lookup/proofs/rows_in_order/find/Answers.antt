@@ -1,9 +1,7 @@
 -- `lookup::rows_in_order::find` meets its contract: the rows that are left decide, and their number is the measure. Assumes nothing.
 use mathlib.Core.Path.{sym, ◌∙◌}
-use Prim.Native.Nat.{◌-◌}
 use native.Mathlib.Omega.{arith}
-use Rattle.rules.specs.SettingsAndUnitTable.{rows}
-use Rattle.lookup.specs.Laws.Walks.{Walking, walk_starts, walk_ends, walk_below, walk_long, walk_padded, walk_finds, walk_goes_on, walk_fits}
+use Rattle.lookup.specs.Laws.Walks.{walk_starts, walk_ends, walk_below, walk_long, walk_padded, walk_finds, walk_goes_on, walk_fits}
 use Rattle.lookup.proofs.rows_in_order.find.Goals as goal
 
 pub has_name-requires : goal.has_name-requires

@@ -1,11 +1,9 @@
 -- `lookup::rows_in_order::row_named` meets its contract: the rows that are left decide, and their number is the measure. Assumes nothing.
-use mathlib.Core.Path.{refl, sym, ap, ◌∙◌}
-use Prim.Native.Nat.{◌-◌}
+use mathlib.Core.Path.{sym, ap, ◌∙◌}
 use native.Mathlib.Omega.{arith}
-use Rattle.rules.specs.SettingsAndUnitTable.{rows}
 use Rattle.rows.specs.Named.{found_row}
 use Rattle.index.specs.declared.Searched.{Searched}
-use Rattle.lookup.specs.Laws.Walks.{named_found, Walking, walk_starts, walk_ends, walk_below, walk_row, walk_long, walk_padded, walk_finds, walk_goes_on, walk_fits}
+use Rattle.lookup.specs.Laws.Walks.{named_found, walk_starts, walk_ends, walk_below, walk_row, walk_long, walk_padded, walk_finds, walk_goes_on, walk_fits}
 use Rattle.lookup.proofs.rows_in_order.row_named.Goals as goal
 
 pub has_name-requires : goal.has_name-requires

@@ -1,11 +1,7 @@
 -- `lookup::rows_in_order::row_named` meets its contract: the rows that are left decide, and their number is the measure. Assumes nothing.
-use mathlib.Core.Path.{refl, sym, ap, ◌∙◌}
 use Prim.Native.Nat.{◌-◌}
-use native.Mathlib.Omega.{arith}
 use Rattle.rules.specs.SettingsAndUnitTable.{rows}
-use Rattle.rows.specs.Named.{found_row}
-use Rattle.index.specs.declared.Searched.{Searched}
-use Rattle.lookup.specs.Laws.Walks.{named_found, Walking, walk_starts, walk_ends, walk_below, walk_row, walk_long, walk_padded, walk_finds, walk_goes_on, walk_fits}
+use Rattle.lookup.specs.Laws.Walks.{Walking}
 use Rattle.lookup.proofs.rows_in_order.row_named.Given as goal
 
 abbrev pub invariant-loop-rest : goal.invariant-loop-rest

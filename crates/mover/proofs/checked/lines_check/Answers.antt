@@ -2,7 +2,7 @@
 -- measure is how many bytes are left. Assumes nothing.
 use mathlib.Core.Bool.{true}
 use mathlib.Core.Path.{◌≡◌, sym, ◌∙◌}
-use Prim.Native.Nat.{◌+◌, ◌*◌, ◌-◌, ◌≤◌}
+use Prim.Native.Nat.{◌+◌, ◌≤◌}
 use native.Mathlib.Nat.{zero-mul}
 use native.Mathlib.Omega.{arith}
 use lib.ListN.{length}
@@ -10,7 +10,6 @@ use borrow.Author.Count.{below_none}
 use borrow.Author.Tests.{not-true, not-false}
 use Rattle.stored.specs.Lines.{line_size_in}
 use Rattle.moves.specs.NamesLongerThanSixteenBytes.{line_stands}
-use Rattle.moves.proofs.Laws.Moves.{AllMove}
 use Rattle.mover.specs.Walks.{next_place, wrong_there, long_there, right_there, line_whole, line_within}
 use Rattle.std.proofs.Common.{ap, not}
 use Rattle.mover.proofs.checked.lines_check.Goals as goal
@@ -42,13 +41,12 @@ pub returns-then-name_size-to : goal.returns-then-name_size-to
 returns-then-name_size-to c = long_there _ _ _ _ _ _ c.loop-at.invariant.1 c.line_size-size.ensures c.line_at-line.ensures _ c.loop-at.invariant.3 (right (goal.at.returns-then-name_size-to c).Else-not-line_stands) (rw c.name_size.ensures at c.if-name_size-to.true)
 
 pub loop-at-preserved : goal.loop-at-preserved
-loop-at-preserved c =
-    (
-      within (goal.at.loop-at-preserved c).Else-not-line_stands,
-      next_place c.loop-at.count c.loop-at.at c.line_size-size.result _ c.loop-at.invariant.1 c.line_size-size.ensures,
-      omega arith,
-      right_there _ _ _ _ _ _ c.loop-at.invariant.1 c.line_size-size.ensures c.line_at-line.ensures _ c.loop-at.invariant.3 (right (goal.at.loop-at-preserved c).Else-not-line_stands) (rw c.name_size.ensures at c.if-name_size-to.false),
-    )
+loop-at-preserved c = (
+  within (goal.at.loop-at-preserved c).Else-not-line_stands,
+  next_place c.loop-at.count c.loop-at.at c.line_size-size.result _ c.loop-at.invariant.1 c.line_size-size.ensures,
+  omega arith,
+  right_there _ _ _ _ _ _ c.loop-at.invariant.1 c.line_size-size.ensures c.line_at-line.ensures _ c.loop-at.invariant.3 (right (goal.at.loop-at-preserved c).Else-not-line_stands) (rw c.name_size.ensures at c.if-name_size-to.false),
+)
 
 pub returns : goal.returns
 returns c = (omega arith, c.loop-at.invariant.3)

@@ -1,12 +1,9 @@
 -- `mover::checked::zeros` meets its contract: the digits from `i` on decide what all of them do. The measure is how many are left. Assumes nothing.
-use mathlib.Core.Path.{◌≡◌, refl, sym}
+use mathlib.Core.Path.{◌≡◌}
 use Prim.Native.Nat.{◌≤◌, ◌-◌}
-use native.Mathlib.Omega.{arith}
 use lib.Dec.{eqb}
 use lib.ListN.{length, drop}
-use borrow.Author.Tests.{eq-eqb, ne_eqb}
 use Rattle.rules.specs.Common.{all}
-use Rattle.rules.proofs.Laws.Lists.{all_from, all_done}
 use Rattle.moves.proofs.Laws.Digits.{zero_digit}
 use Rattle.mover.proofs.checked.zeros.Given as goal
 

@@ -1,12 +1,12 @@
 -- `mover::written::copy` meets its contract: before turn `i` the first `i` bytes of the part are laid over the target. The measure is how many are
 -- left. Assumes nothing.
-use mathlib.Core.Path.{◌≡◌, refl}
-use Prim.Native.Nat.{◌+◌, ◌-◌, ◌≤◌}
+use mathlib.Core.Path.{refl}
+use Prim.Native.Nat.{◌+◌}
 use native.Mathlib.Numerals.{add-one}
 use native.Mathlib.Omega.{arith}
-use lib.ListN.{length, take, get_or, length-set}
+use lib.ListN.{take, get_or, length-set}
 use lib.Seq.{take_all, take-suc, length-take-le}
-use Rattle.writing.specs.Laid.{laid, laid_nothing}
+use Rattle.writing.specs.Laid.{laid_nothing}
 use Rattle.mover.specs.Parts.{laid_turn}
 use Rattle.mover.proofs.written.copy.Goals as goal
 

@@ -3,7 +3,6 @@ use mathlib.Core.Path.{◌≡◌, ap, ◌∙◌}
 use Prim.Native.Nat.{◌+◌, ◌*◌, ◌≤◌}
 use native.Mathlib.Omega.{arith}
 use lib.ListN.{length, length-take, length-drop}
-use borrow.Author.Rules.{rules}
 use Rattle.stored.specs.Lines.{line_size_in}
 use Rattle.moves.proofs.Laws.Digits.{told}
 use Rattle.moves.proofs.Laws.Moves.{moves_long, moves_small, moves_fit}

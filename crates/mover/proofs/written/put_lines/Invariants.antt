@@ -1,15 +1,11 @@
 -- `mover::written::put_lines` meets its contract: before each turn the first `line` lines are laid over the target from its start on. The measure is
 -- how many are left. Assumes nothing.
-use mathlib.Core.Path.{◌≡◌, refl, sym, ap, ◌∙◌}
-use Prim.Native.Nat.{◌+◌, ◌*◌, ◌-◌, ◌≤◌}
-use native.Mathlib.Nat.{zero-mul}
-use native.Mathlib.Omega.{arith}
+use mathlib.Core.Path.{◌≡◌}
+use Prim.Native.Nat.{◌*◌, ◌-◌, ◌≤◌}
 use lib.ListN.{length}
-use borrow.Author.Rules.{rules}
 use Rattle.stored.specs.Lines.{line_size_in}
-use Rattle.writing.specs.Laid.{laid, laid_nothing}
-use Rattle.moves.proofs.Laws.Moves.{line_moves, moved_pieces, piece}
-use Rattle.mover.specs.Walks.{room_for_next, next_place, the_piece, pieces_turn}
+use Rattle.writing.specs.Laid.{laid}
+use Rattle.moves.proofs.Laws.Moves.{moved_pieces}
 use Rattle.mover.proofs.written.put_lines.Given as goal
 
 abbrev pub invariant-loop-line : goal.invariant-loop-line

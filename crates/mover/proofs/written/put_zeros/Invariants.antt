@@ -1,12 +1,10 @@
 -- `mover::written::put_zeros` meets its contract: before turn `i` so many digits `0` are laid over the target. The measure is how many are left.
 -- Assumes nothing.
-use mathlib.Core.Path.{◌≡◌, refl, sym}
-use Prim.Native.Nat.{◌+◌, ◌-◌, ◌≤◌}
-use native.Mathlib.Omega.{arith}
-use lib.ListN.{length, replicate, length-replicate, length-set, replicate-append-replicate}
+use mathlib.Core.Path.{◌≡◌}
+use Prim.Native.Nat.{◌-◌, ◌≤◌}
+use lib.ListN.{length, replicate}
 use Rattle.moves.proofs.Laws.Digits.{zero_digit}
-use Rattle.writing.specs.Laid.{laid, laid_nothing}
-use Rattle.mover.specs.Parts.{laid_turn}
+use Rattle.writing.specs.Laid.{laid}
 use Rattle.mover.proofs.written.put_zeros.Given as goal
 
 abbrev pub invariant-loop-i : goal.invariant-loop-i

@@ -1,7 +1,6 @@
 -- `moves_list::forms::fill_lines` is safe and ends: the buffer keeps its length, and each turn leaves fewer bytes. Assumes nothing.
 use mathlib.Core.Path.{◌≡◌}
 use Prim.Native.Nat.{◌-◌}
-use borrow.Author.Rules.{rules}
 use lib.ListN.{length}
 use Rattle.moves_list.proofs.forms.fill_lines.Given as goal
 

@@ -1,7 +1,6 @@
 -- `moves_list::spoiled::lines_spoiled` is safe and ends: the lines keep their length, and each turn leaves fewer of them. Assumes nothing.
 use mathlib.Core.Path.{◌≡◌}
 use Prim.Native.Nat.{◌-◌}
-use borrow.Author.Rules.{rules}
 use lib.ListN.{length}
 use Rattle.moves_list.proofs.spoiled.lines_spoiled.Given as goal
 

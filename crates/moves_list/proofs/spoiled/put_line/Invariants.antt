@@ -1,7 +1,6 @@
 -- `moves_list::spoiled::put_line` is safe and ends: the lines keep their length, and each turn leaves fewer bytes of the one. Assumes nothing.
 use mathlib.Core.Path.{◌≡◌}
 use Prim.Native.Nat.{◌-◌}
-use borrow.Author.Rules.{rules}
 use lib.ListN.{length}
 use Rattle.moves_list.proofs.spoiled.put_line.Given as goal
 

@@ -1,6 +1,5 @@
 -- `reading::checked::read_part_checked` meets its contract: 8, 10, and what the part comes to. Assumes nothing.
 use mathlib.Core.Path.{sym, ap, ◌∙◌}
-use borrow.Author.Rules.{rules}
 use Rattle.rules.specs.SettingsAsWords.{card_of}
 use Rattle.rules.specs.SettingsAndUnitTable.{Card}
 use Rattle.card.specs.Laws.Accepted.{card_settings}

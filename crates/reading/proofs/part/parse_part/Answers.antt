@@ -1,6 +1,5 @@
 -- `reading::part::parse_part` meets its contract: the part, out of range or evaluated, and tested. Assumes nothing.
 use mathlib.Core.Path.{◌≡◌, sym, ap, ◌∙◌}
-use borrow.Author.Rules.{rules}
 use Rattle.rules.specs.declared.Part.{Part}
 use Rattle.rules.specs.NumbersHandedBack.{got}
 use Rattle.rules.specs.SettingsAsWords.{settings_of, card_of}

@@ -1,6 +1,5 @@
 -- `reading::part::typed_part` meets its contract: the start, and then the number or the word after the sign. Assumes nothing.
 use mathlib.Core.Path.{◌≡◌, sym, ap, ◌∙◌}
-use borrow.Author.Rules.{rules}
 use Rattle.rules.specs.NumbersHandedBack.{got}
 use Rattle.rules.specs.SettingsAsWords.{settings_of}
 use Rattle.rules.proofs.Laws.Outcomes.{bind_got, bind_refused}

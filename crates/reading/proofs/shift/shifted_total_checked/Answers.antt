@@ -1,7 +1,6 @@
 -- `reading::shift::shifted_total_checked` meets its contract: 11, 8, and what the text's total comes to. Assumes nothing.
 use mathlib.Core.Path.{◌≡◌, sym, ap, ◌∙◌}
 use mathlib.Core.Bool.{true}
-use borrow.Author.Rules.{rules}
 use borrow.Author.Tests.{not-true, not-false}
 use Rattle.rules.specs.ThePartOfTheCrateWeTake.{well_formed}
 use Rattle.rules.specs.NumbersHandedBack.{done}

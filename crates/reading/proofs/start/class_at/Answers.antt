@@ -1,6 +1,5 @@
 -- `reading::start::class_at` meets its contract: no byte, a digit, and any other. Assumes nothing.
 use mathlib.Core.Path.{sym, ◌∙◌}
-use borrow.Author.Rules.{rules}
 use Rattle.rules.specs.SettingsAndUnitTable.{DIGIT}
 use Rattle.reading.specs.Typed.{class_end, class_here, class_known}
 use Rattle.reading.proofs.start.class_at.Goals as goal

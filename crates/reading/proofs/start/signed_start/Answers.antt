@@ -1,6 +1,5 @@
 -- `reading::start::signed_start` meets its contract: the sign step, and the class of what follows. Assumes nothing.
 use mathlib.Core.Path.{sym, ap, ◌∙◌}
-use borrow.Author.Rules.{rules}
 use Rattle.rules.specs.SettingsAsWords.{settings_of}
 use Rattle.steps.specs.Outcomes.{signed}
 use Rattle.reading.specs.Typed.{signed_refused, signed_got}

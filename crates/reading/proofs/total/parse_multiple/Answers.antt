@@ -2,16 +2,12 @@
 -- What is left of the text falls with each part. Assumes nothing.
 use mathlib.Core.Path.{◌≡◌, sym, ap, ◌∙◌}
 use mathlib.Core.Bool.{true}
-use Prim.Native.Nat.{◌-◌}
 use native.Mathlib.Omega.{arith}
-use borrow.Author.Rules.{rules}
-use lib.ListN.{length}
-use Rattle.rules.specs.ThePartOfTheCrateWeTake.{well_formed}
 use Rattle.rules.specs.NumbersHandedBack.{got}
 use Rattle.rules.specs.SettingsAsWords.{card_of}
 use Rattle.rules.specs.SettingsAndUnitTable.{Card}
-use Rattle.rules.specs.Evaluation.{total, part_reading}
-use Rattle.rules.proofs.Laws.Totals.{total_from, total_is, reading_beyond, reading_well_formed}
+use Rattle.rules.specs.Evaluation.{part_reading}
+use Rattle.rules.proofs.Laws.Totals.{total_is, reading_beyond, reading_well_formed}
 use Rattle.rules.proofs.Laws.Lengths.{zero_well_formed, sum_well_formed}
 use Rattle.rules.proofs.Laws.Outcomes.{all_of}
 use Rattle.reading.specs.Outcomes.{reading}
@@ -51,12 +47,11 @@ pub loop-cause-smaller : goal.loop-cause-smaller
 loop-cause-smaller c = omega (arith, c.if-text-reading.false, (all_of (reading_beyond (card (goal.at.loop-cause-smaller c).Start) _ _) (got-reading (goal.at.loop-cause-smaller c).In-Got)).past)
 
 pub loop-cause-preserved : goal.loop-cause-preserved
-loop-cause-preserved c =
-    (
-    total_goes_on (card (goal.at.loop-cause-preserved c).Start) _ _ _ (got-reading (goal.at.loop-cause-preserved c).In-Got) c.saturating_add-sum.ensures c.if-text-reading.false
+loop-cause-preserved c = (
+  total_goes_on (card (goal.at.loop-cause-preserved c).Start) _ _ _ (got-reading (goal.at.loop-cause-preserved c).In-Got) c.saturating_add-sum.ensures c.if-text-reading.false
       ∙ c.loop-cause.invariant.0,
-    rw c.saturating_add-sum.ensures (sum_well_formed _ _),
-    )
+  rw c.saturating_add-sum.ensures (sum_well_formed _ _),
+)
 
 pub stops-stops-requires : goal.stops-stops-requires
 stops-stops-requires c = c.requires.settings_value

@@ -1,6 +1,5 @@
 -- `reading::typed::infinite_part` meets its contract: what follows `inf`. Assumes nothing.
 use mathlib.Core.Path.{sym, ap, ◌∙◌}
-use borrow.Author.Rules.{rules}
 use Rattle.rules.specs.SettingsAsWords.{settings_of}
 use Rattle.value.specs.Sums.{sum_none}
 use Rattle.steps.specs.Outcomes.{next}

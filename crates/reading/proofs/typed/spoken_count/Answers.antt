@@ -1,6 +1,5 @@
 -- `reading::typed::spoken_count` meets its contract: a numeral counts 1, and is held by its row. Assumes nothing.
 use mathlib.Core.Path.{sym, ap, ◌∙◌}
-use borrow.Author.Rules.{rules}
 use Rattle.rules.proofs.Laws.Outcomes.{bind_got, bind_refused}
 use Rattle.steps.specs.Outcomes.{numeral}
 use Rattle.reading.specs.Coded.{spoken_count}

@@ -1,6 +1,5 @@
 -- `reading::typed::typed_count` meets its contract: the steps follow each other, and the first refusal stands. Assumes nothing.
 use mathlib.Core.Path.{◌≡◌, sym, ap, ◌∙◌}
-use borrow.Author.Rules.{rules}
 use Rattle.rules.specs.NumbersHandedBack.{got}
 use Rattle.rules.specs.SettingsAsWords.{settings_of}
 use Rattle.rules.specs.ReadingOnePart.{gap, number_step, exponent_step}

@@ -1,7 +1,6 @@
 -- `reading::typed::unit_part` meets its contract: what comes of the unit that was found, or of none. Assumes nothing.
 use mathlib.Core.Path.{◌≡◌, sym, ap, ◌∙◌}
 use lib.Seq.{slice}
-use borrow.Author.Rules.{rules}
 use Rattle.rules.specs.declared.Settings.{Settings}
 use Rattle.rules.specs.Common.{run}
 use Rattle.rules.specs.SettingsAsWords.{settings_of, card_of}

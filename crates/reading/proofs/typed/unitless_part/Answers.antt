@@ -1,6 +1,5 @@
 -- `reading::typed::unitless_part` meets its contract: a spoken number is refused, and a typed one has the default kind. Assumes nothing.
 use mathlib.Core.Path.{◌∙◌}
-use borrow.Author.Rules.{rules}
 use Rattle.reading.proofs.typed.unitless_part.Goals as goal
 
 pub returns-in-Row : goal.returns-in-Row

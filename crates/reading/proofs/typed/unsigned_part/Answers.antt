@@ -3,8 +3,7 @@
 -- ---- what the class says
 use mathlib.Core.Path.{◌≡◌, refl, sym, ap, ◌∙◌}
 use mathlib.Core.Bool.{true}
-use mathlib.Core.Logic.{⊎_elim, inl, inr}
-use borrow.Author.Rules.{rules}
+use mathlib.Core.Logic.{inl, inr}
 use Rattle.rules.specs.Common.{ascii, all, between, if◌then◌else◌}
 use Rattle.rules.specs.NumbersHandedBack.{got}
 use Rattle.rules.specs.SettingsAsWords.{settings_of, card_of}
@@ -38,7 +37,7 @@ unfolding ascii
 spoken-word c =
     let letter : class_at c.args.text.now c.args.place ≡ 3 = sym c.requires.class_value ∙ c.in-3.is in
     elim c.if-infinity.branch [
-      then-infinity+else-next_is_ignore_ascii_case w ↦ word_other (card_of c.args.settings.now c.args.hall.now c.args.line.now c.args.numerals.now) _ _ _ letter (sym w.next_is_ignore_ascii_case.ensures ∙ w.if-next_is_ignore_ascii_case.false)
+      | then-infinity+else-next_is_ignore_ascii_case w ↦ word_other (card_of c.args.settings.now c.args.hall.now c.args.line.now c.args.numerals.now) _ _ _ letter (sym w.next_is_ignore_ascii_case.ensures ∙ w.if-next_is_ignore_ascii_case.false)
       | else-infinity w ↦ word_off (card_of c.args.settings.now c.args.hall.now c.args.line.now c.args.numerals.now) _ _ _ letter (sym c.infinity.ensures ∙ w.if-infinity.false)
     ]
 
@@ -51,24 +50,24 @@ unfolding ascii
 counted c =
     let s = (card_of c.args.settings.now c.args.hall.now c.args.line.now c.args.numerals.now) in
     elim c.match-class.branch [
-      in-0+in-Got w ↦ (
-        let got-it : typed_count (settings_of c.args.settings.now) c.args.text.now c.args.place ≡ got c.match-class.counted =
-        sym w.typed_count.ensures ∙ ap count w.in-Got.is ∙ ap got (sym w.counted-is) in
-        let digits : typed_finite s c.args.text.now c.args.negative c.args.place ≡ typed_unsigned s c.args.text.now c.args.negative c.args.place =
-        unsigned_number s _ _ _ (rw (← c.requires.class_value) w.in-0.is) in
-        (ap (codes _) (sym digits) ∙ finite_coded s _ _ _ ∙ bind_got _ got-it, all_of (typed_numbered c.args.numerals.now _ _ _) got-it)
-      )
+      | in-0+in-Got w ↦ (
+          let got-it : typed_count (settings_of c.args.settings.now) c.args.text.now c.args.place ≡ got c.match-class.counted =
+          sym w.typed_count.ensures ∙ ap count w.in-Got.is ∙ ap got (sym w.counted-is) in
+          let digits : typed_finite s c.args.text.now c.args.negative c.args.place ≡ typed_unsigned s c.args.text.now c.args.negative c.args.place =
+          unsigned_number s _ _ _ (rw (← c.requires.class_value) w.in-0.is) in
+          (ap (codes _) (sym digits) ∙ finite_coded s _ _ _ ∙ bind_got _ got-it, all_of (typed_numbered c.args.numerals.now _ _ _) got-it)
+          )
       | in-3+in-Got-spoken_count w ↦ (
-        let letter : class_at c.args.text.now c.args.place ≡ 3 = sym c.requires.class_value ∙ w.in-3.is in
-        let word : typed_spoken s c.args.text.now c.args.negative c.args.place ≡ typed_unsigned s c.args.text.now c.args.negative c.args.place =
-        elim w.if-infinity.branch [
-          then-infinity+else-next_is_ignore_ascii_case t ↦ word_other s _ _ _ letter (sym t.next_is_ignore_ascii_case.ensures ∙ t.if-next_is_ignore_ascii_case.false)
-          | else-infinity t ↦ word_off s _ _ _ letter (sym w.infinity.ensures ∙ t.if-infinity.false)
-        ] in
-        let got-it : spoken_count (settings_of c.args.settings.now) c.args.numerals.now c.args.text.now c.args.place ≡ got c.match-class.counted =
-        sym w.spoken_count.ensures ∙ ap count w.in-Got-spoken_count.is ∙ ap got (sym w.counted-is) in
-        (ap (codes _) (sym word) ∙ spoken_coded s _ _ _ ∙ bind_got _ got-it, all_of (spoken_numbered (settings_of c.args.settings.now) _ _ _) got-it)
-      )
+          let letter : class_at c.args.text.now c.args.place ≡ 3 = sym c.requires.class_value ∙ w.in-3.is in
+          let word : typed_spoken s c.args.text.now c.args.negative c.args.place ≡ typed_unsigned s c.args.text.now c.args.negative c.args.place =
+          elim w.if-infinity.branch [
+            | then-infinity+else-next_is_ignore_ascii_case t ↦ word_other s _ _ _ letter (sym t.next_is_ignore_ascii_case.ensures ∙ t.if-next_is_ignore_ascii_case.false)
+            | else-infinity t ↦ word_off s _ _ _ letter (sym w.infinity.ensures ∙ t.if-infinity.false)
+          ] in
+          let got-it : spoken_count (settings_of c.args.settings.now) c.args.numerals.now c.args.text.now c.args.place ≡ got c.match-class.counted =
+          sym w.spoken_count.ensures ∙ ap count w.in-Got-spoken_count.is ∙ ap got (sym w.counted-is) in
+          (ap (codes _) (sym word) ∙ spoken_coded s _ _ _ ∙ bind_got _ got-it, all_of (spoken_numbered (settings_of c.args.settings.now) _ _ _) got-it)
+          )
     ]
 
 pub returns-in-Refused : goal.returns-in-Refused

@@ -1,7 +1,6 @@
 -- `reading::typed::with_unit` meets its contract: kind and row, or the product of numeral, kind and row. Assumes nothing.
 use mathlib.Core.Path.{ap, ◌∙◌}
 use Prim.Native.Nat.{◌<◌}
-use borrow.Author.Rules.{rules}
 use lib.ListN.{length}
 use Rattle.rules.specs.SettingsAndUnitTable.{rows}
 use Rattle.rows.specs.Laws.Rows.{length_row}

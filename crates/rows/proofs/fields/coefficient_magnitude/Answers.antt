@@ -1,6 +1,5 @@
 -- `rows::fields::coefficient_magnitude` meets its contract: on both sides of zero. Assumes nothing.
 use native.Mathlib.Omega.{arith}
-use borrow.Author.Rules.{rules}
 use Rattle.rows.specs.Laws.Rows.{magnitude_of, magnitude_below}
 use Rattle.rows.proofs.fields.coefficient_magnitude.Goals as goal
 

@@ -1,6 +1,5 @@
 -- `rows::fields::fallen` meets its contract: on both sides of zero. Assumes nothing.
 use native.Mathlib.Omega.{arith}
-use borrow.Author.Rules.{rules}
 use Rattle.rows.specs.Laws.Rows.{fallen_of, fallen_below}
 use Rattle.rows.proofs.fields.fallen.Goals as goal
 

@@ -1,10 +1,9 @@
 -- `rows::fields::plainly_small` meets its contract: the coefficient, and then the power. Assumes nothing.
 use mathlib.Core.Path.{◌≡◌}
-use mathlib.Core.Bool.{true, false≢true}
+use mathlib.Core.Bool.{true}
 use Prim.Native.Nat.{◌<◌}
 use native.Mathlib.Omega.{arith}
 use lib.Dec.{lit<}
-use borrow.Author.Rules.{rules}
 use borrow.Author.Tests.{ltb-true}
 use Rattle.rules.specs.SettingsAndUnitTable.{coefficient_field_in, power_field_in, product, in_range}
 use Rattle.rows.specs.Powers.{fallen}

@@ -1,12 +1,10 @@
 -- `rows::fields::product_in_range` meets its contract: fields that are plainly small, a small row, and of any other the two tests that can fail are made. Assumes nothing.
 use mathlib.Core.Path.{◌≡◌, sym, ◌∙◌}
 use mathlib.Core.Bool.{◌&&◌}
-use mathlib.Core.List.{List}
-use Prim.Native.Nat.{ℕ, ◌+◌}
+use Prim.Native.Nat.{◌+◌}
 use lib.Dec.{leb}
 use native.Mathlib.Omega.{arith}
 use borrow.Author.Tests.{not-true, not-false}
-use borrow.Author.Rules.{rules}
 use Rattle.rules.specs.SettingsAndUnitTable.{kind_in, product, in_range}
 use Rattle.rows.specs.Laws.Rows.{in_range_product, in_range_small, down_most, up_most}
 use Rattle.std.proofs.Common.{ap, not}

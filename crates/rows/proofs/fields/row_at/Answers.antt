@@ -2,7 +2,6 @@
 use mathlib.Core.Path.{◌≡◌}
 use Prim.Native.Nat.{◌+◌, ◌*◌, ◌-◌}
 use native.Mathlib.Omega.{arith}
-use borrow.Author.Rules.{rules}
 use Rattle.rules.specs.SettingsAndUnitTable.{row_in}
 use Rattle.rows.specs.Laws.Rows.{row_within}
 use Rattle.rows.proofs.fields.row_at.Goals as goal

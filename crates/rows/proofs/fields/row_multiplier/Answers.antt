@@ -1,5 +1,4 @@
 -- `rows::fields::row_multiplier` meets its contract: each field of the row, as the definition reads it. Assumes nothing.
-use borrow.Author.Rules.{rules}
 use Rattle.rules.specs.SettingsAndUnitTable.{coefficient_field_in, power_field_in}
 use Rattle.rows.specs.Laws.Rows.{multiplier_is}
 use Rattle.rows.proofs.fields.row_multiplier.Goals as goal

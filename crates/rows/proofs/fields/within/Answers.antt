@@ -1,7 +1,6 @@
 -- `rows::fields::within` meets its contract: the limit divided by the factor decides as the limit does. Assumes nothing.
 use native.Mathlib.Nat.{zero-mul}
 use native.Mathlib.Omega.{arith}
-use borrow.Author.Rules.{rules}
 use Rattle.rows.specs.Laws.Rows.{within_divided}
 use Rattle.rows.proofs.fields.within.Goals as goal
 

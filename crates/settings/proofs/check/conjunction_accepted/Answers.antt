@@ -1,15 +1,14 @@
 -- `settings::check::conjunction_accepted` meets its contract: what is left of the letters decides what all of them do. The measure
 -- is how many are left. Assumes nothing.
 use mathlib.Core.Path.{◌≡◌, refl}
-use mathlib.Core.Logic.{⊎_elim}
 use Prim.Native.Nat.{◌≤◌}
 use native.Mathlib.Omega.{arith}
-use borrow.Author.Tests.{not-true, not-false, le-leb, lt-leb, ltb-true, ltb-false}
+use borrow.Author.Tests.{not-true, not-false, le-leb, lt-leb, ltb-false}
 use Rattle.rules.specs.Common.{between, all}
 use Rattle.rules.specs.SettingsAndUnitTable.{LETTER, is, low_bytes, letters_of, conjunction_accepted}
 use Rattle.settings.specs.Laws.Settings.{all_letters}
 use Rattle.rules.proofs.Laws.Tests.{and_false}
-use Rattle.std.proofs.Common.{ap, not, lt-ltb}
+use Rattle.std.proofs.Common.{ap, not}
 use Rattle.settings.proofs.check.conjunction_accepted.Goals as goal
 use mathlib.Core.Logic.{inl, inr}
 

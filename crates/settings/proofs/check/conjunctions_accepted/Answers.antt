@@ -1,13 +1,10 @@
 -- `settings::check::conjunctions_accepted` meets its contract: the conjunctions from `i` on decide what all of them do. The measure
 -- is how many are left. Assumes nothing.
-use mathlib.Core.Path.{◌≡◌, refl}
-use Prim.Native.Nat.{◌≤◌, ◌-◌}
+use mathlib.Core.Path.{refl}
 use native.Mathlib.Omega.{arith}
-use lib.ListN.{drop}
 use borrow.Author.Tests.{le-leb, lt-leb, not-true, not-false}
-use Rattle.rules.specs.Common.{all}
 use Rattle.rules.specs.SettingsAsWords.{settings_of}
-use Rattle.rules.specs.SettingsAndUnitTable.{conjunctions_of, conjunction_accepted, conjunctions_accepted}
+use Rattle.rules.specs.SettingsAndUnitTable.{conjunction_accepted, conjunctions_accepted}
 use Rattle.settings.specs.Laws.Settings.{conjunctions_next, conjunctions_done}
 use Rattle.rules.proofs.Laws.Tests.{and_false}
 use Rattle.std.proofs.Common.{ap, not}

@@ -1,5 +1,4 @@
 -- `settings::fields::conjunctions` meets its contract. Assumes nothing.
-use borrow.Author.Rules.{rules}
 use Rattle.rules.specs.SettingsAsWords.{settings_of}
 use Rattle.settings.proofs.fields.conjunctions.Goals as goal
 

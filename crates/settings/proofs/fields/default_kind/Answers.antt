@@ -1,5 +1,4 @@
 -- `settings::fields::default_kind` meets its contract. Assumes nothing.
-use borrow.Author.Rules.{rules}
 use Rattle.rules.specs.SettingsAsWords.{settings_of}
 use Rattle.settings.proofs.fields.default_kind.Goals as goal
 

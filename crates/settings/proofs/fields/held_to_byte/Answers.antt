@@ -1,5 +1,4 @@
 -- `settings::fields::held_to_byte` meets its contract: over the limit, or within it. Assumes nothing.
-use borrow.Author.Rules.{rules}
 use Rattle.rules.proofs.Laws.SettingsAsWords.{held_fits, held_over}
 use Rattle.settings.proofs.fields.held_to_byte.Goals as goal
 

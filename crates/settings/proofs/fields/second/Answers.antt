@@ -1,5 +1,4 @@
 -- `settings::fields::second` meets its contract. Assumes nothing.
-use borrow.Author.Rules.{rules}
 use Rattle.rules.specs.SettingsAsWords.{conjunction_of, settings_of}
 use Rattle.settings.proofs.fields.second.Goals as goal
 

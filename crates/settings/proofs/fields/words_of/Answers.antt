@@ -3,7 +3,6 @@ use mathlib.Core.Path.{◌≡◌, ap, ◌∙◌}
 use mathlib.Core.List.{List}
 use Prim.Native.Nat.{ℕ}
 use native.Mathlib.Omega.{arith}
-use borrow.Author.Rules.{rules}
 use Rattle.rules.specs.declared.Settings.{Settings}
 use Rattle.rules.specs.SettingsAsWords.{settings_of, settings_words}
 use Rattle.rules.proofs.Laws.SettingsAsWords.{Fit, settings_back}

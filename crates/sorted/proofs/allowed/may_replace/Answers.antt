@@ -1,6 +1,5 @@
 -- `sorted::allowed::may_replace` meets its contract: the table and its index, then the row's number, then the new row. Assumes nothing.
 use mathlib.Core.Path.{◌≡◌, sym, ap, ◌∙◌}
-use borrow.Author.Rules.{rules}
 use borrow.Author.Tests.{not-true, not-false}
 use Rattle.rules.specs.declared.Refusal.TheVariants.{BadRow}
 use Rattle.rules.specs.NumbersHandedBack.{got, unless}

@@ -1,6 +1,5 @@
 -- `sorted::checked::checked_apart` meets its contract: the card, then the hall's index, then the line's. Assumes nothing.
 use mathlib.Core.Path.{◌≡◌, sym, ap, ◌∙◌}
-use borrow.Author.Rules.{rules}
 use Rattle.rules.specs.declared.Refusal.TheVariants.{WrongIndex}
 use Rattle.rules.specs.NumbersHandedBack.{got}
 use Rattle.rules.specs.SettingsAndUnitTable.{card_check}

@@ -1,6 +1,5 @@
 -- `sorted::checked::index_check` meets its contract: what was found, said of the hall's index. Assumes nothing.
 use mathlib.Core.Path.{sym, ap, ◌∙◌}
-use borrow.Author.Rules.{rules}
 use Rattle.rules.specs.declared.Refusal.TheVariants.{WrongIndex}
 use Rattle.settings.specs.Outcomes.{outcome}
 use Rattle.sorted.specs.Found.{told}

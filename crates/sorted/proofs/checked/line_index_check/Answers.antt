@@ -1,6 +1,5 @@
 -- `sorted::checked::line_index_check` meets its contract: what was found, said of the line's index. Assumes nothing.
 use mathlib.Core.Path.{sym, ap, ◌∙◌}
-use borrow.Author.Rules.{rules}
 use Rattle.rules.specs.declared.Refusal.TheVariants.{WrongLineIndex}
 use Rattle.settings.specs.Outcomes.{outcome}
 use Rattle.sorted.specs.Found.{told}

@@ -1,10 +1,9 @@
 -- `sorted::made::make` meets its contract: the first `i` rows stand in order. The measure is how many are left. Assumes nothing.
-use mathlib.Core.Path.{◌≡◌, refl, sym, ◌∙◌}
-use Prim.Native.Nat.{◌+◌, ◌-◌}
+use mathlib.Core.Path.{refl, sym, ◌∙◌}
+use Prim.Native.Nat.{◌+◌}
 use native.Mathlib.Omega.{arith}
 use mathlib.Core.List.{◌++◌}
-use lib.ListN.{length, drop, set, length-set}
-use Rattle.rules.specs.SettingsAndUnitTable.{rows}
+use lib.ListN.{drop, set, length-set}
 use Rattle.sorted.specs.Making.{Making, make_starts, make_ends, next_long, make_sifts, make_next}
 use Rattle.sorted.proofs.made.make.Goals as goal
 use Rattle.sorted.proofs.made.make.Goals.{After-sift_down}

@@ -1,11 +1,9 @@
 -- `sorted::made::make` meets its contract: the first `i` rows stand in order. The measure is how many are left. Assumes nothing.
-use mathlib.Core.Path.{◌≡◌, refl, sym, ◌∙◌}
-use Prim.Native.Nat.{◌+◌, ◌-◌}
-use native.Mathlib.Omega.{arith}
-use mathlib.Core.List.{◌++◌}
-use lib.ListN.{length, drop, set, length-set}
+use mathlib.Core.Path.{◌≡◌}
+use Prim.Native.Nat.{◌-◌}
+use lib.ListN.{length}
 use Rattle.rules.specs.SettingsAndUnitTable.{rows}
-use Rattle.sorted.specs.Making.{Making, make_starts, make_ends, next_long, make_sifts, make_next}
+use Rattle.sorted.specs.Making.{Making}
 use Rattle.sorted.proofs.made.make.Given as goal
 
 abbrev pub invariant-loop-i : goal.invariant-loop-i

@@ -1,9 +1,8 @@
 -- `sorted::replaced::move_last` meets its contract: the entries up to `k` have moved. The measure is how many are left. Assumes nothing.
-use mathlib.Core.Path.{◌≡◌, refl}
-use Prim.Native.Nat.{◌-◌}
+use mathlib.Core.Path.{refl}
 use native.Mathlib.Omega.{arith}
-use lib.ListN.{length, length-set}
-use Rattle.sorted.specs.Replacing.{Moving, move_starts, move_next, move_ends}
+use lib.ListN.{length-set}
+use Rattle.sorted.specs.Replacing.{move_starts, move_next, move_ends}
 use Rattle.sorted.proofs.replaced.move_last.Goals as goal
 
 pub loop-k-preserved : goal.loop-k-preserved

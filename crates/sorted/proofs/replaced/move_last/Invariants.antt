@@ -1,9 +1,8 @@
 -- `sorted::replaced::move_last` meets its contract: the entries up to `k` have moved. The measure is how many are left. Assumes nothing.
-use mathlib.Core.Path.{◌≡◌, refl}
+use mathlib.Core.Path.{◌≡◌}
 use Prim.Native.Nat.{◌-◌}
-use native.Mathlib.Omega.{arith}
-use lib.ListN.{length, length-set}
-use Rattle.sorted.specs.Replacing.{Moving, move_starts, move_next, move_ends}
+use lib.ListN.{length}
+use Rattle.sorted.specs.Replacing.{Moving}
 use Rattle.sorted.proofs.replaced.move_last.Given as goal
 
 abbrev pub invariant-loop-k : goal.invariant-loop-k

@@ -1,8 +1,7 @@
 -- `sorted::replaced::named_elsewhere` meets its contract: no other row passed has the name. The measure is how many are left. Assumes nothing.
 use mathlib.Core.Path.{◌≡◌, refl, sym, ap, ◌∙◌}
 use mathlib.Core.Bool.{false≢true}
-use mathlib.Core.Logic.{⊎_elim, ◌≢◌}
-use Prim.Native.Nat.{ℕ, ◌-◌, ◌≤◌, ◌<◌}
+use Prim.Native.Nat.{◌<◌}
 use native.Mathlib.Omega.{arith}
 use borrow.Author.Count.{below_none, below_more}
 use lib.ListN.{length}
@@ -35,16 +34,15 @@ pub returns-then-same_name : goal.returns-then-same_name
 returns-then-same_name c = record { elsewhere = (λ e. (c.loop-j.j, a_row (goal.at.returns-then-same_name c).Then-j-i, c.if-j-i.true, same_equal _ _ (sym (asked (goal.at.returns-then-same_name c).After-same_name) ∙ c.if-same_name.true))); not_elsewhere = (λ e. absurd (false≢true (sym e))) }
 
 pub loop-j-preserved : goal.loop-j-preserved
-loop-j-preserved c =
-    (
-      c.loop-j.invariant.0,
-      omega (arith, c.loop-j-test.true),
-      below_more _ c.loop-j.j c.loop-j.invariant.2
+loop-j-preserved c = (
+  c.loop-j.invariant.0,
+  omega (arith, c.loop-j-test.true),
+  below_more _ c.loop-j.j c.loop-j.invariant.2
       (elim c.if-j-i.branch [
-        then-j-i+else-same_name w ↦ (λ other e. false≢true (sym w.if-same_name.false ∙ w.same_name.ensures ∙ ap (λ r. same (name r) (name c.args.new.now)) w.row_at.ensures ∙ rw e (same_refl _)))
+        | then-j-i+else-same_name w ↦ (λ other e. false≢true (sym w.if-same_name.false ∙ w.same_name.ensures ∙ ap (λ r. same (name r) (name c.args.new.now)) w.row_at.ensures ∙ rw e (same_refl _)))
         | else-j-i w ↦ (λ other e. absurd (other w.if-j-i.false))
       ]),
-    )
+)
 
 pub returns : goal.returns
 returns c = record { elsewhere = (λ e. absurd (false≢true e)); not_elsewhere = (λ e j below other is. c.loop-j.invariant.2 j (omega (arith, c.loop-j-test.false, c.loop-j.invariant.0)) other is) }

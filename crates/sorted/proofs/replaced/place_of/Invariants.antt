@@ -1,8 +1,6 @@
 -- `sorted::replaced::place_of` meets its contract: none of the entries passed is the row. The measure is how many are left. Assumes nothing.
 use mathlib.Core.Path.{◌≡◌}
 use Prim.Native.Nat.{ℕ, ◌-◌, ◌≤◌, ◌<◌}
-use native.Mathlib.Omega.{arith}
-use borrow.Author.Count.{below_none, below_more}
 use lib.ListN.{length, get_or}
 use Rattle.sorted.proofs.replaced.place_of.Given as goal
 

@@ -1,6 +1,5 @@
 -- `sorted::replaced::put_in` meets its contract: the row is put, its entry moved to the end, and sunk. Assumes nothing.
 use Prim.Native.Nat.{◌-◌}
-use borrow.Author.Rules.{rules}
 use lib.ListN.{length}
 use Rattle.index.specs.TheSortedIndex.{with_row}
 use Rattle.sorted.specs.Sifting.{Sifting}
@@ -24,5 +23,8 @@ sift_down-requires c = (rw c.put_row.ensures c.requires.right.1, rw c.put_row.en
 
 pub returns : goal.returns
 returns c =
-    record { table_after = c.put_row.ensures; index_after = sunk _ _ _ _ c.requires.i_bound.0 c.requires.i_bound.1 c.requires.right.0 c.place_of-place.ensures.0 c.place_of-place.ensures.1 c.move_last.ensures c.requires.right.1
-          (rw c.put_row.ensures at c.sift_down.ensures) }
+    record {
+      table_after = c.put_row.ensures;
+      index_after = sunk _ _ _ _ c.requires.i_bound.0 c.requires.i_bound.1 c.requires.right.0 c.place_of-place.ensures.0 c.place_of-place.ensures.1 c.move_last.ensures c.requires.right.1
+          (rw c.put_row.ensures at c.sift_down.ensures);
+    }

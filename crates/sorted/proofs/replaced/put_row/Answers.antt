@@ -1,11 +1,10 @@
 -- `sorted::replaced::put_row` meets its contract: the first `k` bytes are put. The measure is how many are left. Assumes nothing.
-use mathlib.Core.Path.{◌≡◌, refl, ap, ◌∙◌}
-use Prim.Native.Nat.{◌+◌, ◌*◌, ◌-◌, ◌≤◌, ◌<◌}
+use mathlib.Core.Path.{refl, ap, ◌∙◌}
+use Prim.Native.Nat.{◌+◌, ◌*◌, ◌<◌}
 use native.Mathlib.Omega.{arith}
-use lib.ListN.{length, get_or, take, set, length-set}
+use lib.ListN.{length, get_or, set, length-set}
 use Rattle.rules.specs.SettingsAndUnitTable.{row_size}
 use Rattle.rows.specs.Laws.Rows.{row_within}
-use Rattle.writing.specs.Laid.{laid}
 use Rattle.sorted.specs.PuttingRows.{put_none, put_next, put_all}
 use Rattle.sorted.proofs.replaced.put_row.Goals as goal
 use Rattle.sorted.proofs.replaced.put_row.Goals.{In-loop-k}
@@ -21,14 +20,13 @@ within c =
     omega (arith, c.loop-k-test.true, c.loop-k.invariant.2, row_within c.args.table.now c.args.i c.requires.0)
 
 pub loop-k-preserved : goal.loop-k-preserved
-loop-k-preserved c =
-    (
-      refl,
-      omega (arith, c.loop-k-test.true),
-      simp length-set c.loop-k.invariant.2,
-      ap (λ l. set l (row_size * c.args.i + c.loop-k.k) (get_or c.args.new.now c.loop-k.k 0)) c.loop-k.invariant.3
-          ∙ put_next c.args.table.now c.args.i c.args.new.now c.requires.0 c.requires.1 c.loop-k.k c.loop-k-test.true,
-    )
+loop-k-preserved c = (
+  refl,
+  omega (arith, c.loop-k-test.true),
+  simp length-set c.loop-k.invariant.2,
+  ap (λ l. set l (row_size * c.args.i + c.loop-k.k) (get_or c.args.new.now c.loop-k.k 0)) c.loop-k.invariant.3
+      ∙ put_next c.args.table.now c.args.i c.args.new.now c.requires.0 c.requires.1 c.loop-k.k c.loop-k-test.true,
+)
 
 pub returns : goal.returns
 returns c = c.loop-k.invariant.3 ∙ put_all c.args.table.now c.args.i c.args.new.now c.requires.0 c.requires.1 c.loop-k-test.false c.loop-k.invariant.1

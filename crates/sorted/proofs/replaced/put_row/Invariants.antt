@@ -1,12 +1,9 @@
 -- `sorted::replaced::put_row` meets its contract: the first `k` bytes are put. The measure is how many are left. Assumes nothing.
-use mathlib.Core.Path.{◌≡◌, refl, ap, ◌∙◌}
-use Prim.Native.Nat.{◌+◌, ◌*◌, ◌-◌, ◌≤◌, ◌<◌}
-use native.Mathlib.Omega.{arith}
-use lib.ListN.{length, get_or, take, set, length-set}
+use mathlib.Core.Path.{◌≡◌}
+use Prim.Native.Nat.{◌*◌, ◌-◌, ◌≤◌}
+use lib.ListN.{length, take}
 use Rattle.rules.specs.SettingsAndUnitTable.{row_size}
-use Rattle.rows.specs.Laws.Rows.{row_within}
 use Rattle.writing.specs.Laid.{laid}
-use Rattle.sorted.specs.PuttingRows.{put_none, put_next, put_all}
 use Rattle.sorted.proofs.replaced.put_row.Given as goal
 
 abbrev pub invariant-loop-k : goal.invariant-loop-k

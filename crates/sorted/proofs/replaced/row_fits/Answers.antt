@@ -2,11 +2,9 @@
 use mathlib.Core.Path.{◌≡◌, refl, sym, ap, ◌∙◌}
 use mathlib.Core.Bool.{Bool, true, false, not}
 use native.Mathlib.Omega.{arith}
-use borrow.Author.Rules.{rules}
 use borrow.Author.Tests.{ne_eqb}
 use Rattle.rules.specs.declared.Refusal.TheVariants.{TableSize, BadRow}
 use Rattle.rules.specs.SettingsAsWords.{settings_of}
-use Rattle.rules.proofs.Laws.Lists.{Bytes}
 use Rattle.card.specs.Fields.{alone, said}
 use Rattle.card.specs.Laws.Table.{alone_padded}
 use Rattle.index.specs.TheSortedIndex.{passes, may_replace}

@@ -1,9 +1,8 @@
 -- `sorted::rising::alike_until` meets its contract: the rooms are the same up to `at`, where a word begins. The measure is what is left of them. Assumes nothing.
-use mathlib.Core.Path.{◌≡◌, refl, sym, ◌∙◌}
+use mathlib.Core.Path.{◌≡◌}
 use Prim.Native.Nat.{◌≤◌, ◌-◌, ◌%◌}
-use native.Mathlib.Omega.{arith}
 use Rattle.rules.specs.SettingsAndUnitTable.{kind_at}
-use Rattle.sorted.specs.Rooms.{Alike, alike_none, alike_word}
+use Rattle.sorted.specs.Rooms.{Alike}
 use Rattle.sorted.proofs.rising.alike_until.Given as goal
 
 abbrev pub invariant-loop-at : goal.invariant-loop-at

@@ -1,9 +1,7 @@
 -- `sorted::rising::comes_before` meets its contract: the rooms are the same up to `at`. The measure is what is left of them. Assumes nothing.
 use Prim.Native.Nat.{◌≤◌, ◌-◌}
-use native.Mathlib.Omega.{arith}
-use borrow.Author.Tests.{ltb-true}
-use Rattle.rules.specs.SettingsAndUnitTable.{kind_at, name_size}
-use Rattle.sorted.specs.Rooms.{Alike, alike_next, byte_decides, size_decides}
+use Rattle.rules.specs.SettingsAndUnitTable.{kind_at}
+use Rattle.sorted.specs.Rooms.{Alike}
 use Rattle.sorted.proofs.rising.comes_before.Given as goal
 
 abbrev pub invariant-loop-at : goal.invariant-loop-at

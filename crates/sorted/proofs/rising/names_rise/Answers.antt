@@ -1,15 +1,15 @@
 -- `sorted::rising::names_rise` meets its contract: the names rise up to `k`, of which `last` is the row before. The measure is how many are left.
 -- Assumes nothing.
 use mathlib.Core.Path.{◌≡◌, refl, ap, ◌∙◌}
-use mathlib.Core.Bool.{true, false≢true}
-use Prim.Native.Nat.{◌≤◌, ◌<◌, ◌-◌, ◌+◌}
+use mathlib.Core.Bool.{true}
+use Prim.Native.Nat.{◌<◌, ◌-◌, ◌+◌}
 use native.Mathlib.Omega.{arith}
 use borrow.Author.Tests.{not-false}
 use lib.ListN.{length, get_or}
 use Rattle.rules.specs.SettingsAndUnitTable.{rows, row, name}
 use Rattle.rows.specs.Laws.Rows.{length_row}
 use Rattle.index.specs.TheSortedIndex.{before}
-use Rattle.sorted.specs.Climbing.{Climbing, climb_none, climb_first, climb_on, climbed}
+use Rattle.sorted.specs.Climbing.{climb_none, climb_first, climb_on, climbed}
 use Rattle.std.proofs.Common.{not}
 use Rattle.sorted.proofs.rising.names_rise.Goals as goal
 use Rattle.sorted.proofs.rising.names_rise.Goals.{After-row_at-in-loop-k}

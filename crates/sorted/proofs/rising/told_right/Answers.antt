@@ -1,10 +1,9 @@
 -- `sorted::rising::told_right` meets its contract: sizes, each row by itself, and names that rise. Assumes nothing.
 use mathlib.Core.Path.{◌≡◌, sym, ap, ◌∙◌}
-use mathlib.Core.Bool.{true, false≢true}
+use mathlib.Core.Bool.{true}
 use Prim.Native.Nat.{ℕ, ◌%◌, ◌≤◌, ◌<◌}
 use lib.ListN.{length}
 use native.Mathlib.Omega.{arith}
-use borrow.Author.Rules.{rules}
 use Rattle.rules.specs.SettingsAndUnitTable.{most_rows, row_size, rows, rows_in, row}
 use Rattle.card.specs.Fields.{alone, said}
 use Rattle.card.specs.Laws.Table.{alone_padded}

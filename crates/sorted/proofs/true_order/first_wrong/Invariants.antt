@@ -1,13 +1,10 @@
 -- `sorted::true_order::first_wrong` meets its contract: the entries from `k` on decide, and how many are left is the measure. Assumes nothing.
-use mathlib.Core.Path.{◌≡◌, sym, ◌∙◌}
+use mathlib.Core.Path.{◌≡◌}
 use Prim.Native.Nat.{◌≤◌, ◌-◌}
-use native.Mathlib.Omega.{arith}
 use lib.ListN.{length}
-use borrow.Author.Tests.{not-true, not-false}
 use Rattle.rules.specs.SettingsAndUnitTable.{rows}
-use Rattle.card.specs.Laws.Table.{first_bad, bad_from, bad_start, bad_end, bad_here, bad_next}
+use Rattle.card.specs.Laws.Table.{first_bad, bad_from}
 use Rattle.index.specs.TheSortedIndex.{entry_right}
-use Rattle.std.proofs.Common.{ap, not}
 use Rattle.sorted.proofs.true_order.first_wrong.Given as goal
 
 abbrev pub invariant-loop-k : goal.invariant-loop-k

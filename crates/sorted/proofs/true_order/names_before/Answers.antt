@@ -1,9 +1,6 @@
 -- `sorted::true_order::names_before` meets its contract: the rows passed are counted, and how many are left is the measure. Assumes nothing.
 use mathlib.Core.Path.{◌≡◌, refl, sym, ap, ◌∙◌}
-use mathlib.Core.Logic.{⊎_elim}
-use Prim.Native.Nat.{◌≤◌, ◌-◌}
 use native.Mathlib.Omega.{arith}
-use borrow.Author.Rules.{rules}
 use lib.ListN.{length}
 use Rattle.rules.specs.SettingsAndUnitTable.{rows, rows_in, row, name}
 use Rattle.rows.specs.Laws.Rows.{length_row}
@@ -30,7 +27,7 @@ pub loop-i-preserved : goal.loop-i-preserved
 loop-i-preserved c =
     let inv = c.loop-i.invariant in
     elim c.if-before.branch [
-      then-before w ↦ (inv.0, omega arith, omega (arith, w.found-is), w.found-is ∙ count_next _ c.loop-i.i inv.3 (sym (asked (goal.at.loop-i-preserved c).After-before-in-loop-i) ∙ w.if-before.true))
+      | then-before w ↦ (inv.0, omega arith, omega (arith, w.found-is), w.found-is ∙ count_next _ c.loop-i.i inv.3 (sym (asked (goal.at.loop-i-preserved c).After-before-in-loop-i) ∙ w.if-before.true))
       | else-before w ↦ (inv.0, omega arith, omega (arith, w.found-is), w.found-is ∙ count_same _ c.loop-i.i inv.3 (sym (asked (goal.at.loop-i-preserved c).After-before-in-loop-i) ∙ w.if-before.false))
     ]
 

@@ -1,5 +1,4 @@
 -- `steps::bytes::is_next_duration` meets its contract: a digit or a sign. Assumes nothing.
-use borrow.Author.Rules.{rules}
 use Rattle.rules.specs.SettingsAndUnitTable.{is_next_duration}
 use Rattle.steps.proofs.bytes.is_next_duration.Goals as goal
 

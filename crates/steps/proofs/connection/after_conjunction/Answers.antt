@@ -1,6 +1,5 @@
 -- `steps::connection::after_conjunction` meets its contract: the text's end, delimiters, the next part, and any other byte. Assumes nothing.
 use mathlib.Core.Path.{sym, ◌∙◌}
-use borrow.Author.Rules.{rules}
 use Rattle.rules.specs.SettingsAsWords.{settings_of}
 use Rattle.steps.specs.Connections.{after_ends, after_delimiters, after_part, after_other}
 use Rattle.steps.proofs.connection.after_conjunction.Goals as goal

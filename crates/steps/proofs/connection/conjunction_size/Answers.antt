@@ -1,12 +1,11 @@
 -- `steps::connection::conjunction_size` meets its contract: the conjunctions from here on decide what all of them do. Assumes nothing.
-use mathlib.Core.Path.{◌≡◌, refl, sym, ◌∙◌}
-use Prim.Native.Nat.{◌-◌, ◌<◌}
+use mathlib.Core.Path.{refl, sym, ◌∙◌}
+use Prim.Native.Nat.{◌<◌}
 use native.Mathlib.Omega.{arith}
-use borrow.Author.Rules.{rules}
 use Rattle.rules.specs.SettingsAsWords.{settings_of}
 use Rattle.rules.specs.SettingsAndUnitTable.{letters_of, most_conjunctions}
 use Rattle.settings.specs.Laws.Accepted.{conjunctions_most}
-use Rattle.steps.specs.Connections.{size_from, size_end, size_here, size_next, listed_letters}
+use Rattle.steps.specs.Connections.{size_end, size_here, size_next, listed_letters}
 use Rattle.steps.proofs.connection.conjunction_size.Goals as goal
 use Rattle.steps.proofs.connection.conjunction_size.Goals.{In-loop-i}
 
@@ -33,13 +32,12 @@ returns-then-next_is_letters c =
 
 pub loop-i-preserved : goal.loop-i-preserved
 unfolding letters_of
-loop-i-preserved c =
-    (
-      c.loop-i.invariant.0,
-      sym (size_next (settings_of c.args.settings.now) _ _ c.loop-i.i (counts (goal.at.loop-i-preserved c).In-loop-i)
-          (one-of-four (goal.at.loop-i-preserved c).In-loop-i) c.conjunction_at-conjunction.ensures (sym c.next_is_letters.ensures ∙ c.if-next_is_letters.false))
-          ∙ c.loop-i.invariant.1,
-    )
+loop-i-preserved c = (
+  c.loop-i.invariant.0,
+  sym (size_next (settings_of c.args.settings.now) _ _ c.loop-i.i (counts (goal.at.loop-i-preserved c).In-loop-i)
+      (one-of-four (goal.at.loop-i-preserved c).In-loop-i) c.conjunction_at-conjunction.ensures (sym c.next_is_letters.ensures ∙ c.if-next_is_letters.false))
+      ∙ c.loop-i.invariant.1,
+)
 
 pub returns : goal.returns
 returns c =

@@ -1,6 +1,5 @@
 -- `steps::delimiters::is_delimiter` meets its contract: nothing stands at the text's end, and elsewhere the byte there. Assumes nothing.
 use mathlib.Core.Path.{sym, ◌∙◌}
-use borrow.Author.Rules.{rules}
 use Rattle.rules.proofs.Laws.Texts.{sees_here, sees_end}
 use Rattle.steps.proofs.delimiters.is_delimiter.Goals as goal
 

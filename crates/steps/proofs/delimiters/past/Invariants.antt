@@ -1,14 +1,10 @@
 -- `steps::delimiters::past` meets its contract: the run from here on ends where the run from the first place does. Assumes nothing.
-use mathlib.Core.Path.{◌≡◌, refl, sym, ◌∙◌}
-use mathlib.Core.Bool.{xor}
+use mathlib.Core.Path.{◌≡◌}
 use Prim.Native.Nat.{◌-◌}
-use borrow.Author.Rules.{rules}
 use lib.ListN.{length}
 use Rattle.rules.specs.Common.{run}
-use Rattle.value.specs.Digits.{run_end}
 use Rattle.settings.specs.Sets.{bytes_of}
 use Rattle.settings.specs.Sets.{passes}
-use Rattle.steps.specs.Sets.{passes_on, passes_off}
 use Rattle.steps.proofs.delimiters.past.Given as goal
 
 abbrev pub invariant-loop-next : goal.invariant-loop-next

@@ -2,17 +2,16 @@
 -- The power never passes the limit. Assumes nothing.
 use mathlib.Core.Path.{◌≡◌, refl, sym, ap, ◌∙◌}
 use mathlib.Core.Bool.{true}
-use Prim.Native.Nat.{◌-◌, ◌≤◌}
+use Prim.Native.Nat.{◌≤◌}
 use native.Mathlib.Omega.{arith}
 use borrow.Author.Tests.{not-true, not-false}
 use borrow.Author.Rules.{rules}
-use lib.ListN.{length, get_or}
+use lib.ListN.{get_or}
 use Rattle.rules.specs.NumbersHandedBack.{refused}
 use Rattle.rules.specs.SettingsAndUnitTable.{DIGIT, is}
-use Rattle.rules.specs.ReadingOnePart.{exponent_limit}
 use Rattle.value.specs.Digits.{digit_low, digit_high}
 use Rattle.steps.specs.Outcomes.{scaled}
-use Rattle.steps.specs.Exponents.{limit_small, digits_from, digits_end, digits_stop, digits_passed, digits_more}
+use Rattle.steps.specs.Exponents.{limit_small, digits_end, digits_stop, digits_passed, digits_more}
 use Rattle.std.proofs.Common.{not}
 use Rattle.steps.proofs.exponent.exponent_digits.Goals as goal
 use Rattle.steps.proofs.exponent.exponent_digits.Goals.{At-loop-next, Else-not-is_digit}
@@ -57,12 +56,11 @@ returns-then-limit-more c =
     ∙ c.loop-next.invariant.0
 
 pub loop-next-preserved : goal.loop-next-preserved
-loop-next-preserved c =
-    (
-      sym (digits_more _ _ c.loop-next.power c.loop-next.next (search rules) (digit-there (goal.at.loop-next-preserved c).Else-not-is_digit) (omega arith)) ∙ c.loop-next.invariant.0,
-      search rules,
-      c.loop-next.invariant.2,
-    )
+loop-next-preserved c = (
+  sym (digits_more _ _ c.loop-next.power c.loop-next.next (search rules) (digit-there (goal.at.loop-next-preserved c).Else-not-is_digit) (omega arith)) ∙ c.loop-next.invariant.0,
+  search rules,
+  c.loop-next.invariant.2,
+)
 
 pub overflow_cast-power-2 : goal.overflow_cast-power-2
 overflow_cast-power-2 c = omega (arith, power_small (goal.at.overflow_cast-power-2 c).At-loop-next)

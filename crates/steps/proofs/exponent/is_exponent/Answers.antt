@@ -1,6 +1,5 @@
 -- `steps::exponent::is_exponent` meets its contract: nothing stands at the text's end, and elsewhere a byte, in any case. Assumes nothing.
 use mathlib.Core.Path.{refl, sym, ◌∙◌}
-use borrow.Author.Rules.{rules}
 use Rattle.rules.specs.Common.{between, if◌then◌else◌}
 use Rattle.rules.specs.SettingsAndUnitTable.{is, class}
 use Rattle.rules.proofs.Laws.Texts.{sees_here, sees_end}

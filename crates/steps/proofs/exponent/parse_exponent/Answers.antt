@@ -1,6 +1,5 @@
 -- `steps::exponent::parse_exponent` meets its contract: no byte, one that is no digit, and digits. Assumes nothing.
 use mathlib.Core.Path.{sym, ◌∙◌}
-use borrow.Author.Rules.{rules}
 use borrow.Author.Tests.{not-true, not-false}
 use Rattle.steps.specs.Exponents.{number_ends, number_byte, number_digits}
 use Rattle.std.proofs.Common.{ap, not}

@@ -1,6 +1,5 @@
 -- `steps::infinity::parse_infinity_remainder` meets its contract: what closes the word after `inf` decides. Assumes nothing.
 use mathlib.Core.Path.{sym, ◌∙◌}
-use borrow.Author.Rules.{rules}
 use Rattle.rules.specs.SettingsAsWords.{settings_of}
 use Rattle.steps.specs.Infinity.{word_short, word_long}
 use Rattle.steps.proofs.infinity.parse_infinity_remainder.Goals as goal

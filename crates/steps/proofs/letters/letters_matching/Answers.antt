@@ -1,13 +1,11 @@
 -- `steps::letters::letters_matching` meets its contract: the letters counted, and those that match from here on, are all that match. Assumes nothing.
-use mathlib.Core.Path.{◌≡◌, sym, ◌∙◌}
-use Prim.Native.Nat.{◌+◌, ◌-◌, ◌≤◌}
+use mathlib.Core.Path.{sym, ◌∙◌}
 use native.Mathlib.Omega.{arith}
 use borrow.Author.Rules.{rules}
 use borrow.Author.Tests.{not-true, not-false}
-use lib.ListN.{length, drop}
 use Rattle.rules.specs.SettingsAndUnitTable.{LETTER, is}
 use Rattle.rules.proofs.Laws.Lists.{all_index}
-use Rattle.steps.specs.Letters.{matching, matching_ends, matching_done, matching_more, matching_stops}
+use Rattle.steps.specs.Letters.{matching_ends, matching_done, matching_more, matching_stops}
 use Rattle.std.proofs.Common.{ap, not}
 use Rattle.steps.proofs.letters.letters_matching.Goals as goal
 
@@ -30,16 +28,15 @@ returns-then-not-same_letter c =
     )
 
 pub loop-count-preserved : goal.loop-count-preserved
-loop-count-preserved c =
-    (
-      omega (
-        arith,
-        matching_more c.args.word.now c.args.text.now c.loop-count.count c.loop-count.next (search rules) (search rules)
-            (sym c.same_letter.ensures ∙ not-false c.same_letter.result (ap not c.if-not-same_letter.false)),
-        c.loop-count.invariant.0,
-      ),
-      search rules,
-    )
+loop-count-preserved c = (
+  omega (
+    arith,
+    matching_more c.args.word.now c.args.text.now c.loop-count.count c.loop-count.next (search rules) (search rules)
+        (sym c.same_letter.ensures ∙ not-false c.same_letter.result (ap not c.if-not-same_letter.false)),
+    c.loop-count.invariant.0,
+  ),
+  search rules,
+)
 
 pub returns : goal.returns
 returns c = omega (arith, matching_done c.args.word.now c.args.text.now c.loop-count.count c.loop-count.next c.loop-count-test.false, c.loop-count.invariant.0)

@@ -1,14 +1,8 @@
 -- `steps::letters::letters_matching` meets its contract: the letters counted, and those that match from here on, are all that match. Assumes nothing.
-use mathlib.Core.Path.{◌≡◌, sym, ◌∙◌}
+use mathlib.Core.Path.{◌≡◌}
 use Prim.Native.Nat.{◌+◌, ◌-◌, ◌≤◌}
-use native.Mathlib.Omega.{arith}
-use borrow.Author.Rules.{rules}
-use borrow.Author.Tests.{not-true, not-false}
 use lib.ListN.{length, drop}
-use Rattle.rules.specs.SettingsAndUnitTable.{LETTER, is}
-use Rattle.rules.proofs.Laws.Lists.{all_index}
-use Rattle.steps.specs.Letters.{matching, matching_ends, matching_done, matching_more, matching_stops}
-use Rattle.std.proofs.Common.{ap, not}
+use Rattle.steps.specs.Letters.{matching}
 use Rattle.steps.proofs.letters.letters_matching.Given as goal
 
 abbrev pub invariant-loop-count : goal.invariant-loop-count

@@ -1,6 +1,5 @@
 -- `steps::letters::next_is_ignore_ascii_case` meets its contract: the word stands there if all of its letters do. Assumes nothing.
 use mathlib.Core.Path.{ap, ◌∙◌}
-use borrow.Author.Rules.{rules}
 use lib.ListN.{length}
 use lib.Dec.{eqb}
 use Rattle.steps.specs.Letters.{says_matching}

@@ -6,7 +6,6 @@ use borrow.Author.Rules.{rules}
 use borrow.Author.Tests.{not-true, not-false}
 use Rattle.rules.specs.SettingsAndUnitTable.{LETTER, is, low_bytes}
 use Rattle.rules.specs.Common.{all}
-use Rattle.rules.specs.ReadingOnePart.{says}
 use Rattle.rules.proofs.Laws.Choices.{and_left, and_right}
 use Rattle.settings.specs.Laws.Settings.{all_letters}
 use Rattle.steps.specs.Letters.{letters_done, letters_end, letters_more, letters_stop}
@@ -35,13 +34,12 @@ returns-then-not-same_letter c =
     ∙ c.loop-left.invariant.0
 
 pub loop-left-preserved : goal.loop-left-preserved
-loop-left-preserved c =
-    (
-      sym (letters_more c.loop-left.left c.loop-left.rest _ c.loop-left.next (search rules) (search rules)
-          (sym c.same_letter.ensures ∙ not-false c.same_letter.result (ap not c.if-not-same_letter.false)))
-          ∙ c.loop-left.invariant.0,
-      and_right (is LETTER (c.loop-left.rest % 256)) _ (both (goal.at.loop-left-preserved c).After-shared_slice_known-in-loop-left-1),
-    )
+loop-left-preserved c = (
+  sym (letters_more c.loop-left.left c.loop-left.rest _ c.loop-left.next (search rules) (search rules)
+      (sym c.same_letter.ensures ∙ not-false c.same_letter.result (ap not c.if-not-same_letter.false)))
+      ∙ c.loop-left.invariant.0,
+  and_right (is LETTER (c.loop-left.rest % 256)) _ (both (goal.at.loop-left-preserved c).After-shared_slice_known-in-loop-left-1),
+)
 
 pub returns : goal.returns
 returns c = sym (letters_done _ _ _ _ c.loop-left-test.false) ∙ c.loop-left.invariant.0

@@ -1,16 +1,9 @@
 -- `steps::letters::next_is_letters` meets its contract: the letters that are left decide what all of them do. Assumes nothing.
-use mathlib.Core.Path.{◌≡◌, refl, sym, ◌∙◌}
-use mathlib.Core.Bool.{true, ◌&&◌}
-use Prim.Native.Nat.{◌-◌, ◌/◌, ◌%◌}
-use borrow.Author.Rules.{rules}
-use borrow.Author.Tests.{not-true, not-false}
+use mathlib.Core.Path.{◌≡◌}
+use mathlib.Core.Bool.{true}
 use Rattle.rules.specs.SettingsAndUnitTable.{LETTER, is, low_bytes}
 use Rattle.rules.specs.Common.{all}
 use Rattle.rules.specs.ReadingOnePart.{says}
-use Rattle.rules.proofs.Laws.Choices.{and_left, and_right}
-use Rattle.settings.specs.Laws.Settings.{all_letters}
-use Rattle.steps.specs.Letters.{letters_done, letters_end, letters_more, letters_stop}
-use Rattle.std.proofs.Common.{ap, not}
 use Rattle.steps.proofs.letters.next_is_letters.Given as goal
 
 abbrev pub invariant-loop-left : goal.invariant-loop-left

@@ -1,7 +1,6 @@
 -- `steps::number::is_point` meets its contract: nothing stands at the text's end, and elsewhere the byte there. Assumes nothing.
 use mathlib.Core.Path.{sym, ◌∙◌}
 use native.Mathlib.Omega.{arith}
-use borrow.Author.Rules.{rules}
 use Rattle.rules.proofs.Laws.Texts.{sees_here, sees_end}
 use Rattle.steps.specs.Bytes.{point_byte}
 use Rattle.steps.proofs.number.is_point.Goals as goal

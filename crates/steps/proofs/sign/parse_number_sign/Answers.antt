@@ -1,6 +1,5 @@
 -- `steps::sign::parse_number_sign` meets its contract: no sign, a sign that ends the text, and one with something after it. Assumes nothing.
 use mathlib.Core.Path.{sym, ap, ◌∙◌}
-use borrow.Author.Rules.{rules}
 use Rattle.rules.specs.SettingsAsWords.{settings_of}
 use Rattle.steps.specs.Outcomes.{next}
 use Rattle.steps.specs.Signs.{sign_plain, sign_last, sign_got, sign_refused}

@@ -1,6 +1,5 @@
 -- `steps::sign::sign_at` meets its contract: no byte, a sign, and any other byte. Assumes nothing.
 use mathlib.Core.Path.{sym, ◌∙◌}
-use borrow.Author.Rules.{rules}
 use Rattle.steps.specs.Signs.{sign_ends, sign_none, sign_there}
 use Rattle.steps.proofs.sign.sign_at.Goals as goal
 

@@ -1,6 +1,5 @@
 -- `steps::unit::closes_unit` meets its contract: the text's end, an outer delimiter, a digit or a sign. Assumes nothing.
 use mathlib.Core.Path.{sym, ◌∙◌}
-use borrow.Author.Rules.{rules}
 use Rattle.rules.specs.SettingsAsWords.{settings_of}
 use Rattle.steps.specs.Units.{closes_end, closes_outer, closes_next}
 use Rattle.steps.proofs.unit.closes_unit.Goals as goal

@@ -1,7 +1,6 @@
 -- `steps::unit::find_unit` meets its contract: nothing stands between the places, or a stretch. Assumes nothing.
-use mathlib.Core.Path.{refl, sym, ap, ◌∙◌}
+use mathlib.Core.Path.{sym, ap, ◌∙◌}
 use native.Mathlib.Nat.{le_of_lt}
-use native.Mathlib.Omega.{arith}
 use lib.ListN.{take}
 use Rattle.rules.specs.SettingsAndUnitTable.{low_first, find_row}
 use Rattle.steps.specs.Stretches.{stretch_part}

@@ -1,7 +1,6 @@
 -- `steps::unit::parse_time_unit` meets its contract: no row has the stretch as its name, or one has. Assumes nothing.
 use mathlib.Core.Path.{◌≡◌, ap, ◌∙◌}
 use native.Mathlib.Omega.{arith}
-use borrow.Author.Rules.{rules}
 use lib.ListN.{length}
 use Rattle.rules.specs.SettingsAndUnitTable.{row_size, kind_in}
 use Rattle.rows.specs.Laws.Lookup.{found_whole}

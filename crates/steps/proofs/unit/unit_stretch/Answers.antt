@@ -2,7 +2,7 @@
 -- what is left of a word. Assumes nothing.
 use mathlib.Core.Path.{◌≡◌, sym, ap, ◌∙◌}
 use mathlib.Core.Bool.{false, not}
-use Prim.Native.Nat.{ℕ, ◌-◌}
+use Prim.Native.Nat.{ℕ}
 use native.Mathlib.Omega.{arith}
 use Rattle.rules.specs.declared.Settings.{Settings}
 use Rattle.rules.specs.Common.{run}
@@ -10,7 +10,7 @@ use Rattle.rules.specs.ReadingOnePart.{in_stretch}
 use Rattle.settings.specs.Sets.{bytes_of, passes}
 use Rattle.value.specs.Digits.{run_on, run_off, run_end}
 use Rattle.card.specs.Laws.Unnameable.{outside}
-use Rattle.steps.specs.Stretches.{Scanning, scan_starts, scan_room, scan_goes_on, scan_ends, scan_on}
+use Rattle.steps.specs.Stretches.{scan_starts, scan_room, scan_goes_on, scan_ends, scan_on}
 use Rattle.steps.specs.Units.{stops_of, stretch_ends}
 use Rattle.steps.proofs.unit.unit_stretch.Goals as goal
 use Rattle.steps.proofs.unit.unit_stretch.Goals.{After-shared_slice_known-1}

@@ -1,5 +1,4 @@
 -- `value::digits::eight` meets its contract: either test is the one that was asked for. Assumes nothing.
-use borrow.Author.Rules.{rules}
 use Rattle.rules.specs.Common.{if◌then◌else◌}
 use Rattle.value.specs.Digits.{last}
 use Rattle.value.proofs.digits.eight.Goals as goal

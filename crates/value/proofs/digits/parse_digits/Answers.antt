@@ -1,5 +1,4 @@
 -- `value::digits::parse_digits` meets its contract: a run of digits is one of the bytes from `0` to `9`. Assumes nothing.
-use borrow.Author.Rules.{rules}
 use Rattle.value.specs.Digits.{digits_end}
 use Rattle.value.proofs.digits.parse_digits.Goals as goal
 

@@ -1,6 +1,5 @@
 -- `value::digits::parse_digits_strip_zeros` meets its contract: the run of digits from after the zeros ends where the run from before them
 -- does. Assumes nothing.
-use borrow.Author.Rules.{rules}
 use Rattle.value.specs.Digits.{run_after_zeros}
 use Rattle.value.proofs.digits.parse_digits_strip_zeros.Goals as goal
 

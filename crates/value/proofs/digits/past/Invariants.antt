@@ -1,12 +1,9 @@
 -- `value::digits::past` meets its contract: at each turn the run from here is the run from the start, since a byte from low to high goes
 -- on with it, and any other byte and the text's end stop it. Assumes nothing.
-use mathlib.Core.Path.{◌≡◌, refl, sym, ◌∙◌}
+use mathlib.Core.Path.{◌≡◌}
 use Prim.Native.Nat.{◌-◌}
-use borrow.Author.Rules.{rules}
 use lib.ListN.{length}
 use Rattle.rules.specs.Common.{between, run}
-use Rattle.rules.proofs.Laws.Tests.{between_in, between_below, between_above}
-use Rattle.value.specs.Digits.{run_on, run_off, run_end}
 use Rattle.value.proofs.digits.past.Given as goal
 
 abbrev pub invariant-loop-next : goal.invariant-loop-next

@@ -1,14 +1,10 @@
 -- `value::digits::past_eights` meets its contract: eight bytes that pass go on with the run, so that at each turn the run from here is the
 -- run from the start. Assumes nothing.
-use mathlib.Core.Path.{◌≡◌, refl, ap, ◌∙◌}
-use Prim.Native.Nat.{◌+◌, ◌-◌, ◌≤◌}
-use native.Mathlib.Omega.{arith}
-use borrow.Author.Tests.{not-false}
-use borrow.Author.Rules.{rules}
+use mathlib.Core.Path.{◌≡◌}
+use Prim.Native.Nat.{◌-◌, ◌≤◌}
 use lib.ListN.{length}
 use Rattle.rules.specs.Common.{between, run}
-use Rattle.value.specs.Digits.{last, run_many}
-use Rattle.std.proofs.Common.{not}
+use Rattle.value.specs.Digits.{last}
 use Rattle.value.proofs.digits.past_eights.Given as goal
 
 abbrev pub invariant-loop-next : goal.invariant-loop-next

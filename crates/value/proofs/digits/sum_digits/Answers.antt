@@ -5,15 +5,14 @@ use mathlib.Core.Path.{◌≡◌, refl, sym, ◌∙◌}
 use mathlib.Core.Bool.{true}
 use Prim.Native.Nat.{ℕ, ◌+◌, ◌*◌, ◌-◌, ◌<◌, ◌^◌}
 use native.Mathlib.Nat.{lt_trans, lt_of_le_of_lt, le-add_right}
-use borrow.Author.Rules.{rules}
 use lib.Dec.{lit<}
-use lib.ListN.{length, get_or}
+use lib.ListN.{get_or}
 use lib.Seq.{slice}
 use Rattle.rules.specs.Common.{run}
 use Rattle.rules.specs.SettingsAndUnitTable.{DIGIT, is}
 use Rattle.rules.proofs.Laws.Tests.{between_in, between_below, between_above}
 use Rattle.value.specs.Numbers.{summed}
-use Rattle.value.specs.Digits.{Unsummed, unsummed_done, unsummed_full, unsummed_more, digit_between, digit_below, run_off, run_end, digits_end}
+use Rattle.value.specs.Digits.{unsummed_done, unsummed_full, unsummed_more, digit_between, digit_below, run_off, run_end, digits_end}
 use Rattle.value.proofs.digits.sum_digits.Goals as goal
 use Rattle.value.proofs.digits.sum_digits.Goals.{At-loop-next, Else-byte-gt57, Else-number-ge-SURE}
 

@@ -1,19 +1,13 @@
 -- `value::digits::sum_digits` meets its contract: at each turn what is left of the run comes, after the number so far, to the whole sum.
 -- A byte below `0` or above `9` and the text's end stop the run, and a number that is not sure to take one more digit is the sum.
 -- Assumes nothing.
-use mathlib.Core.Path.{◌≡◌, refl, sym, ◌∙◌}
-use mathlib.Core.Bool.{true}
-use Prim.Native.Nat.{ℕ, ◌+◌, ◌*◌, ◌-◌, ◌<◌, ◌^◌}
-use native.Mathlib.Nat.{lt_trans, lt_of_le_of_lt, le-add_right}
-use borrow.Author.Rules.{rules}
-use lib.Dec.{lit<}
-use lib.ListN.{length, get_or}
+use Prim.Native.Nat.{◌-◌}
+use lib.ListN.{length}
 use lib.Seq.{slice}
 use Rattle.rules.specs.Common.{run}
 use Rattle.rules.specs.SettingsAndUnitTable.{DIGIT, is}
-use Rattle.rules.proofs.Laws.Tests.{between_in, between_below, between_above}
 use Rattle.value.specs.Numbers.{summed}
-use Rattle.value.specs.Digits.{Unsummed, unsummed_done, unsummed_full, unsummed_more, digit_between, digit_below, run_off, run_end, digits_end}
+use Rattle.value.specs.Digits.{Unsummed}
 use Rattle.value.proofs.digits.sum_digits.Given as goal
 
 abbrev pub invariant-loop-next : goal.invariant-loop-next

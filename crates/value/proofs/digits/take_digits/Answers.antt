@@ -3,25 +3,22 @@
 use mathlib.Core.Path.{sym, ap, ◌∙◌}
 use Prim.Native.Nat.{◌+◌, ◌*◌, ◌-◌, ◌≤◌, ◌<◌, ◌^◌}
 use native.Mathlib.Nat.{le_trans, lt_trans, le-add_right, lt_of_lt_of_le, lt_of_le_of_lt}
-use native.Mathlib.Omega.{arith}
 use borrow.Author.Rules.{rules}
 use lib.Dec.{lit<}
-use lib.ListN.{take, length, get_or}
-use lib.Seq.{slice, length-slice}
+use lib.ListN.{length, get_or}
+use lib.Seq.{length-slice}
 use Rattle.rules.specs.SettingsAndUnitTable.{DIGIT, is}
-use Rattle.rules.specs.Evaluation.{spelled}
-use Rattle.value.specs.Digits.{Unread, unread_done, unread_digit, unread_more, unread_grows, digit_low, cut_inside, cut_after, cut_count, cut_left, slice_before, passes_before, spelled_in_all}
+use Rattle.value.specs.Digits.{unread_done, unread_digit, unread_more, unread_grows, digit_low, cut_inside, cut_after, cut_count, cut_left, slice_before, passes_before, spelled_in_all}
 use Rattle.value.specs.Places.{taken_is}
 use Rattle.value.proofs.digits.take_digits.Goals as goal
 use Rattle.value.proofs.digits.take_digits.Goals.{In-loop-place}
 
 pub loop-place-init : goal.loop-place-init
-loop-place-init c =
-    (
-      record { spells = rw (slice_before _ _ _ _ c.place_within-stop.ensures); digits = passes_before _ _ _ _ c.place_within-stop.ensures (is DIGIT) c.requires.text_value },
-      spelled_in_all 19 _ _ _ c.requires.room_bound.0 c.requires.room_bound.1 c.requires.text_value,
-      search rules,
-    )
+loop-place-init c = (
+  record { spells = rw (slice_before _ _ _ _ c.place_within-stop.ensures); digits = passes_before _ _ _ _ c.place_within-stop.ensures (is DIGIT) c.requires.text_value },
+  spelled_in_all 19 _ _ _ c.requires.room_bound.0 c.requires.room_bound.1 c.requires.text_value,
+  search rules,
+)
 
 -- the text goes on up to the stop
 in-text : (c : In-loop-place) → c.place_within-stop.result ≤ length c.args.text.now

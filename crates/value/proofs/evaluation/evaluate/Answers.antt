@@ -2,7 +2,6 @@
 -- as seconds and attoseconds. Assumes nothing.
 use mathlib.Core.Path.{sym, ◌∙◌}
 use mathlib.Core.Bool.{xor}
-use borrow.Author.Rules.{rules}
 use Rattle.value.specs.Evaluating.{evaluate_infinite, evaluate_nothing, evaluate_large, evaluate_fits, fits_parts}
 use Rattle.value.proofs.evaluation.evaluate.Goals as goal
 

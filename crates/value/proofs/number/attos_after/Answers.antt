@@ -10,7 +10,7 @@ use Rattle.value.specs.Numbers.{places}
 use Rattle.value.specs.Digits.{ten_pos}
 use Rattle.value.specs.Places.{whole_digits, fract_digits, taken_both, taken_in_room, room_filled}
 use Rattle.value.proofs.number.attos_after.Goals as goal
-use Rattle.value.proofs.number.attos_after.Goals.{After-take_digits-both, After-take_digits-front}
+use Rattle.value.proofs.number.attos_after.Goals.{After-take_digits-both}
 
 pub take_digits-front-requires : goal.take_digits-front-requires
 take_digits-front-requires c =

@@ -1,6 +1,5 @@
 -- `value::number::cut_at` meets its contract: what the whole digits lack is counted on in the fraction, and what that lacks are the zeros.
 -- Assumes nothing.
-use borrow.Author.Rules.{rules}
 use Rattle.value.specs.Digits.{cut_count}
 use Rattle.value.specs.Places.{cut_is}
 use Rattle.value.proofs.number.cut_at.Goals as goal

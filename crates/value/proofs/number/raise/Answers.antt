@@ -1,7 +1,6 @@
 -- `value::number::raise` meets its contract: the zeros are put into the seconds, and no attoseconds are left. Assumes nothing.
 use mathlib.Core.Path.{refl, sym, ◌∙◌}
 use native.Mathlib.Nat.{add-zero}
-use borrow.Author.Rules.{rules}
 use lib.Dec.{lit<}
 use Rattle.value.specs.Places.{shifted_is}
 use Rattle.value.proofs.number.raise.Goals as goal

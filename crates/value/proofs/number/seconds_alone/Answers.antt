@@ -1,5 +1,4 @@
 -- `value::number::seconds_alone` meets its contract, case by case. Assumes nothing.
-use borrow.Author.Rules.{rules}
 use Rattle.value.proofs.number.seconds_alone.Goals as goal
 
 pub returns : goal.returns

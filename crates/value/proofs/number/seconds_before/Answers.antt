@@ -1,6 +1,5 @@
 -- `value::number::seconds_before` meets its contract: zeros put in make no number that is too large fit. Assumes nothing.
 use mathlib.Core.Path.{sym, ◌∙◌}
-use borrow.Author.Rules.{rules}
 use Rattle.value.specs.Places.{fits_word, zeros_too_large}
 use Rattle.value.proofs.number.seconds_before.Goals as goal
 

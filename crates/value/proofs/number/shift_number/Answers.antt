@@ -1,7 +1,6 @@
 -- `value::number::shift_number` meets its contract: beside at most nineteen digits the number is what counts, and beside more it
 -- is their sum. Assumes nothing.
 use mathlib.Core.Path.{ap, ◌∙◌}
-use borrow.Author.Rules.{rules}
 use Rattle.value.specs.Numbers.{shifted_of}
 use Rattle.value.specs.Digits.{counts_below}
 use Rattle.value.specs.Places.{attos_whole, few_moved, many_summed, many_counted}

@@ -1,7 +1,6 @@
 -- `value::number::shift_whole` meets its contract: all digits are seconds, and no attoseconds are left. Assumes nothing.
 use mathlib.Core.Path.{refl, sym, ◌∙◌}
 use native.Mathlib.Nat.{add-zero}
-use borrow.Author.Rules.{rules}
 use lib.Dec.{lit<}
 use Rattle.value.specs.Places.{shifted_is}
 use Rattle.value.proofs.number.shift_whole.Goals as goal

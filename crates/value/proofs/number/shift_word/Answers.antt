@@ -1,6 +1,5 @@
 -- `value::number::shift_word` meets its contract: powers of ten that stand on both sides fall away. Assumes nothing.
 use mathlib.Core.Path.{ap, ◌∙◌}
-use borrow.Author.Rules.{rules}
 use native.Mathlib.Nat.{le_of_lt}
 use Rattle.value.specs.Numbers.{shifted_of}
 use Rattle.value.specs.Places.{word_raised, word_lowered}

@@ -1,6 +1,5 @@
 -- `value::number::typed_digits` meets its contract: the fraction digits go on from the number that the whole digits spell. Assumes nothing.
 use mathlib.Core.Path.{ap, ◌∙◌}
-use borrow.Author.Rules.{rules}
 use Rattle.value.specs.Numbers.{as_word}
 use Rattle.value.specs.Places.{whole_digits, fract_digits, typed_too_large, typed_on}
 use Rattle.value.proofs.number.typed_digits.Goals as goal

@@ -3,7 +3,6 @@
 use mathlib.Core.Path.{◌≡◌, ap, ◌∙◌}
 use Prim.Native.Nat.{◌+◌, ◌-◌, min}
 use native.Mathlib.Omega.{arith}
-use borrow.Author.Rules.{rules}
 use Rattle.value.specs.Numbers.{as_word}
 use Rattle.value.specs.Places.{spans_rest, spelled_rest, sum_first}
 use Rattle.value.proofs.number.whole_digits.Goals as goal

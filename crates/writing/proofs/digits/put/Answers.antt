@@ -1,7 +1,6 @@
 -- `writing::digits::put` meets its contract: at each turn the digits put stand behind what is kept of the buffer. Assumes nothing.
 use native.Mathlib.Omega.{arith}
-use borrow.Author.Rules.{rules}
-use Rattle.writing.specs.Digits.{Put, put_none, put_length, put_more, put_all}
+use Rattle.writing.specs.Digits.{put_none, put_length, put_more, put_all}
 use Rattle.writing.proofs.digits.put.Goals as goal
 
 pub loop-left-init : goal.loop-left-init

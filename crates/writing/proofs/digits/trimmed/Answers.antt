@@ -1,9 +1,7 @@
 -- `writing::digits::trimmed` meets its contract: a last digit that is zero goes, and the first from behind that is not stays with all before it.
 -- Assumes nothing.
-use mathlib.Core.Path.{◌≡◌, refl, ◌∙◌}
-use Prim.Native.Nat.{◌≤◌}
+use mathlib.Core.Path.{refl, ◌∙◌}
 use borrow.Author.Rules.{rules}
-use Rattle.rules.specs.WriterAndShiftTotal.{decimals, no_trailing_zeros}
 use Rattle.writing.specs.Digits.{trailing_kept, trailing_dropped, trailing_none}
 use Rattle.writing.proofs.digits.trimmed.Goals as goal
 

@@ -3,7 +3,7 @@
 use Prim.Native.Nat.{◌+◌, ◌≤◌}
 use native.Mathlib.Omega.{arith}
 use borrow.Author.Rules.{rules}
-use Rattle.writing.specs.Digits.{Digits, Counted, counted_none, counted_four, counted_most, counted_on, leads_most, whole_is}
+use Rattle.writing.specs.Digits.{Digits, counted_none, counted_four, counted_most, counted_on, leads_most, whole_is}
 use Rattle.writing.proofs.digits.whole.Goals as goal
 use Rattle.writing.proofs.digits.whole.Goals.{After-few_digits}
 

@@ -1,6 +1,5 @@
 -- `writing::writer::fraction_size` meets its contract. Assumes nothing.
 use borrow.Author.Tests.{eq-eqb, ne_eqb}
-use borrow.Author.Rules.{rules}
 use Rattle.rules.specs.Common.{if◌then◌else◌}
 use Rattle.writing.specs.Forms.{fraction_size}
 use Rattle.writing.proofs.writer.fraction_size.Goals as goal

@@ -1,7 +1,6 @@
 -- `writing::writer::put_fraction` meets its contract: nothing, or the point and the decimals behind it. Assumes nothing.
 use mathlib.Core.Path.{◌∙◌, ap}
 use native.Mathlib.Omega.{arith}
-use borrow.Author.Rules.{rules}
 use lib.ListN.{length, length-set}
 use Rattle.writing.specs.Forms.{behind_length, no_fraction, some_fraction, some_fraction_size}
 use Rattle.writing.specs.Laid.{laid_length}

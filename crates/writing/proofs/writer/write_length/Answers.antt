@@ -5,7 +5,6 @@ use mathlib.Core.Bool.{true}
 use Prim.Native.Nat.{◌+◌}
 use native.Mathlib.Omega.{arith}
 use borrow.Author.Tests.{not-true, not-false}
-use borrow.Author.Rules.{rules}
 use lib.ListN.{length}
 use Rattle.rules.specs.ThePartOfTheCrateWeTake.{well_formed}
 use Rattle.rules.specs.NumbersHandedBack.{done}
@@ -63,6 +62,9 @@ returns c =
     let args = c.args in
     let kept =
     write_done args.length args.buffer.now args.place (good (goal.at.returns c).Else-not-well_formed) c.if-place-buffer.false
-    (omega (arith, size_is (goal.at.returns c).After-fraction_size, c.if-size-buffer.false)) in record { value = c.done.ensures ∙ ap (λ n. done (args.place + n) args.length) (size_is (goal.at.returns c).After-fraction_size) ∙ kept.0; buffer_after = c.put_form.ensures
+    (omega (arith, size_is (goal.at.returns c).After-fraction_size, c.if-size-buffer.false)) in record {
+      value = c.done.ensures ∙ ap (λ n. done (args.place + n) args.length) (size_is (goal.at.returns c).After-fraction_size) ∙ kept.0;
+      buffer_after = c.put_form.ensures
           ∙ ap (laid args.buffer.now args.place) (ap (λ b. form_bytes b c.whole-seconds.result c.fraction-decimals.result) c.sign_byte.ensures ∙ form (goal.at.returns c).After-fraction-decimals (good (goal.at.returns c).Else-not-well_formed))
-          ∙ kept.1 }
+          ∙ kept.1;
+    }
