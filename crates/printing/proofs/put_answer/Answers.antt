@@ -6,7 +6,6 @@ use Rattle.rules.specs.WriterAndShiftTotal.{sign_byte}
 use Rattle.writing.specs.Laid.{laid}
 use Rattle.printing.specs.Printed.{printed, no_room, put_there}
 use Rattle.printing.specs.Fields.{line_figures, line_size, line_length, line_is}
-use borrow.Author.Rules.{rules}
 use Rattle.printing.proofs.put_answer.Goals as goal
 use Rattle.printing.proofs.put_answer.Goals.{After-struct_known-6-1}
 
@@ -38,7 +37,10 @@ returns-then-size-buffer c =
 pub returns : goal.returns
 returns c =
     let found = line (goal.at.returns c).After-struct_known-6-1 in
-    let there = put_there c.args.answer c.args.buffer.now c.args.place (omega (arith, c.if-size-buffer.false, found.1)) in record { value = omega (arith, c.put_line.ensures.value, found.1) ∙ there.0; buffer_after = c.put_line.ensures.buffer_after
+    let there = put_there c.args.answer c.args.buffer.now c.args.place (omega (arith, c.if-size-buffer.false, found.1)) in record {
+      value = omega (arith, c.put_line.ensures.value, found.1) ∙ there.0;
+      buffer_after = c.put_line.ensures.buffer_after
           ∙ ap (laid c.args.buffer.now c.args.place)
           (ap (λ b. line_figures c.whole-number.result c.whole-position.result b c.whole-seconds.result c.whole-nanoseconds.result) c.sign_byte-sign.ensures ∙ found.0)
-          ∙ there.1 }
+          ∙ there.1;
+    }

@@ -8,5 +8,8 @@ use Rattle.printing.proofs.put_figures.Goals as goal
 
 pub returns : goal.returns
 returns c =
-    let digits = c.args.digits in record { value = search rules; buffer_after = ap (λ b. set b (c.args.place + digits.count) c.args.behind) c.put.ensures
-          ∙ figures_laid c.args.buffer.now c.args.place digits c.args.behind c.requires }
+    let digits = c.args.digits in record {
+      value = search rules;
+      buffer_after = ap (λ b. set b (c.args.place + digits.count) c.args.behind) c.put.ensures
+          ∙ figures_laid c.args.buffer.now c.args.place digits c.args.behind c.requires;
+    }

@@ -27,8 +27,11 @@ returns c =
     line_laid c.args.number c.args.position c.args.sign c.args.seconds c.args.nanoseconds c.args.buffer.now c.args.place (omega (arith, c.requires))
     c.put_figures-second.ensures.value
     c.put_figures-third.ensures.value
-    c.put_signed-last.ensures.value in record { value = search rules; buffer_after = one-behind-another
+    c.put_signed-last.ensures.value in record {
+      value = search rules;
+      buffer_after = one-behind-another
           (λ b. laid b c.put_figures-second.result (figures c.args.position space))
           (λ b. laid b c.put_figures-third.result (signed_figures c.args.sign c.args.seconds space))
           (λ b. laid b c.put_signed-last.result (figures c.args.nanoseconds newline))
-          c.put_figures-second.ensures.buffer_after c.put_figures-third.ensures.buffer_after c.put_signed-last.ensures.buffer_after c.put_figures.ensures.buffer_after whole }
+          c.put_figures-second.ensures.buffer_after c.put_figures-third.ensures.buffer_after c.put_signed-last.ensures.buffer_after c.put_figures.ensures.buffer_after whole;
+    }

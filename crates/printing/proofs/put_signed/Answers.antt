@@ -4,7 +4,6 @@ use native.Mathlib.Omega.{arith}
 use lib.ListN.{length, length-set}
 use Rattle.printing.specs.Fields.{figures_length, signed_laid}
 use Rattle.writing.specs.Laid.{laid_length}
-use borrow.Author.Rules.{rules}
 use Rattle.printing.proofs.put_signed.Goals as goal
 
 pub bounds-buffer-between : goal.bounds-buffer-between

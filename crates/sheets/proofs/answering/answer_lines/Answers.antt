@@ -1,14 +1,14 @@
 -- `sheets::answering::answer_lines` meets its contract: at each turn the lines read so far have been answered. Assumes nothing.
 use mathlib.Core.Path.{◌≡◌, refl, sym, ap, ◌∙◌}
 use mathlib.Core.Logic.{inl}
-use Prim.Native.Nat.{◌-◌, ◌≤◌}
+use Prim.Native.Nat.{◌≤◌}
 use native.Mathlib.Omega.{arith}
-use borrow.Author.Rules.{rules}
 use lib.ListN.{length}
 use Rattle.rules.specs.SettingsAsWords.{card_of}
 use Rattle.rules.specs.WhatEveryEntryOwes.{total_answer}
-use Rattle.printing.specs.Lines.{line_end, line_at, end_from}
-use Rattle.sheets.specs.Answering.{answered_to, on_end, Answered, none_answered, answered_length, full, more}
+use Rattle.printing.specs.Lines.{line_at}
+use Rattle.printing.proofs.Lines.{end_from}
+use Rattle.sheets.specs.Answering.{answered_to, on_end, none_answered, answered_length, full, more}
 use Rattle.sheets.proofs.answering.answer_lines.Goals as goal
 use Rattle.sheets.proofs.answering.answer_lines.Goals.{After-line_end-end, After-read_total_checked-answer, Then-next-printed}
 

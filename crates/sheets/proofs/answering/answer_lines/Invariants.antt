@@ -1,14 +1,8 @@
 -- `sheets::answering::answer_lines` meets its contract: at each turn the lines read so far have been answered. Assumes nothing.
-use mathlib.Core.Path.{◌≡◌, refl, sym, ap, ◌∙◌}
-use mathlib.Core.Logic.{inl}
-use Prim.Native.Nat.{◌-◌, ◌≤◌}
-use native.Mathlib.Omega.{arith}
-use borrow.Author.Rules.{rules}
+use Prim.Native.Nat.{◌-◌}
 use lib.ListN.{length}
 use Rattle.rules.specs.SettingsAsWords.{card_of}
-use Rattle.rules.specs.WhatEveryEntryOwes.{total_answer}
-use Rattle.printing.specs.Lines.{line_end, line_at, end_from}
-use Rattle.sheets.specs.Answering.{answered_to, on_end, Answered, none_answered, answered_length, full, more}
+use Rattle.sheets.specs.Answering.{Answered}
 use Rattle.sheets.proofs.answering.answer_lines.Given as goal
 
 abbrev pub invariant-loop-none : goal.invariant-loop-none

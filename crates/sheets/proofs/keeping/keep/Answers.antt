@@ -1,8 +1,6 @@
 -- `sheets::keeping::keep` meets its contract: at each turn so many bytes have been moved, none of them from before the place where it is put.
 -- Assumes nothing.
-use Prim.Native.Nat.{◌-◌}
-use borrow.Author.Rules.{rules}
-use Rattle.sheets.specs.Keeping.{Moved, none_moved, moved_length, one_moved, all_moved, at_end, at_buffer_end, at_most}
+use Rattle.sheets.specs.Keeping.{none_moved, moved_length, one_moved, all_moved, at_end, at_buffer_end, at_most}
 use Rattle.sheets.proofs.keeping.keep.Goals as goal
 
 pub loop-place-init : goal.loop-place-init

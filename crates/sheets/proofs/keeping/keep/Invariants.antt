@@ -1,8 +1,7 @@
 -- `sheets::keeping::keep` meets its contract: at each turn so many bytes have been moved, none of them from before the place where it is put.
 -- Assumes nothing.
 use Prim.Native.Nat.{◌-◌}
-use borrow.Author.Rules.{rules}
-use Rattle.sheets.specs.Keeping.{Moved, none_moved, moved_length, one_moved, all_moved, at_end, at_buffer_end, at_most}
+use Rattle.sheets.specs.Keeping.{Moved}
 use Rattle.sheets.proofs.keeping.keep.Given as goal
 
 abbrev pub invariant-loop-place : goal.invariant-loop-place

@@ -1,9 +1,7 @@
 -- `sheets::lines::line_end` meets its contract: the line from here on ends where the line from the first place does. Assumes nothing.
-use mathlib.Core.Path.{◌≡◌, refl, sym, ◌∙◌}
-use Prim.Native.Nat.{◌-◌}
+use mathlib.Core.Path.{refl, sym, ◌∙◌}
 use borrow.Author.Rules.{rules}
-use lib.ListN.{length}
-use Rattle.printing.specs.Lines.{line_end, end_beyond, end_here, end_further}
+use Rattle.printing.proofs.Lines.{end_beyond, end_here, end_further}
 use Rattle.sheets.proofs.lines.line_end.Goals as goal
 
 pub loop-place-init : goal.loop-place-init

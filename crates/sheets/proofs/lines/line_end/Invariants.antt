@@ -1,9 +1,8 @@
 -- `sheets::lines::line_end` meets its contract: the line from here on ends where the line from the first place does. Assumes nothing.
-use mathlib.Core.Path.{◌≡◌, refl, sym, ◌∙◌}
+use mathlib.Core.Path.{◌≡◌}
 use Prim.Native.Nat.{◌-◌}
-use borrow.Author.Rules.{rules}
 use lib.ListN.{length}
-use Rattle.printing.specs.Lines.{line_end, end_beyond, end_here, end_further}
+use Rattle.printing.specs.Lines.{line_end}
 use Rattle.sheets.proofs.lines.line_end.Given as goal
 
 abbrev pub invariant-loop-place : goal.invariant-loop-place
