@@ -12,7 +12,7 @@ use Rattle.rules.specs.SettingsAndUnitTable.{old_room, name_room, rows_in, row_i
 use Rattle.rules.proofs.Laws.Lists.{Bytes}
 use Rattle.stored.specs.Lines.{line_size_in}
 use Rattle.moves.specs.NamesLongerThanSixteenBytes.{lines, line_stands, moving, to_new_answer, new_target, to_old_answer, old_target}
-use Rattle.moves.proofs.Laws.Moves.{line_moves}
+use Rattle.moves.specs.LinesThatMove.{line_moves}
 use Rattle.moved.specs.MovedLines.{moved_lines, larger_moves}
 use Rattle.moved.specs.Accepted.{moving_got}
 use Rattle.moved.proofs.ThereAndBack.{there_and_back}

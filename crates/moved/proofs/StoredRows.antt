@@ -11,7 +11,7 @@ use Rattle.stored.specs.Lines.{restored_in}
 use Rattle.stored.specs.Laws.{stored_accepted, restored_stored}
 use Rattle.moves.specs.NamesLongerThanSixteenBytes.{line_stands, moved_row}
 use Rattle.moved.specs.Rows.{Movable}
-use Rattle.moves.proofs.Laws.Moves.{line_moves, moved_line}
+use Rattle.moves.specs.LinesThatMove.{line_moves, moved_line}
 
 -- ---- bytes
 

@@ -16,7 +16,7 @@ use Rattle.moves.specs.NamesLongerThanSixteenBytes.{lines, moved_row, moving}
 use Rattle.moved.specs.Rows.{Movable}
 use Rattle.moved.proofs.Rows.{moved_movable, moved_back}
 use Rattle.moved.specs.Lines.{lines_appended, lines_stored}
-use Rattle.moves.proofs.Laws.Moves.{line_moves, moved_line}
+use Rattle.moves.specs.LinesThatMove.{line_moves, moved_line}
 use Rattle.moved.specs.MovedLines.{moved_lines, moves_accepted, length_moved_lines}
 use Rattle.moved.proofs.MovedLines.{moves_movable}
 use Rattle.moved.specs.Accepted.{moving_got, moving_right, moving_gives}

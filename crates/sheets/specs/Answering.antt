@@ -17,8 +17,10 @@ use Rattle.rules.specs.WhatEveryEntryOwes.{total_answer}
 use Rattle.rules.proofs.Laws.Tests.{and_false}
 use Rattle.writing.specs.Laid.{laid, laid_length, laid_then, laid_nothing}
 use Rattle.sheets.specs.declared.answering.Progress.{Progress}
-use Rattle.printing.specs.Lines.{newline, lines, line_end, line_at, lines_at, line_then, end_from, end_within, end_line, end_newline, Whole, whole_nothing, whole_closed}
-use Rattle.printing.specs.Printed.{printed as printed_form, line_printed, printed_all, sheet_printed, printed_both, printed_next, printed_buffer, stays, moves, no_room, put_there}
+use Rattle.printing.specs.Lines.{newline, lines, line_end, line_at, Whole}
+use Rattle.printing.proofs.Lines.{lines_at, line_then, end_from, end_within, end_line, end_newline, whole_nothing, whole_closed}
+use Rattle.printing.specs.Printed.{printed as printed_form, line_printed, printed_all, sheet_printed, printed_next, printed_buffer, stays, moves, no_room, put_there}
+use Rattle.printing.proofs.Printed.{printed_both}
 
 -- line by line from what has been read and printed, as long as a line has its newline and what is printed for it fits the room
 unfoldable pub come : (List ℕ → List ℕ) → ℕ → ℕ → List (List ℕ) → Progress → Progress

@@ -13,8 +13,10 @@ use Rattle.rules.specs.WhatEveryEntryOwes.{total_answer}
 use Rattle.rules.specs.WriterAndShiftTotal.{no_leading_zeros, decimals, second_digits, whole_digits}
 use Rattle.writing.specs.Digits.{decimals_length}
 use Rattle.sheets.specs.declared.answering.Progress.{Progress}
-use Rattle.printing.specs.Lines.{newline, in_line, lines, line_end, line_at, line_then, line_last, end_from, end_line, Whole, whole_nothing}
-use Rattle.printing.specs.Printed.{space, field, printed, line_printed, printed_all, sheet_printed, kept_of, printed_both, sheet_kept}
+use Rattle.printing.specs.Lines.{newline, in_line, lines, line_end, line_at, Whole}
+use Rattle.printing.proofs.Lines.{line_then, line_last, end_from, end_line, whole_nothing}
+use Rattle.printing.specs.Printed.{space, field, printed, line_printed, printed_all, sheet_printed, kept_of}
+use Rattle.printing.proofs.Printed.{printed_both, sheet_kept}
 use Rattle.sheets.specs.Answering.{answered_to, going_on, on_end, on_full, on_more, whole_line}
 
 unfoldable pub joined : List (List ℕ) → List ℕ

@@ -14,27 +14,21 @@ use Rattle.rules.specs.declared.Refusal.TheVariants.{NoRoom, NoStoredRow, NameTo
 use Rattle.rules.specs.Common.{between, all}
 use Rattle.rules.specs.ThePartOfTheCrateWeTake.{zero_length}
 use Rattle.rules.specs.NumbersHandedBack.{Outcome, got, refused, ◌>>=◌, ◌>>◌, unless, done, refusal, answered}
-use Rattle.rules.specs.SettingsAndUnitTable.{zeros_at_in, name_size, after_name_in, stored}
+use Rattle.rules.specs.SettingsAndUnitTable.{zeros_at_in, name_size, after_name_in}
 use Rattle.rules.proofs.Laws.Choices.{and_left, and_right}
 use Rattle.rules.proofs.Laws.Tests.{between_to}
 use Rattle.rules.proofs.Laws.Outcomes.{bind_assoc}
 use Rattle.stored.specs.Lines.{line_size_in, line_accepted_in, restored_in}
 use Rattle.stored.specs.Laws.{line_long}
-use Rattle.moves.specs.NamesLongerThanSixteenBytes.{lines, row_stands, line_stands, moved_row, move_line, move_lines, moving, move_answer, written_over, moved_target}
+use Rattle.moves.specs.NamesLongerThanSixteenBytes.{lines, row_stands, line_stands, move_line, move_lines, moving, move_answer, written_over, moved_target}
+use Rattle.moves.specs.LinesThatMove.{line_moves, moved_line}
 use Rattle.moves.proofs.Laws.Lines.{first_line, not_a_line}
 use Rattle.moves.proofs.Laws.Digits.{told, size_told, moved_long}
 
 module _ (from to : ℕ) where
   -- ---- one line
 
-  -- right, with a name that has room in the other form
-  unfoldable pub line_moves : List ℕ → Bool
-  line_moves line = line_stands from line && leb (name_size (restored_in from line)) to
-
-  unfoldable pub moved_line : List ℕ → List ℕ
-  moved_line line = stored (moved_row from to (restored_in from line))
-
-  pub line_got : (i : ℕ) (line : List ℕ) → line_moves line ≡ true → move_line from to i line ≡ got (moved_line line)
+  pub line_got : (i : ℕ) (line : List ℕ) → line_moves from to line ≡ true → move_line from to i line ≡ got (moved_line from to line)
   unfolding line_moves moved_line move_line ◌>>◌ unless
   line_got i line right =
       rw (

@@ -6,7 +6,8 @@ use native.Mathlib.Omega.{arith}
 use lib.ListN.{length}
 use Rattle.rules.specs.SettingsAsWords.{card_of}
 use Rattle.rules.specs.WhatEveryEntryOwes.{total_answer}
-use Rattle.printing.specs.Lines.{line_at, end_from}
+use Rattle.printing.specs.Lines.{line_at}
+use Rattle.printing.proofs.Lines.{end_from}
 use Rattle.sheets.specs.Answering.{answered_to, on_end, none_answered, answered_length, full, more}
 use Rattle.sheets.proofs.answering.answer_lines.Goals as goal
 use Rattle.sheets.proofs.answering.answer_lines.Goals.{After-line_end-end, After-read_total_checked-answer, Then-next-printed}

@@ -1,7 +1,7 @@
 -- `sheets::lines::line_end` meets its contract: the line from here on ends where the line from the first place does. Assumes nothing.
 use mathlib.Core.Path.{refl, sym, ◌∙◌}
 use borrow.Author.Rules.{rules}
-use Rattle.printing.specs.Lines.{end_beyond, end_here, end_further}
+use Rattle.printing.proofs.Lines.{end_beyond, end_here, end_further}
 use Rattle.sheets.proofs.lines.line_end.Goals as goal
 
 pub loop-place-init : goal.loop-place-init
