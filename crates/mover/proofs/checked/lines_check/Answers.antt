@@ -42,13 +42,12 @@ pub returns-then-name_size-to : goal.returns-then-name_size-to
 returns-then-name_size-to c = long_there _ _ _ _ _ _ c.loop-at.invariant.1 c.line_size-size.ensures c.line_at-line.ensures _ c.loop-at.invariant.3 (right (goal.at.returns-then-name_size-to c).Else-not-line_stands) (rw c.name_size.ensures at c.if-name_size-to.true)
 
 pub loop-at-preserved : goal.loop-at-preserved
-loop-at-preserved c =
-    (
-      within (goal.at.loop-at-preserved c).Else-not-line_stands,
-      next_place c.loop-at.count c.loop-at.at c.line_size-size.result _ c.loop-at.invariant.1 c.line_size-size.ensures,
-      omega arith,
-      right_there _ _ _ _ _ _ c.loop-at.invariant.1 c.line_size-size.ensures c.line_at-line.ensures _ c.loop-at.invariant.3 (right (goal.at.loop-at-preserved c).Else-not-line_stands) (rw c.name_size.ensures at c.if-name_size-to.false),
-    )
+loop-at-preserved c = (
+  within (goal.at.loop-at-preserved c).Else-not-line_stands,
+  next_place c.loop-at.count c.loop-at.at c.line_size-size.result _ c.loop-at.invariant.1 c.line_size-size.ensures,
+  omega arith,
+  right_there _ _ _ _ _ _ c.loop-at.invariant.1 c.line_size-size.ensures c.line_at-line.ensures _ c.loop-at.invariant.3 (right (goal.at.loop-at-preserved c).Else-not-line_stands) (rw c.name_size.ensures at c.if-name_size-to.false),
+)
 
 pub returns : goal.returns
 returns c = (omega arith, c.loop-at.invariant.3)

@@ -18,11 +18,10 @@ use Rattle.mover.proofs.written.put_lines.Goals.{After-line_at, In-loop-line}
 lines_left :
     (c : In-loop-line)
     → (c.loop-line.start + line_size_in c.args.from ≤ length c.args.source.now) × (c.loop-line.at + line_size_in c.args.to ≤ length c.args.target.now)
-lines_left c =
-    (
-      room_for_next c.loop-line.line c.args.count _ c.loop-line.start _ (omega arith) (omega arith) c.loop-line.invariant.1,
-      room_for_next c.loop-line.line c.args.count _ c.loop-line.at _ (omega arith) (omega arith) c.loop-line.invariant.2,
-    )
+lines_left c = (
+  room_for_next c.loop-line.line c.args.count _ c.loop-line.start _ (omega arith) (omega arith) c.loop-line.invariant.1,
+  room_for_next c.loop-line.line c.args.count _ c.loop-line.at _ (omega arith) (omega arith) c.loop-line.invariant.2,
+)
 
 -- the line that is put is the next piece of the source
 next-piece :
@@ -41,15 +40,14 @@ put_line-requires c =
     record { from_le_name_room = (omega arith, omega arith); line_value = (ap (line_moves c.args.from c.args.to) (next-piece (goal.at.put_line-requires c).After-line_at) ∙ c.requires.all_move c.loop-line.line (omega arith), omega arith) }
 
 pub loop-line-preserved : goal.loop-line-preserved
-loop-line-preserved c =
-    (
-      omega arith,
-      next_place c.loop-line.line c.loop-line.start c.line_size-old_size.result _ c.loop-line.invariant.1 c.line_size-old_size.ensures,
-      next_place c.loop-line.line c.loop-line.at c.line_size-new_size.result _ c.loop-line.invariant.2 c.line_size-new_size.ensures,
-      search rules,
-      c.put_line.ensures
-          ∙ pieces_turn c.args.from c.args.to c.loop-line.line c.loop-line.at c.args.source.now _ c.args.target.now c.loop-line.target (λ k below. c.requires.all_move k (omega arith)) c.loop-line.invariant.2 (next-piece (goal.at.loop-line-preserved c).After-line_at) c.loop-line.invariant.4,
-    )
+loop-line-preserved c = (
+  omega arith,
+  next_place c.loop-line.line c.loop-line.start c.line_size-old_size.result _ c.loop-line.invariant.1 c.line_size-old_size.ensures,
+  next_place c.loop-line.line c.loop-line.at c.line_size-new_size.result _ c.loop-line.invariant.2 c.line_size-new_size.ensures,
+  search rules,
+  c.put_line.ensures
+      ∙ pieces_turn c.args.from c.args.to c.loop-line.line c.loop-line.at c.args.source.now _ c.args.target.now c.loop-line.target (λ k below. c.requires.all_move k (omega arith)) c.loop-line.invariant.2 (next-piece (goal.at.loop-line-preserved c).After-line_at) c.loop-line.invariant.4,
+)
 
 pub returns : goal.returns
 returns c =

@@ -13,12 +13,11 @@ pub loop-i-init : goal.loop-i-init
 loop-i-init c = (omega arith, refl, laid_nothing c.args.target.now c.args.at)
 
 pub loop-i-preserved : goal.loop-i-preserved
-loop-i-preserved c =
-    (
-      omega arith,
-      simp length-set c.loop-i.invariant.1,
-      laid_turn c.args.target.now c.loop-i.target (replicate c.loop-i.i zero_digit) (replicate (c.loop-i.i + 1) zero_digit) c.args.at c.loop-i.i zero_digit c.loop-i.invariant.2 (length-replicate c.loop-i.i zero_digit) (sym (replicate-append-replicate c.loop-i.i 1 zero_digit)) (omega arith),
-    )
+loop-i-preserved c = (
+  omega arith,
+  simp length-set c.loop-i.invariant.1,
+  laid_turn c.args.target.now c.loop-i.target (replicate c.loop-i.i zero_digit) (replicate (c.loop-i.i + 1) zero_digit) c.args.at c.loop-i.i zero_digit c.loop-i.invariant.2 (length-replicate c.loop-i.i zero_digit) (sym (replicate-append-replicate c.loop-i.i 1 zero_digit)) (omega arith),
+)
 
 pub returns : goal.returns
 returns c =
