@@ -17,7 +17,7 @@ use crate::stored::{self, card_lines};
 const READ_ONCE: &str = "0100000000\n";
 
 /// Texts of which the instructions are counted, besides those of document 01.
-const COUNTED: [&str; 4] = ["5ms ago", "1s and 200ms", "1min 30s 250ms", "1.5min"];
+const COUNTED: [&str; 3] = ["5ms ago", "1s and 200ms", "1min 30s 250ms"];
 
 /// Digits alone, as many as a text may have and one more.
 const DIGITS: [usize; 3] = [2_048, 4_096, 4_097];

@@ -58,8 +58,7 @@ pub extern "C" fn herovinga_write(
     put_answer(written, answer)
 }
 
-// The total goes by value: entries::add_total takes it as a reference to a record, a form that the borrow checker does not cover, and
-// what C lends is words. On a refusal nothing is stored, since the words need not be those that a length has, as 5 for a minus.
+// The total goes by value: entries::add_total takes a reference to a record, and what C lends is words. On a refusal nothing is stored, since the words need not be those that a length has, as 5 for a minus.
 #[unsafe(no_mangle)]
 pub extern "C" fn herovinga_add_total<'a>(
     total: &mut [u64; 3],

@@ -5,7 +5,7 @@ use Rattle.std.proofs.Common.{sym, ap, ◌∙◌, arith}
 use Rattle.std.proofs.lemmas.Bool.{false≢true}
 use Rattle.rules.specs.declared.Settings.{Settings}
 use Rattle.rules.specs.declared.Refusal.{Refusal}
-use Rattle.rules.specs.Common.{if◌then◌else◌, all}
+use Rattle.rules.specs.Common.{when◌then◌else◌, all}
 use Rattle.rules.specs.NumbersHandedBack as numbers
 use Rattle.rules.specs.NumbersHandedBack.{refused, position}
 use Rattle.rules.specs.SettingsAndUnitTable.{Card}
@@ -24,23 +24,23 @@ use Rattle.exponent_place.specs.OtherNumbers.{IfOutOfRange, other_numbers}
 -- ---- what an exponent out of range is refused with
 
 passed_number : (negative : Bool) (q : ℕ) → numbers.number (exponent_passed negative q) ≡ number_of negative
-unfolding numbers.number exponent_passed if◌then◌else◌
+unfolding numbers.number exponent_passed when◌then◌else◌
 passed_number true q = refl
 passed_number false q = refl
 
 passed_position : (negative : Bool) (q : ℕ) → position (exponent_passed negative q) ≡ q
-unfolding position exponent_passed if◌then◌else◌
+unfolding position exponent_passed when◌then◌else◌
 passed_position true q = refl
 passed_position false q = refl
 
 number_out : (negative : Bool) → out_of_range (number_of negative) ≡ true
-unfolding out_of_range if◌then◌else◌
+unfolding out_of_range when◌then◌else◌
 number_out true = refl
 number_out false = refl
 
 -- the number tells the sign
 same_sign : (n m : Bool) → number_of n ≡ number_of m → n ≡ m
-unfolding if◌then◌else◌
+unfolding when◌then◌else◌
 same_sign true true e = refl
 same_sign false false e = refl
 same_sign true false e = absurd (omega arith)

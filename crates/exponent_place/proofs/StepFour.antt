@@ -9,7 +9,7 @@ use borrow.Author.Tests.{leb-true, leb-false, le-leb, lt-leb, not-false}
 use Rattle.std.proofs.Math.Seq.{slice}
 use Rattle.rules.specs.declared.Settings.{Settings}
 use Rattle.rules.specs.declared.Refusal.{Refusal}
-use Rattle.rules.specs.Common.{if◌then◌else◌, sees, front, run}
+use Rattle.rules.specs.Common.{when◌then◌else◌, sees, front, run}
 use Rattle.rules.specs.NumbersHandedBack.{refused, number}
 use Rattle.rules.specs.SettingsAndUnitTable.{DIGIT, is}
 use Rattle.rules.specs.ReadingOnePart.{same_letter, exponent_limit, exponent_passed, exponent_digits, exponent_number, exponent_step}
@@ -25,10 +25,10 @@ use Rattle.exponent_place.specs.OtherNumbers.{IfOutOfRange, by_other}
 
 -- where a run goes on, it has begun
 front_begun : (test : ℕ → Bool) (b : ℕ) (rest : List ℕ) (k : ℕ) → k < front test (b ∷ rest) → test b ≡ true
-unfolding front if◌then◌else◌
+unfolding front when◌then◌else◌
 front_begun test b rest k h = go (test b) h
   where
-    go : (c : Bool) → k < (if c then suc (front test rest) else 0) → c ≡ true
+    go : (c : Bool) → k < (when c then suc (front test rest) else 0) → c ≡ true
     go true h = refl
     go false h = absurd (omega arith)
 
@@ -54,7 +54,7 @@ module _ (negative : Bool) where
       (λ passed. refused_by (0, ap (exponent_passed negative) (omega arith), (omega (arith, more), h, leb-false _ _ passed))))
 
   pub digits_refuse : (rest : List ℕ) (power place k : ℕ) → PassedFrom rest power k → exponent_digits negative rest power place ≡ refused (exponent_passed negative (place + k))
-  unfolding exponent_digits spelled front if◌then◌else◌
+  unfolding exponent_digits spelled front when◌then◌else◌
   digits_refuse [] power place k (below, before, past) = absurd (omega arith)
   digits_refuse (b ∷ rest) power place zero (below, before, past) =
       rw (front_begun (is DIGIT) b rest zero below, lt-leb (power * 10 + (b - 48)) (exponent_limit negative) past) (ap (λ q. refused (exponent_passed negative q)) (omega arith))

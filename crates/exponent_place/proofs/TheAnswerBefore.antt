@@ -5,7 +5,7 @@ use Rattle.std.proofs.Common.{ap}
 use Rattle.rules.specs.declared.Length.{Length}
 use Rattle.rules.specs.declared.Refusal.{Refusal}
 use Rattle.rules.specs.declared.Refusal.TheVariants.{Nothing, SignEnds, DelimiterEnds, FractionOff, FractionEmpty, ExponentOff, ExponentByte, ExponentEnds, ExponentAbove, ExponentBelow, InfinityByte, InfinityEnds, InfinityGoesOn, ConjunctionEnds, ConjunctionGoesOn, NegativeForbidden, NoNumber, NoUnit, OutOfRange, Delimiters, Conjunctions, DefaultKind, TableSize, BadRow, LineSize, BadLineRow, NumeralsSize, BadNumeral, WrongIndex, WrongLineIndex, TextTooLong, NoRoom, Beyond, Malformed, NotIso, YearOrMonth, TooLarge, NoStoredRow, NameTooLong}
-use Rattle.rules.specs.Common.{if◌then◌else◌}
+use Rattle.rules.specs.Common.{when◌then◌else◌}
 use Rattle.rules.specs.NumbersHandedBack.{number, position, refusal}
 use Rattle.rules.specs.SettingsAndUnitTable.{Card}
 use Rattle.rules.specs.WhatEveryEntryOwes.{part_answer, total_answer, write_answer, shift_answer}
@@ -16,7 +16,7 @@ use Rattle.exponent_place.specs.TheWrongDigit.{out_of_range}
 use Rattle.exponent_place.specs.TheAnswerBefore.{position_before, before, fold_position, folded}
 
 position_folded : (cause : Refusal) → fold_position (number cause) (position cause) ≡ position_before cause
-unfolding fold_position out_of_range if◌then◌else◌ number position position_before
+unfolding fold_position out_of_range when◌then◌else◌ number position position_before
 position_folded (Nothing p) = refl
 position_folded (SignEnds p) = refl
 position_folded (DelimiterEnds p) = refl
@@ -59,7 +59,7 @@ position_folded (NameTooLong i) = refl
 
 -- of every refusal, and of nothing else
 folds : Folds before folded
-unfolding before folded fold_position refusal out_of_range if◌then◌else◌
+unfolding before folded fold_position refusal out_of_range when◌then◌else◌
 folds = record {
   refusals = λ cause. ap (λ place. refused_at (number cause) place) (position_folded cause);
   others = λ a read. rw read refl;

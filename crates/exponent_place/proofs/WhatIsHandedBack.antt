@@ -2,7 +2,7 @@
 -- and it says so wherever there is one. Of every entry that reads, whatever its arguments. Assumes nothing.
 use Rattle.std.specs.Prelude.{◌≡◌, refl, Bool, true, false, List, ◌↔◌, ℕ}
 use Rattle.rules.specs.declared.Length.{Length}
-use Rattle.rules.specs.Common.{if◌then◌else◌}
+use Rattle.rules.specs.Common.{when◌then◌else◌}
 use Rattle.rules.specs.SettingsAndUnitTable.{Card}
 use Rattle.rules.specs.WhatEveryEntryOwes.{part_answer, total_answer, shift_answer}
 use Rattle.rules.proofs.Laws.Refusals.{among}
@@ -14,7 +14,7 @@ use Rattle.exponent_place.proofs.ExactlyThere.{part_exactly}
 
 -- no check refuses by 3 or 4
 no_check : (negative : Bool) → of_the_text (number_of negative) ≡ true
-unfolding of_the_text among if◌then◌else◌
+unfolding of_the_text among when◌then◌else◌
 no_check true = refl
 no_check false = refl
 

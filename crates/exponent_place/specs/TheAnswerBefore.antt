@@ -5,7 +5,7 @@ use Prim.Native.String.{String}
 use Rattle.rules.specs.declared.Answer.{Answer}
 use Rattle.rules.specs.declared.Refusal.{Refusal}
 use Rattle.rules.specs.declared.Refusal.TheVariants.{Nothing, SignEnds, DelimiterEnds, FractionOff, FractionEmpty, ExponentOff, ExponentByte, ExponentEnds, ExponentAbove, ExponentBelow, InfinityByte, InfinityEnds, InfinityGoesOn, ConjunctionEnds, ConjunctionGoesOn, NegativeForbidden, NoNumber, NoUnit, OutOfRange, Delimiters, Conjunctions, DefaultKind, TableSize, BadRow, LineSize, BadLineRow, NumeralsSize, BadNumeral, WrongIndex, WrongLineIndex, TextTooLong, NoRoom, Beyond, Malformed, NotIso, YearOrMonth, TooLarge, NoStoredRow, NameTooLong}
-use Rattle.rules.specs.Common.{if◌then◌else◌, ascii}
+use Rattle.rules.specs.Common.{when◌then◌else◌, ascii}
 use Rattle.rules.specs.ThePartOfTheCrateWeTake.{longest_text}
 use Rattle.rules.specs.NumbersHandedBack.{number, position}
 use Rattle.rules.specs.WhatEveryEntryOwes.{total_answer}
@@ -65,7 +65,7 @@ before = record { number = number; position = position_before }
 -- ---- folded back: the place of 3 and 4 is 0 again, and nothing else is touched
 
 unfoldable pub fold_position : ℕ → ℕ → ℕ
-fold_position number position = if out_of_range number then 0 else position
+fold_position number position = when out_of_range number then 0 else position
 
 unfoldable pub folded : Answer → Answer
 folded a = record { number = a.number; position = fold_position a.number a.position; length = a.length }

@@ -2,7 +2,7 @@
 -- is named by the place of its `e`. Assumes nothing.
 use Rattle.std.specs.Prelude.{◌≡◌, Bool, true, ◌||◌, List, ℕ, suc, ◌+◌, ◌≤◌, ◌<◌, eqb}
 use Rattle.std.proofs.Math.Seq.{slice}
-use Rattle.rules.specs.Common.{if◌then◌else◌, sees, run}
+use Rattle.rules.specs.Common.{when◌then◌else◌, sees, run}
 use Rattle.rules.specs.SettingsAndUnitTable.{DIGIT, SIGN, is, Card}
 use Rattle.rules.specs.ReadingOnePart.{same_letter, exponent_limit}
 use Rattle.rules.specs.Evaluation.{spelled}
@@ -16,7 +16,7 @@ minus_behind text e = sees (eqb 45) text (e + 1)
 
 -- the digits begin behind the sign, if there is one, else behind the `e`
 unfoldable pub first_digit : List ℕ → ℕ → ℕ
-first_digit text e = if sees (is SIGN) text (e + 1) then e + 2 else e + 1
+first_digit text e = when sees (is SIGN) text (e + 1) then e + 2 else e + 1
 
 -- the power that the digits before a place spell
 unfoldable pub power_before : List ℕ → ℕ → ℕ → ℕ
@@ -44,7 +44,7 @@ pub record WrongDigit (card : Card) (text : List ℕ) (from : ℕ) (negative : B
 
 -- 3, or 4 for one below zero
 abbrev pub number_of : Bool → ℕ
-number_of negative = if negative then 4 else 3
+number_of negative = when negative then 4 else 3
 
 -- these numbers
 unfoldable pub out_of_range : ℕ → Bool

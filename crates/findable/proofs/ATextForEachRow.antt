@@ -14,7 +14,7 @@ use Rattle.rules.specs.declared.Settings.{Settings}
 use Rattle.rules.specs.declared.Scaled.{Scaled}
 use Rattle.rules.specs.declared.DurationRepr.{DurationRepr}
 use Rattle.rules.specs.declared.Repr.TheVariants.{Typed}
-use Rattle.rules.specs.Common.{if◌then◌else◌, ascii, between, all, runs, ends, starts, sees, run}
+use Rattle.rules.specs.Common.{when◌then◌else◌, ascii, between, all, runs, ends, starts, sees, run}
 use Rattle.rules.specs.ThePartOfTheCrateWeTake.{zero_length, size}
 use Rattle.rules.specs.NumbersHandedBack.{got, ◌>>=◌}
 use Rattle.rules.specs.SettingsAndUnitTable.{DIGIT, SIGN, POINT, OTHER, class, is, is_next_duration, lower, holds, empty, may_name, settings_check, row_size, rows, row, name, product, led_by_e, e_may_lead, can_be_typed, row_right, Card, Holder, stands, find_row}
@@ -72,7 +72,7 @@ no_nanos c = rw (mul-zero c)
 -- ---- what the text has before the name: `0`, and `e`
 
 fixed : (is DIGIT 48 ≡ true) × (is SIGN 48 ≡ false) × (is DIGIT 101 ≡ false) × (is POINT 101 ≡ false)
-unfolding is class between if◌then◌else◌
+unfolding is class between when◌then◌else◌
 fixed = (refl, refl, refl, refl)
 
 no_zero : (rest : List ℕ) → starts (is DIGIT) rest ≡ false → starts (eqb 48) rest ≡ false
@@ -87,7 +87,7 @@ no_zero (b ∷ rest) e = go (eqb 48 b) refl
 -- ---- the first byte that a set holds
 
 held_first : (set : ByteSet) (n b : ℕ) → runs (λ k. not (holds set k)) b n ≡ false → (holds set (first_held set b n) ≡ true) × (first_held set b n < b + n)
-unfolding runs first_held if◌then◌else◌
+unfolding runs first_held when◌then◌else◌
 held_first set zero b e = absurd (false≢true (sym e))
 held_first set (suc n) b e = go (holds set b) refl e (held_first set n (suc b))
   where
@@ -98,7 +98,7 @@ held_first set (suc n) b e = go (holds set b) refl e (held_first set n (suc b))
         (held : Bool) → holds set b ≡ held
         → (not held && others) ≡ false
         → (others ≡ false → (holds set (first_held set (suc b) n) ≡ true) × (first_held set (suc b) n < suc b + n))
-        → (holds set (if held then b else first_held set (suc b) n) ≡ true) × ((if held then b else first_held set (suc b) n) < b + suc n)
+        → (holds set (when held then b else first_held set (suc b) n) ≡ true) × ((when held then b else first_held set (suc b) n) < b + suc n)
     go true at e more = (at, omega arith)
     go false at e more = ((more e).0, omega (arith, (more e).1))
 
@@ -108,7 +108,7 @@ unfolding is
 other_class c d apart other = ne_eqb (class d) c (λ e. apart (sym e ∙ other))
 
 other_not_e : (d : ℕ) → d < 256 → class d ≡ OTHER → same_letter 101 d ≡ false
-unfolding runs is class same_letter lower between if◌then◌else◌
+unfolding runs is class same_letter lower between when◌then◌else◌
 other_not_e d below other =
     let apart : (not (is OTHER d) || not (same_letter 101 d)) ≡ true = runs_below (λ k. not (is OTHER k) || not (same_letter 101 k)) 256 d refl below in
     not-true (same_letter 101 d) (rw (eq-eqb (class d) OTHER other) at apart)
@@ -116,11 +116,11 @@ other_not_e d below other =
 -- ---- an exponent of zero, and one delimiter
 
 zero_exponent : (s : Settings) (b : ℕ) (m : List ℕ) → s.exponents ≡ true → is DIGIT b ≡ false → exponent_step s (48 ∷ 101 ∷ 48 ∷ b ∷ m) 1 ≡ got (record { exponent = record { negative = false; power = 0 }; next = 3 })
-unfolding exponent_step exponent_number exponent_digits exponent_limit sees starts same_letter lower between if◌then◌else◌
+unfolding exponent_step exponent_number exponent_digits exponent_limit sees starts same_letter lower between when◌then◌else◌
 zero_exponent s b m on no_digit = rw (on, fixed.1, fixed.0, no_digit)
 
 one_delimiter : (s : Settings) (d b : ℕ) (m : List ℕ) → s.before_unit ≡ true → holds s.inner d ≡ true → holds s.inner b ≡ false → gap s.before_unit s (48 ∷ d ∷ b ∷ m) 1 ≡ got 2
-unfolding gap delimiters sees starts all if◌then◌else◌
+unfolding gap delimiters sees starts all when◌then◌else◌
 one_delimiter s d b m on held other =
     rw (on, held, run_over (48 ∷ d ∷ b ∷ m) 1 (d ∷ []) (b ∷ m) refl (holds s.inner) (and_both held refl) other, goes_on (48 ∷ d ∷ b ∷ m) 2 refl)
 
@@ -142,15 +142,15 @@ module _ (card : Card) where
     run_one test passes stops = run_over text 0 (48 ∷ []) rest refl test passes stops
 
     no_sign : sign_step s text 0 ≡ got (record { negative = false; next = 0 })
-    unfolding sign_step sees starts is class between if◌then◌else◌
+    unfolding sign_step sees starts is class between when◌then◌else◌
     no_sign = refl
 
     a_digit : sees (λ b. is DIGIT b || is POINT b) text 0 ≡ true
-    unfolding sees starts is class between if◌then◌else◌
+    unfolding sees starts is class between when◌then◌else◌
     a_digit = refl
 
     the_zero : number_step s text 0 ≡ got (record { whole = record { start = 1; end = 1 }; fract = record { start = 1; end = 1 }; next = 1 })
-    unfolding number_step fraction_step sees all if◌then◌else◌
+    unfolding number_step fraction_step sees all when◌then◌else◌
     the_zero = rw (run_one (eqb 48) refl (no_zero rest no_digit), run_one (is DIGIT) (and_both fixed.0 refl) no_digit, no_point)
 
     -- up to the name at the place nothing is refused, and the lookup finds the name
@@ -191,7 +191,7 @@ module _ (card : Card) where
         the_row = ap (row_held card) the_name
 
         the_unit : unit_step card text place ≡ got (record { multiplier = product (row_held card at); next = end })
-        unfolding unit_step ago_step if◌then◌else◌
+        unfolding unit_step ago_step when◌then◌else◌
         the_unit = rw (the_row, a_row card text place (row_held card at) found.1, to_end, no_more (holds s.inner), and_false s.ago)
 
         abbrev repr : DurationRepr
@@ -214,29 +214,29 @@ module _ (card : Card) where
             ∙ bind_got _ (connection_none s text end (no_more (holds s.outer)))
 
         the_part : part card text 0 ≡ got (record { repr = Typed repr; next = end })
-        unfolding part unsigned_part if◌then◌else◌
+        unfolding part unsigned_part when◌then◌else◌
         the_part = rw (goes_on text 0 refl) (bind_got _ no_sign ∙ rw a_digit the_number)
 
         -- it comes to zero, whatever the row
         nothing : evaluate text repr ≡ zero_length
-        unfolding evaluate digits_of spelled if◌then◌else◌
+        unfolding evaluate digits_of spelled when◌then◌else◌
         nothing = rw (no_attos, no_nanos, no_length)
 
         the_reading : part_reading card text 0 ≡ got (record { length = zero_length; next = end })
-        unfolding part_reading evaluated allowed zero_length if◌then◌else◌
+        unfolding part_reading evaluated allowed zero_length when◌then◌else◌
         the_reading = bind_got _ the_part ∙ bind_got _ (ap got nothing)
 
         finds_row : unit_of card text 0 ≡ got at
-        unfolding unit_of unsigned_unit number_unit if◌then◌else◌
+        unfolding unit_of unsigned_unit number_unit when◌then◌else◌
         finds_row = bind_got _ no_sign ∙ rw a_digit (bind_got _ the_zero ∙ bind_got _ typed_exponent ∙ bind_got _ typed_gap ∙ ap got the_name)
 
         -- the text can be read, and it finds the row
         is_read : total card text ≡ got zero_length
-        unfolding total parts sum_all sum size length_of zero_length if◌then◌else◌ ◌>>=◌
+        unfolding total parts sum_all sum size length_of zero_length when◌then◌else◌ ◌>>=◌
         is_read = rw (the_reading, at_end)
 
         is_found : finds card text at ≡ true
-        unfolding finds units counted among_got among if◌then◌else◌ ◌>>=◌
+        unfolding finds units counted among_got among when◌then◌else◌ ◌>>=◌
         is_found = rw (the_part, the_reading, finds_row, at_end, holder_same at)
 
         reads : Reads card at text
@@ -260,7 +260,7 @@ module _ (card : Card) where
 
     -- `0s`
     plain : led_by_e named ≡ false → Reads card at (48 ∷ named)
-    unfolding led_by_e starts sees same_letter lower between if◌then◌else◌
+    unfolding led_by_e starts sees same_letter lower between when◌then◌else◌
     plain unled =
         let exponent = exponent_none s (48 ∷ named) 1 unled in
         reads named first.2 first.4 at 1 _ exponent (no_gap (48 ∷ named) 1 refl) named refl stretches found
@@ -286,7 +286,7 @@ module _ (card : Card) where
   -- ---- every name that can be typed
 
   typed_text : settings_check s ≡ got tt → (n : List ℕ) → (n ≡ [] → ⊥) → all (may_name s) n ≡ true → can_be_typed s n ≡ true → (at : Holder) → FoundAt n at → Reads card at (text_for s n)
-  unfolding text_for joint can_be_typed e_may_lead empty ascii if◌then◌else◌
+  unfolding text_for joint can_be_typed e_may_lead empty ascii when◌then◌else◌
   typed_text good [] some may typed at found = absurd (some refl)
   typed_text good (b ∷ m) some may typed at found = go (led_by_e (b ∷ m)) s.exponents refl refl typed
     where
@@ -296,7 +296,7 @@ module _ (card : Card) where
       go :
           (led on : Bool) → led_by_e (b ∷ m) ≡ led → s.exponents ≡ on
           → (not led || (on || s.before_unit && not (empty s.inner))) ≡ true
-          → Reads card at (48 ∷ (if not led then [] else if on then ascii "e0" else d ∷ []) ++ b ∷ m)
+          → Reads card at (48 ∷ (when not led then [] else when on then ascii "e0" else d ∷ []) ++ b ∷ m)
       go false on e f may_lead = plain b m may at found e
       go true true e f may_lead = with_exponent b m may at found f
       go true false e f may_lead =

@@ -9,7 +9,7 @@ use Rattle.std.proofs.Math.Seq.{slice, drop-nil}
 use borrow.Author.Tests.{not-true, not-false}
 use Rattle.rules.specs.declared.ByteSet.{ByteSet}
 use Rattle.rules.specs.declared.Settings.{Settings}
-use Rattle.rules.specs.Common.{if◌then◌else◌, between, starts, sees, run}
+use Rattle.rules.specs.Common.{when◌then◌else◌, between, starts, sees, run}
 use Rattle.rules.specs.NumbersHandedBack.{got}
 use Rattle.rules.specs.SettingsAndUnitTable.{lower, word, holds, empty, name_size, name, led_by_e, e_may_lead, can_be_typed, Card, Holder, Neither, stands, held_row}
 use Rattle.rules.specs.ReadingOnePart.{same_letter, gap, sign_step, number_step, exponent_step, in_stretch}
@@ -51,7 +51,7 @@ starts_none test none [] = refl
 starts_none test none (b ∷ rest) = none b
 
 gap_off : (s : Settings) (text : List ℕ) (place : ℕ) → gap false s text place ≡ got place
-unfolding gap if◌then◌else◌
+unfolding gap when◌then◌else◌
 gap_off s text place = refl
 
 -- ---- where no `e` can lead a name, none stands at the place where a unit is looked up
@@ -82,7 +82,7 @@ slice_starts test (suc from) (suc to) [] e = refl
 slice_starts test (suc from) (suc to) (b ∷ text) e = slice_starts test from to text e
 
 not_led : (from to : ℕ) (text : List ℕ) → sees (same_letter 101) text from ≡ false → led_by_e (slice from to text) ≡ false
-unfolding sees led_by_e same_letter lower between if◌then◌else◌
+unfolding sees led_by_e same_letter lower between when◌then◌else◌
 not_led from to text e = slice_starts (same_letter 101) from to text e
 
 -- ---- a part

@@ -5,7 +5,7 @@ use Rattle.std.proofs.Math.Seq.{slice}
 use Rattle.rules.specs.declared.Repr.{Repr}
 use Rattle.rules.specs.declared.Repr.TheVariants.{Typed, Spoken}
 use Rattle.rules.specs.declared.Refusal.TheVariants.{Nothing, NoNumber}
-use Rattle.rules.specs.Common.{if◌then◌else◌, ends, sees, run}
+use Rattle.rules.specs.Common.{when◌then◌else◌, ends, sees, run}
 use Rattle.rules.specs.NumbersHandedBack.{Outcome, got, refused, ◌>>=◌}
 use Rattle.rules.specs.SettingsAndUnitTable.{DIGIT, POINT, is, Card, Holder, Line, Hall, Neither, stands}
 use Rattle.rules.specs.ReadingOnePart.{gap, sign_step, number_step, exponent_step, in_stretch, part}
@@ -27,7 +27,7 @@ number_unit card text place = do
 
 -- infinity has no unit
 unfoldable pub unsigned_unit : Card → List ℕ → ℕ → Outcome Holder
-unsigned_unit card text place = if sees (λ b. is DIGIT b || is POINT b) text place then number_unit card text place else got Neither
+unsigned_unit card text place = when sees (λ b. is DIGIT b || is POINT b) text place then number_unit card text place else got Neither
 
 unfoldable pub unit_of : Card → List ℕ → ℕ → Outcome Holder
 unit_of card text place = sign_step card.settings text place >>= λ signed. unsigned_unit card text signed.next
@@ -50,7 +50,7 @@ units card text (suc n) place =
     counted card text place p.repr
     >>= λ unit.
     let others = units card text n r.next in
-    if ends text r.next then got (unit ∷ []) else (others >>= λ more. got (unit ∷ more))
+    when ends text r.next then got (unit ∷ []) else (others >>= λ more. got (unit ∷ more))
 
 -- at the same row of the same table, or both in neither
 unfoldable pub same_holder : Holder → Holder → Bool

@@ -8,7 +8,7 @@ use Rattle.rules.specs.declared.Found.{Found}
 use Rattle.rules.specs.declared.Found.TheVariants.{Row, Nowhere}
 use Rattle.rules.specs.declared.Refusal.{Refusal}
 use Rattle.rules.specs.declared.Refusal.TheVariants.{BadRow, WrongIndex, WrongLineIndex, Beyond}
-use Rattle.rules.specs.Common.{if◌then◌else◌, same}
+use Rattle.rules.specs.Common.{when◌then◌else◌, same}
 use Rattle.rules.specs.ThePartOfTheCrateWeTake.{zero_length}
 use Rattle.rules.specs.NumbersHandedBack.{Outcome, got, refused, ◌>>◌, unless, number, position, done, answered}
 use Rattle.rules.specs.SettingsAndUnitTable.{settings_check, row_size, rows, row, name, rows_check, table_check, Card, card_check, Holder, Line, Hall, Neither, line_first}
@@ -26,7 +26,7 @@ unfoldable pub order : List ℕ → List ℕ → Order
 order [] [] = Same
 order [] (b ∷ bs) = Before
 order (a ∷ more) [] = After
-order (a ∷ more) (b ∷ bs) = if ltb a b then Before else if ltb b a then After else order more bs
+order (a ∷ more) (b ∷ bs) = when ltb a b then Before else when ltb b a then After else order more bs
 
 unfoldable pub is_before : Order → Bool
 is_before Before = true
@@ -41,7 +41,7 @@ before a b = is_before (order a b)
 -- how many of the numbers below n pass the test
 unfoldable pub count : (ℕ → Bool) → ℕ → ℕ
 count test zero = 0
-count test (suc n) = let others = count test n in if test n then suc others else others
+count test (suc n) = let others = count test n in when test n then suc others else others
 
 -- how many rows have a name before this one
 unfoldable pub names_before : List ℕ → List ℕ → ℕ
@@ -63,7 +63,7 @@ index_check wrong table index = do
 -- the first of the n rows from i on that has exactly k names before its own; the row behind them, if none has
 unfoldable pub ranked_from : List ℕ → ℕ → ℕ → ℕ → ℕ
 ranked_from table k i zero = i
-ranked_from table k i (suc n) = let more = ranked_from table k (suc i) n in if eqb (rank table i) k then i else more
+ranked_from table k i (suc n) = let more = ranked_from table k (suc i) n in when eqb (rank table i) k then i else more
 
 -- the n entries from k on
 unfoldable pub entries_from : List ℕ → ℕ → ℕ → List ℕ
@@ -89,7 +89,7 @@ and_then s = record { found = s.found; compared = suc s.compared }
 unfoldable pub row_search_from : List ℕ → List ℕ → ℕ → ℕ → Searched
 row_search_from table wanted i zero = no_more
 row_search_from table wanted i (suc n) =
-    let more = row_search_from table wanted (suc i) n in and_then (if same (name (row table i)) wanted then here i else more)
+    let more = row_search_from table wanted (suc i) n in and_then (when same (name (row table i)) wanted then here i else more)
 
 unfoldable pub row_search : List ℕ → List ℕ → Searched
 row_search table wanted = row_search_from table wanted 0 (rows table)
@@ -108,7 +108,7 @@ index_search_from table index wanted (suc n) low high =
     let i = get_or index middle 0 in
     let below = index_search_from table index wanted n low middle in
     let above = index_search_from table index wanted n (suc middle) high in
-    if ltb low high then and_then (by_order (order wanted (name (row table i))) below (here i) above) else no_more
+    when ltb low high then and_then (by_order (order wanted (name (row table i))) below (here i) above) else no_more
 
 unfoldable pub index_search : List ℕ → List ℕ → List ℕ → Searched
 index_search table index wanted = index_search_from table index wanted (rows table) 0 (rows table)

@@ -1,4 +1,4 @@
-// A sorted index beside a unit table: the types of what its functions hand back, and in specs/ the definitions and the laws.
+// A sorted index beside a unit table: the types of what its functions hand back; the definitions stand in specs/ and the laws in proofs/.
 #![tactic(auto)]
 
 use rules::Found;

@@ -6,7 +6,7 @@ use Rattle.rules.specs.declared.Length.{Length}
 use Rattle.rules.specs.declared.Answer.{Answer}
 use Rattle.rules.specs.declared.Reading.{Reading}
 use Rattle.rules.specs.declared.Refusal.TheVariants.{NegativeForbidden, TextTooLong, NoRoom, Beyond, Malformed, NotIso, YearOrMonth, TooLarge}
-use Rattle.rules.specs.Common.{if◌then◌else◌, between, all}
+use Rattle.rules.specs.Common.{when◌then◌else◌, between, all}
 use Rattle.rules.specs.ThePartOfTheCrateWeTake.{longest_text, nanoseconds_per_second, seconds_limit, size, well_formed}
 use Rattle.rules.specs.SettingsAndUnitTable.{DIGIT, is, kind_coefficients}
 use Rattle.rules.specs.NumbersHandedBack.{Outcome, got, refused, ◌>>=◌, ◌>>◌, unless, done, answered}
@@ -69,7 +69,7 @@ unfoldable pub right_after : ℕ → List Component → Bool
 right_after k [] = true
 right_after k (c ∷ cs) =
     let others = right_after c.kind cs in
-    right_number c && leb SECONDS c.kind && ltb c.kind k && (if closes c then none cs else others)
+    right_number c && leb SECONDS c.kind && ltb c.kind k && (when closes c then none cs else others)
 
 -- at least one
 unfoldable pub right : List Component → Bool
@@ -84,7 +84,7 @@ letter kind = get_or letters (kind - SECONDS) 0
 
 -- `T` stands before the first component below days
 unfoldable pub clock_mark : ℕ → ℕ → List ℕ
-clock_mark k kind = if leb DAYS k && ltb kind DAYS then 84 ∷ [] else []
+clock_mark k kind = when leb DAYS k && ltb kind DAYS then 84 ∷ [] else []
 
 unfoldable pub spelling_after : ℕ → List Component → List ℕ
 spelling_after k [] = []
@@ -147,39 +147,39 @@ on s = got (record { made = []; stand = s })
 -- the kind of a letter, and 0 for any other byte
 unfoldable pub kind_of : ℕ → ℕ
 kind_of b =
-    if eqb b 83 then SECONDS else if eqb b 77 then MINUTES else if eqb b 72 then HOURS else if eqb b 68 then DAYS else if eqb b 87 then WEEKS else 0
+    when eqb b 83 then SECONDS else when eqb b 77 then MINUTES else when eqb b 72 then HOURS else when eqb b 68 then DAYS else when eqb b 87 then WEEKS else 0
 
 -- before `T` weeks or days may come, after it a kind below the last
 unfoldable pub may_come : ℕ → ℕ → Bool
-may_come k kind = if leb ANY k then between DAYS WEEKS kind else leb SECONDS kind && ltb kind k
+may_come k kind = when leb ANY k then between DAYS WEEKS kind else leb SECONDS kind && ltb kind k
 
 -- `Y` or `M` where only weeks or days may come, so before `T`
 unfoldable pub year_or_month : ℕ → ℕ → Bool
 year_or_month k b = leb ANY k && (eqb b 89 || eqb b 77)
 
 unfoldable pub digit_step : ℕ → ℕ → ℕ → Outcome Move
-digit_step k place b = if is DIGIT b then on (whole k (b ∷ [])) else refused (NotIso place)
+digit_step k place b = when is DIGIT b then on (whole k (b ∷ [])) else refused (NotIso place)
 
 unfoldable pub after_letter : Component → Stand
-after_letter c = if closes c then closed else unit c.kind
+after_letter c = when closes c then closed else unit c.kind
 
 -- after a number: the letter of its unit
 unfoldable pub letter_step : ℕ → List ℕ → List ℕ → ℕ → ℕ → Outcome Move
 letter_step k ds fs place b =
     let c : Component = record { whole = ds; fraction = fs; kind = kind_of b } in
-    if may_come k (kind_of b)
+    when may_come k (kind_of b)
     then got (record { made = c ∷ []; stand = after_letter c })
-    else if year_or_month k b then refused (YearOrMonth place) else refused (NotIso place)
+    else when year_or_month k b then refused (YearOrMonth place) else refused (NotIso place)
 
 unfoldable pub step : Stand → ℕ → ℕ → Outcome Move
-step start place b = if eqb b 80 then on date else refused (NotIso place)
-step date place b = if eqb b 84 then on (wanted DAYS) else digit_step ANY place b
+step start place b = when eqb b 80 then on date else refused (NotIso place)
+step date place b = when eqb b 84 then on (wanted DAYS) else digit_step ANY place b
 step (wanted k) place b = digit_step k place b
 step (whole k ds) place b =
-    if is DIGIT b then on (whole k (ds ++ b ∷ [])) else if is_mark b then on (mark k ds b) else letter_step k ds [] place b
-step (mark k ds m) place b = if is DIGIT b then on (fraction k ds (m ∷ b ∷ [])) else refused (NotIso place)
-step (fraction k ds fs) place b = if is DIGIT b then on (fraction k ds (fs ++ b ∷ [])) else letter_step k ds fs place b
-step (unit k) place b = if leb DAYS k then (if eqb b 84 then on (wanted DAYS) else refused (NotIso place)) else digit_step k place b
+    when is DIGIT b then on (whole k (ds ++ b ∷ [])) else when is_mark b then on (mark k ds b) else letter_step k ds [] place b
+step (mark k ds m) place b = when is DIGIT b then on (fraction k ds (m ∷ b ∷ [])) else refused (NotIso place)
+step (fraction k ds fs) place b = when is DIGIT b then on (fraction k ds (fs ++ b ∷ [])) else letter_step k ds fs place b
+step (unit k) place b = when leb DAYS k then (when eqb b 84 then on (wanted DAYS) else refused (NotIso place)) else digit_step k place b
 step closed place b = refused (NotIso place)
 
 -- a text may end after a letter
@@ -195,7 +195,7 @@ may_end (fraction k ds fs) = false
 
 -- the components that the rest of a text adds
 unfoldable pub read_from : Stand → ℕ → List ℕ → Outcome (List Component)
-read_from s place [] = if may_end s then got [] else refused (NotIso place)
+read_from s place [] = when may_end s then got [] else refused (NotIso place)
 read_from s place (b ∷ rest) = step s place b >>= λ m. read_from m.stand (suc place) rest >>= λ cs. got (m.made ++ cs)
 
 unfoldable pub components : List ℕ → Outcome (List Component)
@@ -203,7 +203,7 @@ components text = read_from start 0 text
 
 -- so many nanoseconds, unless they are beyond the largest length
 unfoldable pub held : ℕ → Outcome Length
-held n = if ltb n (seconds_limit * nanoseconds_per_second) then got (length_of false n) else refused TooLarge
+held n = when ltb n (seconds_limit * nanoseconds_per_second) then got (length_of false n) else refused TooLarge
 
 -- 8, then 12 and 13 from left to right, and 14 last
 unfoldable pub read_iso : List ℕ → Outcome Length
@@ -220,12 +220,12 @@ component kind number nanoseconds = record { whole = whole_digits number; fracti
 
 -- one of zero is left out
 unfoldable pub unless_zero : ℕ → ℕ → ℕ → List Component
-unless_zero kind number nanoseconds = if eqb number 0 && eqb nanoseconds 0 then [] else component kind number nanoseconds ∷ []
+unless_zero kind number nanoseconds = when eqb number 0 && eqb nanoseconds 0 then [] else component kind number nanoseconds ∷ []
 
 -- hours, minutes and seconds, the last two below 60; seconds alone for zero
 unfoldable pub components_of : Length → List Component
 components_of l =
-    if eqb (size l) 0
+    when eqb (size l) 0
     then component SECONDS 0 0 ∷ []
     else unless_zero HOURS (l.seconds / 3600) 0 ++ unless_zero MINUTES (l.seconds / 60 % 60) 0 ++ unless_zero SECONDS (l.seconds % 60) l.nanoseconds
 

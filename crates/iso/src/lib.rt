@@ -1,3 +1,3 @@
-// ISO timings: only definitions and laws, which stand in specs/.
+// ISO timings: only definitions, in specs/, and laws, in proofs/.
 
 #![tactic(auto)]

@@ -12,7 +12,7 @@ use Rattle.std.proofs.Math.Seq.{slice, take_at, length-take-le}
 use Rattle.rules.specs.declared.Length.{Length}
 use Rattle.rules.specs.declared.Reading.{Reading}
 use Rattle.rules.specs.declared.Refusal.TheVariants.{NegativeForbidden, NoRoom, Beyond, Malformed}
-use Rattle.rules.specs.Common.{if◌then◌else◌, all}
+use Rattle.rules.specs.Common.{when◌then◌else◌, all}
 use Rattle.rules.specs.NumbersHandedBack.{got, refused, ◌>>◌, unless}
 use Rattle.rules.specs.ThePartOfTheCrateWeTake.{nanoseconds_per_second, seconds_limit, longest_text, size, well_formed}
 use Rattle.rules.specs.SettingsAndUnitTable.{DIGIT, is, kind_coefficients}
@@ -60,7 +60,7 @@ chosen_right :
     → (h m s : Bool)
     → (h ≡ false → m ≡ false → s ≡ false → ⊥)
     → right (chosen hours minutes seconds nanoseconds h m s) ≡ true
-unfolding right right_after closes none if_shown component written_fraction if◌then◌else◌
+unfolding right right_after closes none if_shown component written_fraction when◌then◌else◌
 chosen_right hours minutes seconds nanoseconds short h m s some = go h m s some
   where
     h_right : right_number (component HOURS hours 0) ≡ true
@@ -94,7 +94,7 @@ unfolding whole_worth component
 whole_of kind number nanoseconds h = rw (spelled_whole number h)
 
 fraction_none : (kind number : ℕ) → fraction_worth (component kind number 0) ≡ 0
-unfolding fraction_worth component decimals written_fraction spelled if◌then◌else◌
+unfolding fraction_worth component decimals written_fraction spelled when◌then◌else◌
 fraction_none kind number = rw (zero-mul (seconds_of kind * nanoseconds_per_second))
 
 -- the nine digits less trailing zeros are worth the nanoseconds
@@ -127,13 +127,13 @@ worth_whole :
     (kind number : ℕ) (others : List Component)
     → number < 2 ^ 64
     → nanoseconds_of (if_shown (shown false number 0) (component kind number 0) ++ others) ≡ number * seconds_of kind * nanoseconds_per_second + nanoseconds_of others
-unfolding if_shown if◌then◌else◌ component written_fraction
+unfolding if_shown when◌then◌else◌ component written_fraction
 worth_whole kind number others h = go (shown false number 0) refl
   where
     go :
         (b : Bool)
         → shown false number 0 ≡ b
-        → nanoseconds_of ((if b then component kind number 0 ∷ [] else []) ++ others) ≡ number * seconds_of kind * nanoseconds_per_second + nanoseconds_of others
+        → nanoseconds_of ((when b then component kind number 0 ∷ [] else []) ++ others) ≡ number * seconds_of kind * nanoseconds_per_second + nanoseconds_of others
     go true e = worth_first (component kind number 0) others (inl refl) ∙ rw (whole_of kind number 0 h, fraction_none kind number) (omega arith)
     go false e = rw ((left_out false number 0 e).1, zero-mul (seconds_of kind)) (omega arith)
 
@@ -142,13 +142,13 @@ worth_last :
     → number < 2 ^ 64
     → nanoseconds < 10 ^ 9
     → nanoseconds_of (if_shown (shown needed number nanoseconds) (component SECONDS number nanoseconds)) ≡ number * nanoseconds_per_second + nanoseconds
-unfolding if_shown if◌then◌else◌ seconds_of kind_coefficients
+unfolding if_shown when◌then◌else◌ seconds_of kind_coefficients
 worth_last needed number n h short = go (shown needed number n) refl
   where
     go :
         (b : Bool)
         → shown needed number n ≡ b
-        → nanoseconds_of (if b then component SECONDS number n ∷ [] else []) ≡ number * nanoseconds_per_second + n
+        → nanoseconds_of (when b then component SECONDS number n ∷ [] else []) ≡ number * nanoseconds_per_second + n
     go true e =
         worth_first (component SECONDS number n) [] (inr refl) ∙ rw (whole_of SECONDS number n h, fraction_of number n short, worth_none) (omega arith)
     go false e = let zero = left_out needed number n e in worth_none ∙ omega (arith, zero.1, zero.2)
@@ -184,7 +184,7 @@ part_few unit needed number nanoseconds k few h =
 
 -- 16 digits of hours, two of minutes, two of seconds and nine decimals, and `P`, `T`, a point and three letters
 pub written_short : (l : Length) → well_formed l ≡ true → length (iso_written l) ≤ 35
-unfolding written_fraction if◌then◌else◌
+unfolding written_fraction when◌then◌else◌
 written_short l good =
     let small : l.seconds < 2 ^ 64 = few_seconds l good in
     let hours : List ℕ = written_part 72 false (l.seconds / 3600) 0 in

@@ -6,7 +6,7 @@ use Rattle.std.proofs.Math.Bool.{false}
 use native.Mathlib.Omega.{arith}
 use Rattle.rules.specs.declared.Length.{Length}
 use Rattle.rules.specs.declared.Refusal.TheVariants.{TooLarge}
-use Rattle.rules.specs.Common.{if◌then◌else◌}
+use Rattle.rules.specs.Common.{when◌then◌else◌}
 use Rattle.rules.specs.ThePartOfTheCrateWeTake.{nanoseconds_per_second}
 use Rattle.rules.specs.NumbersHandedBack.{Outcome, got, refused}
 use Rattle.rules.specs.Evaluation.{length_of}
@@ -29,7 +29,7 @@ worth total cs = due total (nanoseconds_of cs)
 
 -- more seconds than a word holds are too many
 over : (s p n : ℕ) → 2 ^ 64 ≤ s + p → refused TooLarge ≡ held (s * nanoseconds_per_second + (p * nanoseconds_per_second + n))
-unfolding held if◌then◌else◌
+unfolding held when◌then◌else◌
 over s p n h = rw (le-ltb (s * nanoseconds_per_second + (p * nanoseconds_per_second + n)) (2 ^ 64 * nanoseconds_per_second) (omega arith))
 
 module _ (s n : ℕ) where
@@ -47,10 +47,10 @@ due_large n m = refl
 
 -- a number that no word holds
 pub word_over : (w : ℕ) → Word.TooLarge ≡ as_word w → 2 ^ 64 ≤ w
-unfolding as_word if◌then◌else◌
+unfolding as_word when◌then◌else◌
 word_over w e = go (ltb w (2 ^ 64)) refl e
   where
-    go : (b : Bool) → ltb w (2 ^ 64) ≡ b → Word.TooLarge ≡ (if b then Word.Fits w else Word.TooLarge) → 2 ^ 64 ≤ w
+    go : (b : Bool) → ltb w (2 ^ 64) ≡ b → Word.TooLarge ≡ (when b then Word.Fits w else Word.TooLarge) → 2 ^ 64 ≤ w
     go true t e = let z : ◌≡◌ {A = ℕ} 0 1 = cc in absurd (omega arith)
     go false t e = ltb-false w (2 ^ 64) t
 
@@ -71,11 +71,11 @@ add_fits s w unit some below h = omega (arith, (le-div_iff_mul-le some).0 h)
 
 module _ (s n : ℕ) where
   pub held_over : 2 ^ 64 - 1 - s < n / 10 ^ 9 → refused TooLarge ≡ due (Word.Fits s) n
-  unfolding due held if◌then◌else◌
+  unfolding due held when◌then◌else◌
   held_over h = rw (le-ltb (s * nanoseconds_per_second + n) (2 ^ 64 * nanoseconds_per_second) (omega arith))
 
   pub held_is : s < 2 ^ 64 → n / 10 ^ 9 ≤ 2 ^ 64 - 1 - s → got (record { negative = false; seconds = s + n / 10 ^ 9; nanoseconds = n % 10 ^ 9 }) ≡ due (Word.Fits s) n
-  unfolding due held if◌then◌else◌
+  unfolding due held when◌then◌else◌
   held_is below h =
       let sum : (s + n / 10 ^ 9) * 10 ^ 9 + n % 10 ^ 9 ≡ s * nanoseconds_per_second + n = omega arith in
       rw (lt-ltb (s * nanoseconds_per_second + n) (2 ^ 64 * nanoseconds_per_second) (omega arith))

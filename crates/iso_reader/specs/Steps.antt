@@ -7,7 +7,7 @@ use Rattle.std.proofs.Math.ListN.{length-take}
 use Rattle.std.proofs.Math.Seq.{slice, slice-cons, slice_empty, length-slice}
 use Rattle.std.proofs.lemmas.List.{drop-append-le}
 use Rattle.rules.specs.declared.Refusal.TheVariants.{NotIso, YearOrMonth}
-use Rattle.rules.specs.Common.{if◌then◌else◌, all, starts, sees, front, run}
+use Rattle.rules.specs.Common.{when◌then◌else◌, all, starts, sees, front, run}
 use Rattle.rules.specs.SettingsAndUnitTable.{DIGIT, is}
 use Rattle.rules.specs.NumbersHandedBack.{Outcome, got, refused, ◌>>=◌}
 use Rattle.rules.proofs.Laws.Tests.{eqb_sym}
@@ -85,11 +85,11 @@ none_short [] h = absurd (omega arith)
 none_short (x ∷ xs) h = refl
 
 front_ends : (test : ℕ → Bool) (rest : List ℕ) → starts test (drop (front test rest) rest) ≡ false
-unfolding front starts if◌then◌else◌
+unfolding front starts when◌then◌else◌
 front_ends test [] = refl
 front_ends test (b ∷ rest) = go (test b) refl (front_ends test rest)
   where
-    go : (c : Bool) → test b ≡ c → starts test (drop (front test rest) rest) ≡ false → starts test (drop (if c then suc (front test rest) else 0) (b ∷ rest)) ≡ false
+    go : (c : Bool) → test b ≡ c → starts test (drop (front test rest) rest) ≡ false → starts test (drop (when c then suc (front test rest) else 0) (b ∷ rest)) ≡ false
     go true e h = h
     go false e h = e
 
@@ -114,27 +114,27 @@ sees_mark text place = go (drop place text)
 module _ (k : ℕ) where
   -- where a digit must come and none does
   pub none_wanted : (place : ℕ) (rest : List ℕ) → starts (is DIGIT) rest ≡ false → refused (NotIso place) ≡ read_from (wanted k) place rest
-  unfolding read_from step digit_step starts may_end if◌then◌else◌ ◌>>=◌
+  unfolding read_from step digit_step starts may_end when◌then◌else◌ ◌>>=◌
   none_wanted place [] e = refl
   none_wanted place (b ∷ rest) e = rw e
 
   module _ (ds : List ℕ) (place : ℕ) where
     pub whole_letter : (rest : List ℕ) → starts (is DIGIT) rest ≡ false → starts is_mark rest ≡ false → letter_from k ds [] place rest ≡ read_from (whole k ds) place rest
-    unfolding letter_from read_from step starts may_end if◌then◌else◌
+    unfolding letter_from read_from step starts may_end when◌then◌else◌
     whole_letter [] d m = refl
     whole_letter (b ∷ rest) d m = rw (d, m)
 
     pub whole_mark : (b : ℕ) (rest : List ℕ) → is_mark b ≡ true → read_from (mark k ds b) (suc place) rest ≡ read_from (whole k ds) place (b ∷ rest)
-    unfolding step if◌then◌else◌
+    unfolding step when◌then◌else◌
     whole_mark b rest m = sym (goes_on (whole k ds) (mark k ds b) place b rest (rw (mark_not_digit b m, m)))
 
     pub none_marked : (b : ℕ) (rest : List ℕ) → starts (is DIGIT) rest ≡ false → refused (NotIso place) ≡ read_from (mark k ds b) place rest
-    unfolding read_from step starts may_end if◌then◌else◌ ◌>>=◌
+    unfolding read_from step starts may_end when◌then◌else◌ ◌>>=◌
     none_marked b [] e = refl
     none_marked b (x ∷ rest) e = rw e
 
     pub fraction_letter : (fs rest : List ℕ) → starts (is DIGIT) rest ≡ false → letter_from k ds fs place rest ≡ read_from (fraction k ds fs) place rest
-    unfolding letter_from read_from step starts may_end if◌then◌else◌
+    unfolding letter_from read_from step starts may_end when◌then◌else◌
     fraction_letter fs [] d = refl
     fraction_letter fs (b ∷ rest) d = rw d
 
@@ -263,13 +263,13 @@ module _ (text : List ℕ) (t : Typed) (below : ℕ) where
     byte = get_or text t.end 0
 
     pub letter_comes : may_come below (kind_of byte) ≡ true → component_outcome text (ComponentRead.Got (record { typed = t; kind = kind_of byte })) ≡ after_number
-    unfolding letter_from letter_step component_outcome if◌then◌else◌ ◌>>=◌
+    unfolding letter_from letter_step component_outcome when◌then◌else◌ ◌>>=◌
     letter_comes e = rw (drop-cons text t.end 0 h, e, add-one)
 
     pub letter_year : may_come below (kind_of byte) ≡ false → year_or_month below byte ≡ true → refused (YearOrMonth t.end) ≡ after_number
-    unfolding letter_from letter_step if◌then◌else◌ ◌>>=◌
+    unfolding letter_from letter_step when◌then◌else◌ ◌>>=◌
     letter_year e f = rw (drop-cons text t.end 0 h, e, f)
 
     pub letter_other : may_come below (kind_of byte) ≡ false → year_or_month below byte ≡ false → refused (NotIso t.end) ≡ after_number
-    unfolding letter_from letter_step if◌then◌else◌ ◌>>=◌
+    unfolding letter_from letter_step when◌then◌else◌ ◌>>=◌
     letter_other e f = rw (drop-cons text t.end 0 h, e, f)

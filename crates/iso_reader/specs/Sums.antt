@@ -11,7 +11,7 @@ use Rattle.std.proofs.Math.Dec.{ltb, eqb}
 use Rattle.std.proofs.Math.Seq.{slice, slice_empty, slice-cons}
 use Rattle.rules.specs.declared.Length.{Length}
 use Rattle.rules.specs.declared.Refusal.TheVariants.{NotIso}
-use Rattle.rules.specs.Common.{if◌then◌else◌, between, sees, starts}
+use Rattle.rules.specs.Common.{when◌then◌else◌, between, sees, starts}
 use Rattle.rules.specs.NumbersHandedBack.{Outcome, got, refused, ◌>>=◌}
 use Rattle.rules.proofs.Laws.Outcomes.{bind_got, bind_refused}
 use Rattle.rules.proofs.Laws.Tests.{between_in, eqb_sym}
@@ -131,7 +131,7 @@ module _ (text : List ℕ) (c : Counted) (known : Sized text c) where
 
     -- nothing comes after it
     pub sum_closes : closes comp ≡ true → due_then (read_from closed next (drop next text)) sum (fraction_worth comp) ≡ summed (component_outcome text (found c)) total
-    unfolding component_outcome after_letter if◌then◌else◌ read_from step may_end ◌>>=◌
+    unfolding component_outcome after_letter when◌then◌else◌ read_from step may_end ◌>>=◌
     sum_closes e = rw e (go (drop next text))
       where
         go : (rest : List ℕ) → due_then (read_from closed next rest) sum (fraction_worth comp) ≡ summed (read_from closed next rest >>= λ cs. got (comp ∷ cs)) total
@@ -140,7 +140,7 @@ module _ (text : List ℕ) (c : Counted) (known : Sized text c) where
 
     -- others come after it
     pub sum_open : closes comp ≡ false → summed (read_from (unit c.kind) next (drop next text)) sum ≡ summed (component_outcome text (found c)) total
-    unfolding component_outcome after_letter if◌then◌else◌ worth ◌>>=◌
+    unfolding component_outcome after_letter when◌then◌else◌ worth ◌>>=◌
     sum_open e = rw e (go (read_from (unit c.kind) next (drop next text)))
       where
         go : (m : Outcome (List Component)) → summed m sum ≡ summed (m >>= λ cs. got (comp ∷ cs)) total
@@ -153,7 +153,7 @@ module _ (text : List ℕ) (c : Counted) (known : Sized text c) where
 
 module _ (text : List ℕ) (place : ℕ) where
   pub closed_ends : length text ≤ place → read_from closed place (drop place text) ≡ got []
-  unfolding read_from may_end if◌then◌else◌
+  unfolding read_from may_end when◌then◌else◌
   closed_ends h = rw (drop_of_length-le text h)
 
   pub closed_refused : place < length text → read_from closed place (drop place text) ≡ refused (NotIso place)
@@ -161,12 +161,12 @@ module _ (text : List ℕ) (place : ℕ) where
   closed_refused h = rw (drop-cons text place 0 h)
 
   pub unit_ends : (k : ℕ) → length text ≤ place → read_from (unit k) place (drop place text) ≡ got []
-  unfolding read_from may_end if◌then◌else◌
+  unfolding read_from may_end when◌then◌else◌
   unit_ends k h = rw (drop_of_length-le text h)
 
   -- after hours or minutes a digit
   pub unit_number : (k : ℕ) → k < DAYS → place < length text → read_from (unit k) place (drop place text) ≡ read_from (wanted k) place (drop place text)
-  unfolding read_from step if◌then◌else◌
+  unfolding read_from step when◌then◌else◌
   unit_number k h within = rw (drop-cons text place 0 within, lt-leb DAYS k h)
 
   clock_comes : (s : Stand) → ((b : ℕ) → eqb b 84 ≡ true → step s place b ≡ on (wanted DAYS)) → sees (eqb 84) text place ≡ true → read_from s place (drop place text) ≡ read_from (wanted DAYS) (place + 1) (drop (place + 1) text)
@@ -177,20 +177,20 @@ module _ (text : List ℕ) (place : ℕ) where
 
   -- after days `T`
   pub unit_clock : sees (eqb 84) text place ≡ true → read_from (unit DAYS) place (drop place text) ≡ read_from (wanted DAYS) (place + 1) (drop (place + 1) text)
-  unfolding step if◌then◌else◌
+  unfolding step when◌then◌else◌
   unit_clock = clock_comes (unit DAYS) (λ b e. rw e)
 
   pub unit_refused : place < length text → sees (eqb 84) text place ≡ false → read_from (unit DAYS) place (drop place text) ≡ refused (NotIso place)
-  unfolding read_from step if◌then◌else◌ ◌>>=◌
+  unfolding read_from step when◌then◌else◌ ◌>>=◌
   unit_refused within e = rw (drop-cons text place 0 within, eqb_sym (get_or text place 0) 84, sym (sees_here (eqb 84) text place within) ∙ e)
 
   -- after `P` the same, or a digit
   pub date_clock : sees (eqb 84) text place ≡ true → read_from date place (drop place text) ≡ read_from (wanted DAYS) (place + 1) (drop (place + 1) text)
-  unfolding step if◌then◌else◌
+  unfolding step when◌then◌else◌
   date_clock = clock_comes date (λ b e. rw e)
 
   pub date_number : sees (eqb 84) text place ≡ false → read_from date place (drop place text) ≡ read_from (wanted ANY) place (drop place text)
-  unfolding sees starts read_from step may_end if◌then◌else◌
+  unfolding sees starts read_from step may_end when◌then◌else◌
   date_number e = go (drop place text) e
     where
       go : (rest : List ℕ) → starts (eqb 84) rest ≡ false → read_from date place rest ≡ read_from (wanted ANY) place rest
@@ -199,12 +199,12 @@ module _ (text : List ℕ) (place : ℕ) where
 
 -- the first byte
 pub first_refused : (text : List ℕ) → sees (eqb 80) text 0 ≡ false → refused (NotIso 0) ≡ components text
-unfolding components read_from step may_end sees starts if◌then◌else◌ ◌>>=◌
+unfolding components read_from step may_end sees starts when◌then◌else◌ ◌>>=◌
 first_refused [] e = refl
 first_refused (b ∷ text) e = rw (eqb_sym b 80, e)
 
 pub first_is : (text : List ℕ) → sees (eqb 80) text 0 ≡ true → components text ≡ read_from date 1 (drop 1 text)
-unfolding components step sees starts if◌then◌else◌
+unfolding components step sees starts when◌then◌else◌
 first_is [] e = absurd (false≢true e)
 first_is (b ∷ text) e = goes_on start date 0 b text (rw (eqb_sym b 80, e))
 

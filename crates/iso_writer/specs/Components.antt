@@ -7,7 +7,7 @@ use Rattle.std.proofs.lemmas.Bool.{false≢true}
 use borrow.Author.Tests.{eqb-true, eqb-false, ne_eqb}
 use Rattle.std.proofs.Math.Dec.{eqb}
 use Rattle.rules.specs.declared.Length.{Length}
-use Rattle.rules.specs.Common.{if◌then◌else◌}
+use Rattle.rules.specs.Common.{when◌then◌else◌}
 use Rattle.rules.specs.ThePartOfTheCrateWeTake.{size}
 use Rattle.rules.proofs.Laws.Tests.{and_false}
 use Rattle.iso.specs.IsoTimings.{Component, SECONDS, MINUTES, HOURS, component, unless_zero, components_of}
@@ -31,15 +31,15 @@ left_out needed number nanoseconds h = go needed (eqb number 0) (eqb nanoseconds
     go false false b e f h = absurd (false≢true (sym h))
 
 unfoldable pub if_shown : Bool → Component → List Component
-if_shown b c = if b then c ∷ [] else []
+if_shown b c = when b then c ∷ [] else []
 
 unless_shown :
     (kind number nanoseconds : ℕ)
     → unless_zero kind number nanoseconds ≡ if_shown (shown false number nanoseconds) (component kind number nanoseconds)
-unfolding unless_zero if_shown shown if◌then◌else◌
+unfolding unless_zero if_shown shown when◌then◌else◌
 unless_shown kind number nanoseconds = go (eqb number 0 && eqb nanoseconds 0)
   where
-    go : (b : Bool) → (if b then [] else component kind number nanoseconds ∷ []) ≡ (if not b then component kind number nanoseconds ∷ [] else [])
+    go : (b : Bool) → (when b then [] else component kind number nanoseconds ∷ []) ≡ (when not b then component kind number nanoseconds ∷ [] else [])
     go true = refl
     go false = refl
 
@@ -70,7 +70,7 @@ module _ (l : Length) where
   of_this s = chosen (l.seconds / 3600) (l.seconds / 60 % 60) (l.seconds % 60) l.nanoseconds hours_shown minutes_shown s
 
   pub components_shown : components_of l ≡ of_this seconds_shown
-  unfolding components_of size if_shown shown if◌then◌else◌
+  unfolding components_of size if_shown shown when◌then◌else◌
   components_shown = go (eqb (size l) 0) refl
     where
       -- where a length of other than zero has no seconds, it has nanoseconds
@@ -85,7 +85,7 @@ module _ (l : Length) where
       go :
           (b : Bool)
           → eqb (size l) 0 ≡ b
-          → (if b
+          → (when b
           then component SECONDS 0 0 ∷ []
           else unless_zero HOURS (l.seconds / 3600) 0 ++ unless_zero MINUTES (l.seconds / 60 % 60) 0 ++ unless_zero SECONDS (l.seconds % 60) l.nanoseconds)
           ≡ of_this seconds_shown

@@ -10,7 +10,7 @@ use Rattle.std.proofs.Math.ListN.{length}
 use Rattle.rules.specs.declared.Length.{Length}
 use Rattle.rules.specs.declared.Answer.{Answer}
 use Rattle.rules.specs.declared.Refusal.TheVariants.{NegativeForbidden, NoRoom, Beyond, Malformed}
-use Rattle.rules.specs.Common.{if◌then◌else◌}
+use Rattle.rules.specs.Common.{when◌then◌else◌}
 use Rattle.rules.specs.NumbersHandedBack.{◌>>◌, unless, done, refusal, answered}
 use Rattle.rules.specs.ThePartOfTheCrateWeTake.{well_formed}
 use Rattle.rules.specs.WriterAndShiftTotal.{decimals, whole_digits, fraction_digits, written_fraction}
@@ -28,15 +28,15 @@ use Rattle.iso_writer.specs.declared.writer.Form.{Form}
 -- what is written of one
 unfoldable pub written_part : ℕ → Bool → ℕ → ℕ → List ℕ
 written_part unit needed number nanoseconds =
-    if shown needed number nanoseconds then whole_digits number ++ written_fraction nanoseconds ++ unit ∷ [] else []
+    when shown needed number nanoseconds then whole_digits number ++ written_fraction nanoseconds ++ unit ∷ [] else []
 
 -- its digits are counted: so many bytes, and these
 unfoldable pub part_size : Part → ℕ
-part_size p = if p.shown then p.whole.count + fraction_size p.decimals.count + 1 else 0
+part_size p = when p.shown then p.whole.count + fraction_size p.decimals.count + 1 else 0
 
 unfoldable pub part_bytes : Part → List ℕ
 part_bytes p =
-    if p.shown then decimals p.whole.count p.whole.number ++ behind_point p.decimals ++ p.letter ∷ [] else []
+    when p.shown then decimals p.whole.count p.whole.number ++ behind_point p.decimals ++ p.letter ∷ [] else []
 
 -- no more digits than a number of 64 bits and nanoseconds have
 abbrev pub Small : Part → Type 0
@@ -44,13 +44,13 @@ Small p = (p.whole.count ≤ 20) × (p.decimals.count ≤ 9)
 
 module _ (p : Part) where
   pub part_length : length (part_bytes p) ≡ part_size p
-  unfolding part_bytes part_size if◌then◌else◌
+  unfolding part_bytes part_size when◌then◌else◌
   part_length = go p.shown
     where
       go :
           (b : Bool)
-          → length (if b then decimals p.whole.count p.whole.number ++ behind_point p.decimals ++ p.letter ∷ [] else [])
-          ≡ (if b then p.whole.count + fraction_size p.decimals.count + 1 else 0)
+          → length (when b then decimals p.whole.count p.whole.number ++ behind_point p.decimals ++ p.letter ∷ [] else [])
+          ≡ (when b then p.whole.count + fraction_size p.decimals.count + 1 else 0)
       go true = simp (length-append, decimals_length, behind_length) (omega arith)
       go false = refl
 
@@ -69,20 +69,20 @@ module _ (p : Part) where
 
   module _ (out : p.shown ≡ false) where
     pub left_size : 0 ≡ part_size p
-    unfolding part_size if◌then◌else◌
+    unfolding part_size when◌then◌else◌
     left_size = rw out
 
     pub left_bytes : [] ≡ part_bytes p
-    unfolding part_bytes if◌then◌else◌
+    unfolding part_bytes when◌then◌else◌
     left_bytes = rw out
 
   module _ (some : p.shown ≡ true) where
     pub shown_size : p.whole.count + fraction_size p.decimals.count + 1 ≡ part_size p
-    unfolding part_size if◌then◌else◌
+    unfolding part_size when◌then◌else◌
     shown_size = rw some
 
     shown_bytes : decimals p.whole.count p.whole.number ++ behind_point p.decimals ++ p.letter ∷ [] ≡ part_bytes p
-    unfolding part_bytes if◌then◌else◌
+    unfolding part_bytes when◌then◌else◌
     shown_bytes = rw some
 
     -- the digits, behind them the decimals, and behind them the letter
@@ -114,14 +114,14 @@ module _ (p : Part) (needed : Bool) (number nanoseconds : ℕ) (short : nanoseco
       p.shown ≡ shown needed number nanoseconds
       → (shown needed number nanoseconds ≡ true → Counted)
       → part_bytes p ≡ written_part p.letter needed number nanoseconds
-  unfolding part_bytes written_part if◌then◌else◌
+  unfolding part_bytes written_part when◌then◌else◌
   part_is same digits = rw same (go (shown needed number nanoseconds) digits)
     where
       go :
           (b : Bool)
           → (b ≡ true → Counted)
-          → (if b then decimals p.whole.count p.whole.number ++ behind_point p.decimals ++ p.letter ∷ [] else [])
-          ≡ (if b then whole_digits number ++ written_fraction nanoseconds ++ p.letter ∷ [] else [])
+          → (when b then decimals p.whole.count p.whole.number ++ behind_point p.decimals ++ p.letter ∷ [] else [])
+          ≡ (when b then whole_digits number ++ written_fraction nanoseconds ++ p.letter ∷ [] else [])
       go true e = rw ((e refl).0, behind_is nanoseconds p.decimals short (e refl).1)
       go false e = refl
 
@@ -172,10 +172,10 @@ in_order :
     → (h ≡ false → m ≡ false → s ≡ false → ⊥)
     → spelling (chosen hours minutes seconds nanoseconds h m s)
     ≡ 80 ∷ 84
-    ∷ ((if h then whole_digits hours ++ written_fraction 0 ++ 72 ∷ [] else [])
-    ++ (if m then whole_digits minutes ++ written_fraction 0 ++ 77 ∷ [] else [])
-    ++ (if s then whole_digits seconds ++ written_fraction nanoseconds ++ 83 ∷ [] else []))
-unfolding spelling spelling_after clock_mark letter letters if_shown component if◌then◌else◌
+    ∷ ((when h then whole_digits hours ++ written_fraction 0 ++ 72 ∷ [] else [])
+    ++ (when m then whole_digits minutes ++ written_fraction 0 ++ 77 ∷ [] else [])
+    ++ (when s then whole_digits seconds ++ written_fraction nanoseconds ++ 83 ∷ [] else []))
+unfolding spelling spelling_after clock_mark letter letters if_shown component when◌then◌else◌
 in_order hours minutes seconds nanoseconds false false false some = absurd (some refl refl refl)
 in_order hours minutes seconds nanoseconds false false true some = simp append_assoc
 in_order hours minutes seconds nanoseconds false true false some = simp (append_assoc, append-nil)

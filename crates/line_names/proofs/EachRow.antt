@@ -6,7 +6,7 @@ use Rattle.std.proofs.Common.{◌∙◌, arith, take_all, take-add, drop-drop}
 use Rattle.std.proofs.Math.Logic.{inl, inr}
 use Prim.Native.Nat.{ℕ, zero, suc, ◌+◌, ◌*◌, ◌≤◌, ◌<◌}
 use Rattle.std.proofs.Math.ListN.{length}
-use Rattle.rules.specs.Common.{if◌then◌else◌}
+use Rattle.rules.specs.Common.{when◌then◌else◌}
 use Rattle.rules.specs.SettingsAndUnitTable.{row_size, rows, rows_in, row, row_in, name, named, named_in}
 use Rattle.rules.proofs.Laws.Choices.{if_either}
 use Rattle.rows.specs.Laws.Rows.{length_row}
@@ -72,7 +72,7 @@ module _ (hall line : List ℕ) (whole : Whole line) where
 
 -- a line without names has none of the hall's
 all_rows : (hall : List ℕ) (n i : ℕ) → others hall [] i n ≡ take (row_size * n) (drop (row_size * i) hall)
-unfolding others named_in rows_in row_in if◌then◌else◌
+unfolding others named_in rows_in row_in when◌then◌else◌
 all_rows hall zero i = refl
 all_rows hall (suc n) i =
     let first : row_size * suc n ≡ row_size + row_size * n = omega arith in

@@ -10,7 +10,7 @@ use Rattle.std.proofs.Math.Seq.{take_all, drop-append-add}
 use Rattle.std.proofs.lemmas.List.{take-append-le, drop-append-le}
 use Rattle.rules.specs.declared.Found.{Found}
 use Rattle.rules.specs.declared.Found.TheVariants.{Row, Nowhere}
-use Rattle.rules.specs.Common.{if◌then◌else◌, same}
+use Rattle.rules.specs.Common.{when◌then◌else◌, same}
 use Rattle.rules.specs.SettingsAndUnitTable.{row_size, rows, rows_in, row, row_in, name, named, named_in, lookup_from, lookup_from_in, lookup, lookup_in, line_first, stands, held_row, find_row}
 use Rattle.rows.specs.Named.{found_row, row_named}
 use Rattle.rows.specs.Laws.Rows.{row_within}
@@ -75,8 +75,8 @@ module _ (a b wanted : List ℕ) where
 -- two choices by one test come to the same if both cases do
 pub if_alike :
     {A B C : Type 0} (f : A → C) (g : B → C) (test : Bool) {x y : A} {z w : B}
-    → f x ≡ g z → f y ≡ g w → f (if test then x else y) ≡ g (if test then z else w)
-unfolding if◌then◌else◌
+    → f x ≡ g z → f y ≡ g w → f (when test then x else y) ≡ g (when test then z else w)
+unfolding when◌then◌else◌
 if_alike f g true then_alike else_alike = then_alike
 if_alike f g false then_alike else_alike = else_alike
 
@@ -135,7 +135,7 @@ module _ (r : List ℕ) (sized : length r ≡ row_size) where
       let first : j ≡ 0 = omega (arith, one_row) in
       rw first (row_before r table 0 (rw one_row (omega arith)) ∙ the_row)
 
-  pub row_found_first : (table wanted : List ℕ) → row_named (r ++ table) wanted ≡ (if same (name r) wanted then r else row_named table wanted)
+  pub row_found_first : (table wanted : List ℕ) → row_named (r ++ table) wanted ≡ (when same (name r) wanted then r else row_named table wanted)
   unfolding row_named lookup_in lookup_from_in find_row stands held_row line_first
   row_found_first table wanted =
       found_behind r table row_whole wanted

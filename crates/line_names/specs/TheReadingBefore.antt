@@ -13,7 +13,7 @@ use Rattle.rules.specs.declared.Refusal.TheVariants.{Nothing, NoNumber, NoUnit, 
 use Rattle.rules.specs.declared.Settings.{Settings}
 use Rattle.rules.specs.declared.SpokenUnit.{SpokenUnit}
 use Rattle.rules.specs.declared.Unit as declared_unit
-use Rattle.rules.specs.Common.{if◌then◌else◌, ascii, ends, sees, run}
+use Rattle.rules.specs.Common.{when◌then◌else◌, ascii, ends, sees, run}
 use Rattle.rules.specs.ThePartOfTheCrateWeTake.{longest_text, zero_length, well_formed}
 use Rattle.rules.specs.NumbersHandedBack.{Outcome, got, refused, ◌>>=◌, ◌>>◌, unless, done, answered}
 use Rattle.rules.specs.SettingsAndUnitTable.{DIGIT, POINT, is, holds, kind_multiplier, settings_check, most_rows, rows, row, kind, row_multiplier, product, row_accepted, whole_rows, rows_check, numerals_check, lookup}
@@ -55,7 +55,7 @@ unit_step card text place = unit_found card text place (find_unit card text plac
 
 unfoldable pub numeral_found : Card → List ℕ → ℕ → Found → Outcome Numeral
 numeral_found card text place (Row i) =
-    if sees (holds card.settings.inner) text (numeral_end card.settings text place)
+    when sees (holds card.settings.inner) text (numeral_end card.settings text place)
     then
     (delimiters card.settings.inner text (numeral_end card.settings text place)
     >>= λ next. got (record { multiplier = row_multiplier (row card.numerals i); next = next }))
@@ -95,15 +95,15 @@ spoken_part card text negative place = do
 
 unfoldable pub unsigned_part : Card → List ℕ → Bool → ℕ → Outcome Part
 unsigned_part card text negative place =
-    if sees (λ b. is DIGIT b || is POINT b) text place
+    when sees (λ b. is DIGIT b || is POINT b) text place
     then finite_part card text negative place
-    else if card.settings.infinity && says (ascii "inf") text place
+    else when card.settings.infinity && says (ascii "inf") text place
     then infinite_part card.settings text negative place
     else spoken_part card text negative place
 
 unfoldable pub part : Card → List ℕ → ℕ → Outcome Part
 part card text place =
-    if ends text place
+    when ends text place
     then refused (Nothing place)
     else (sign_step card.settings text place >>= λ signed. unsigned_part card text signed.negative signed.next)
 
@@ -121,7 +121,7 @@ parts card text (suc n) place =
     part_reading card text place
     >>= λ r.
     let others = parts card text n r.next in
-    if ends text r.next then got (r.length ∷ []) else (others >>= λ more. got (r.length ∷ more))
+    when ends text r.next then got (r.length ∷ []) else (others >>= λ more. got (r.length ∷ more))
 
 unfoldable pub total : Card → List ℕ → Outcome Length
 total card text = parts card text (suc (length text)) 0 >>= λ lengths. got (sum_all zero_length lengths)

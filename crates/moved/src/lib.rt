@@ -1,3 +1,3 @@
-// What moving stored lines between the two forms of a row keeps: only theorems, which stand in specs/.
+// What moving stored lines between the two forms of a row keeps: only theorems, in specs/ and proofs/.
 
 #![tactic(auto)]

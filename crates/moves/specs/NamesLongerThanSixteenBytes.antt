@@ -3,7 +3,7 @@
 use Rattle.std.specs.Prelude.{Bool, ◌&&◌, List, [], ◌∷◌, ◌++◌, ℕ, suc, ◌-◌, leb, eqb, length, drop, replicate}
 use Rattle.rules.specs.declared.Answer.{Answer}
 use Rattle.rules.specs.declared.Refusal.TheVariants.{NoRoom, NoStoredRow, NameTooLong}
-use Rattle.rules.specs.Common.{if◌then◌else◌, between, all}
+use Rattle.rules.specs.Common.{when◌then◌else◌, between, all}
 use Rattle.rules.specs.ThePartOfTheCrateWeTake.{zero_length}
 use Rattle.rules.specs.NumbersHandedBack.{Outcome, got, refused, ◌>>=◌, ◌>>◌, unless, done, answered}
 use Rattle.rules.specs.SettingsAndUnitTable.{name_room, old_room, kind_at_in, zeros_at_in, name_size, name, after_name_in, stored}
@@ -22,7 +22,7 @@ with_byte b (line ∷ more) = (b ∷ line) ∷ more
 -- a line keeps the newline that it ends with; bytes behind the last newline are a line too
 unfoldable pub lines : List ℕ → List (List ℕ)
 lines [] = []
-lines (b ∷ bs) = if eqb b newline then (b ∷ []) ∷ lines bs else with_byte b (lines bs)
+lines (b ∷ bs) = when eqb b newline then (b ∷ []) ∷ lines bs else with_byte b (lines bs)
 
 -- ---- one line
 

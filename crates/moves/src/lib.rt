@@ -1,3 +1,3 @@
-// Stored lines moved between the two forms of a row: only definitions and laws, which stand in specs/.
+// Stored lines moved between the two forms of a row: only definitions, in specs/, and laws, in proofs/.
 
 #![tactic(auto)]

@@ -8,7 +8,7 @@ use native.Mathlib.Omega.{arith}
 use borrow.Author.Tests.{eq-eqb, ne_eqb, eqb-true}
 use Rattle.std.proofs.Math.ListN.{take, drop, length-drop}
 use Rattle.std.proofs.Math.Seq.{take-append-add, drop-append-add}
-use Rattle.rules.specs.Common.{if◌then◌else◌, all, front, run}
+use Rattle.rules.specs.Common.{when◌then◌else◌, all, front, run}
 use Rattle.rules.proofs.Laws.Choices.{and_both, all_first, all_others}
 use Rattle.rules.proofs.Laws.Texts.{sees_here, sees_end, run_more, run_stop, run_from, run_within}
 use Rattle.printing.specs.Lines.{newline, in_line, before_first, lines, line_end, line_at, Whole}
@@ -40,7 +40,7 @@ module _ (sheet : List ℕ) (place : ℕ) where
 -- ---- the first line, and the lines behind it
 
 pub lines_first : (sheet : List ℕ) → 0 < length sheet → lines sheet ≡ take (front in_line sheet) sheet ∷ lines (drop (suc (front in_line sheet)) sheet)
-unfolding lines front before_first if◌then◌else◌
+unfolding lines front before_first when◌then◌else◌
 lines_first [] h = absurd (not-suc-le-zero h)
 lines_first (b ∷ rest) h = go (in_line b) refl rest (λ k. lines_first rest k)
   where
@@ -68,7 +68,7 @@ module _ (sheet : List ℕ) (place : ℕ) (h : place < length sheet) where
 -- ---- a line, and what stands behind it
 
 front_clean : (line : List ℕ) → all in_line line ≡ true → (rest : List ℕ) → front in_line (line ++ rest) ≡ length line + front in_line rest
-unfolding front if◌then◌else◌
+unfolding front when◌then◌else◌
 front_clean [] e rest = sym (zero-add (front in_line rest))
 front_clean (b ∷ line) e rest = rw (all_first in_line b line e, front_clean line (all_others in_line b line e) rest, suc-add)
 
@@ -84,7 +84,7 @@ module _ (line : List ℕ) (clean : all in_line line ≡ true) (rest : List ℕ)
 
 -- a line, a newline and a rest
 pub line_then : (line : List ℕ) → all in_line line ≡ true → (rest : List ℕ) → lines (line ++ newline ∷ rest) ≡ line ∷ lines rest
-unfolding lines in_line before_first if◌then◌else◌
+unfolding lines in_line before_first when◌then◌else◌
 line_then [] e rest = refl
 line_then (b ∷ line) e rest = rw (all_first in_line b line e, line_then line (all_others in_line b line e) rest)
 
@@ -95,7 +95,7 @@ line_last line e some = ap lines (sym (append-nil line)) ∙ line_goes_on line e
 
 -- a newline cuts the sheet: what stands behind it begins a line
 pub newline_cuts : (sheet rest : List ℕ) → lines (sheet ++ newline ∷ rest) ≡ lines (sheet ++ newline ∷ []) ++ lines rest
-unfolding lines in_line before_first if◌then◌else◌
+unfolding lines in_line before_first when◌then◌else◌
 newline_cuts [] rest = refl
 newline_cuts (b ∷ sheet) rest = go (in_line b) refl (newline_cuts sheet rest)
   where
@@ -113,7 +113,7 @@ newline_cuts (b ∷ sheet) rest = go (in_line b) refl (newline_cuts sheet rest)
 -- ---- a line in a sheet: no newline stands in it, and one behind it, unless the sheet ends
 
 front_all : (sheet : List ℕ) → all in_line (take (front in_line sheet) sheet) ≡ true
-unfolding all front if◌then◌else◌
+unfolding all front when◌then◌else◌
 front_all [] = refl
 front_all (b ∷ rest) = go (in_line b) refl (front_all rest)
   where
@@ -122,7 +122,7 @@ front_all (b ∷ rest) = go (in_line b) refl (front_all rest)
     go false e more = rw e
 
 front_stops : (sheet : List ℕ) → front in_line sheet < length sheet → in_line (get_or sheet (front in_line sheet) 0) ≡ false
-unfolding front if◌then◌else◌
+unfolding front when◌then◌else◌
 front_stops [] h = absurd (not-suc-le-zero h)
 front_stops (b ∷ rest) h = go (in_line b) refl (front_stops rest) h
   where

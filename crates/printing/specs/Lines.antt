@@ -4,7 +4,7 @@ use Rattle.std.specs.Prelude.{◌≡◌, Bool, List, [], ◌∷◌, ◌++◌, eq
 use Rattle.std.proofs.Math.Bool.{not}
 use Prim.Native.Nat.{ℕ, ◌-◌}
 use Rattle.std.proofs.Math.ListN.{take, drop}
-use Rattle.rules.specs.Common.{if◌then◌else◌, run}
+use Rattle.rules.specs.Common.{when◌then◌else◌, run}
 
 abbrev pub newline : ℕ
 newline = 10
@@ -19,7 +19,7 @@ before_first b (line ∷ more) = (b ∷ line) ∷ more
 
 unfoldable pub lines : List ℕ → List (List ℕ)
 lines [] = []
-lines (b ∷ rest) = let more = lines rest in if in_line b then before_first b more else [] ∷ more
+lines (b ∷ rest) = let more = lines rest in when in_line b then before_first b more else [] ∷ more
 
 -- the place of the next newline, or the end of the sheet
 unfoldable pub line_end : List ℕ → ℕ → ℕ

@@ -7,7 +7,7 @@ use Prim.Native.Nat.{ℕ, ◌+◌, ◌≤◌, ◌<◌}
 use Rattle.std.proofs.lemmas.Bool.{lt-leb}
 use Rattle.std.proofs.Math.ListN.{length, take, length-append}
 use Rattle.rules.specs.declared.Answer.{Answer}
-use Rattle.rules.specs.Common.{if◌then◌else◌}
+use Rattle.rules.specs.Common.{when◌then◌else◌}
 use Rattle.rules.specs.ThePartOfTheCrateWeTake.{longest_text}
 use Rattle.rules.specs.SettingsAndUnitTable.{Card}
 use Rattle.rules.specs.WriterAndShiftTotal.{sign_byte, whole_digits}
@@ -55,19 +55,19 @@ fits a buffer place = leb (place + length (printed a)) (length buffer)
 
 -- the place behind it; the same place, if there is no room
 unfoldable pub printed_next : Answer → List ℕ → ℕ → ℕ
-printed_next a buffer place = if fits a buffer place then place + length (printed a) else place
+printed_next a buffer place = when fits a buffer place then place + length (printed a) else place
 
 -- no other byte changes, and none if there is no room
 unfoldable pub printed_buffer : Answer → List ℕ → ℕ → List ℕ
-printed_buffer a buffer place = if fits a buffer place then laid buffer place (printed a) else buffer
+printed_buffer a buffer place = when fits a buffer place then laid buffer place (printed a) else buffer
 
 module _ (a : Answer) (buffer : List ℕ) (place : ℕ) where
   pub no_room : length buffer < place + length (printed a) → (place ≡ printed_next a buffer place) × (buffer ≡ printed_buffer a buffer place)
-  unfolding printed_next printed_buffer fits if◌then◌else◌
+  unfolding printed_next printed_buffer fits when◌then◌else◌
   no_room h = rw (lt-leb (place + length (printed a)) (length buffer) h) (refl, refl)
 
   pub put_there : place + length (printed a) ≤ length buffer → (place + length (printed a) ≡ printed_next a buffer place) × (laid buffer place (printed a) ≡ printed_buffer a buffer place)
-  unfolding printed_next printed_buffer fits if◌then◌else◌
+  unfolding printed_next printed_buffer fits when◌then◌else◌
   put_there h = rw (le-leb (place + length (printed a)) (length buffer) h) (refl, refl)
 
   -- something is always printed, so the same place says that there is no room, and another one that there is

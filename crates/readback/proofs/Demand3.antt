@@ -9,7 +9,7 @@ use borrow.Author.Tests.{le-leb, lt-leb, lt-ltb, le-ltb, leb-true, leb-false}
 use Rattle.std.proofs.Math.ListN.{length, length-append}
 use Rattle.rules.specs.declared.Length.{Length}
 use Rattle.rules.specs.declared.Reading.{Reading}
-use Rattle.rules.specs.Common.{if◌then◌else◌, all, ends, starts}
+use Rattle.rules.specs.Common.{when◌then◌else◌, all, ends, starts}
 use Rattle.rules.specs.NumbersHandedBack.{Outcome, got, refused, ◌>>=◌, ◌>>◌, unless, done, refusal, number}
 use Rattle.rules.specs.ThePartOfTheCrateWeTake.{longest_text, zero_length, well_formed}
 use Rattle.rules.specs.SettingsAndUnitTable.{Card, card_check}
@@ -140,7 +140,7 @@ module _
         → place ≤ length text
         → drop place text ≡ written_all (l ∷ more)
         → total_from card text so_far place ≡ got (sum_all so_far (l ∷ more))
-    unfolding written_all sum_all if◌then◌else◌ ◌>>=◌ ends
+    unfolding written_all sum_all when◌then◌else◌ ◌>>=◌ ends
     totals_from l [] so_far place good within here =
         let size : length text - place ≡ length (written l) + 0 = sym (length-drop place text) ∙ ap length here ∙ length-append (written l) [] in
         total_step card text so_far place

@@ -5,7 +5,7 @@ use Rattle.std.proofs.Common.{sym, ◌∙◌, div-add-mod', arith, le-ltb, ltb-t
 use Rattle.std.proofs.Math.Bool.{true, false, beq}
 use Rattle.std.proofs.lemmas.Bool.{false≢true, lt-leb, eqb-false}
 use Rattle.rules.specs.declared.Length.{Length}
-use Rattle.rules.specs.Common.{if◌then◌else◌}
+use Rattle.rules.specs.Common.{when◌then◌else◌}
 use Rattle.rules.specs.ThePartOfTheCrateWeTake.{zero_length, size}
 use Rattle.rules.specs.Evaluation.{length_of, sum, sum_all}
 use Rattle.rules.proofs.Laws.Choices.{and_left, and_right}
@@ -27,7 +27,7 @@ length_of_difference :
     → (negative ≡ true → p ≤ m)
     → (negative ≡ false → m ≤ p)
     → length_of negative r ≡ difference p m
-unfolding length_of difference if◌then◌else◌ zero_length
+unfolding length_of difference when◌then◌else◌ zero_length
 length_of_difference negative r p m is below lower upper = rw is (go (eqb (apart_by p m) 0) refl)
   where
     other_by : p ≤ m → (apart_by p m ≡ 0 → ⊥) → (b : Bool) → ltb p m ≡ b → true ≡ b
@@ -45,11 +45,11 @@ length_of_difference negative r p m is below lower upper = rw is (go (eqb (apart
         (ap (λ b. record { negative = b; seconds = apart_by p m / 10 ^ 9; nanoseconds = apart_by p m % 10 ^ 9 }) (sign negative refl (eqb-false (apart_by p m) 0 e)))
 
 with_plus : (l : Length) → l.negative ≡ false → (plus l ≡ size l) × (minus l ≡ 0)
-unfolding plus minus if◌then◌else◌
+unfolding plus minus when◌then◌else◌
 with_plus l e = rw e (refl, refl)
 
 with_minus : (l : Length) → l.negative ≡ true → (plus l ≡ 0) × (minus l ≡ size l)
-unfolding plus minus if◌then◌else◌
+unfolding plus minus when◌then◌else◌
 with_minus l e = rw e (refl, refl)
 
 -- a length more: its nanoseconds go to those of its sign

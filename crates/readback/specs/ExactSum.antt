@@ -3,16 +3,16 @@
 use Rattle.std.specs.Prelude.{Bool, ◌&&◌, List, [], ◌∷◌, ℕ, ◌+◌, ◌-◌, ◌/◌, ◌%◌, ◌^◌, ltb}
 use Rattle.std.proofs.Math.Bool.{true}
 use Rattle.rules.specs.declared.Length.{Length}
-use Rattle.rules.specs.Common.{if◌then◌else◌}
+use Rattle.rules.specs.Common.{when◌then◌else◌}
 use Rattle.rules.specs.ThePartOfTheCrateWeTake.{size}
 use Rattle.rules.proofs.Laws.Lengths.{limit}
 
 -- the nanoseconds of a length that has a plus, and of one that has a minus
 unfoldable pub plus : Length → ℕ
-plus l = if l.negative then 0 else size l
+plus l = when l.negative then 0 else size l
 
 unfoldable pub minus : Length → ℕ
-minus l = if l.negative then size l else 0
+minus l = when l.negative then size l else 0
 
 unfoldable pub all_plus : ℕ → List Length → ℕ
 all_plus so_far [] = so_far

@@ -13,7 +13,7 @@ use Rattle.rules.specs.declared.Repr.TheVariants.{Typed}
 use Rattle.rules.specs.declared.Length.{Length}
 use Rattle.rules.specs.declared.Settings.{Settings}
 use Rattle.rules.specs.declared.Whole.{Whole}
-use Rattle.rules.specs.Common.{if◌then◌else◌, between, starts, sees, run, ends}
+use Rattle.rules.specs.Common.{when◌then◌else◌, between, starts, sees, run, ends}
 use Rattle.rules.specs.NumbersHandedBack.{got, ◌>>=◌}
 use Rattle.rules.specs.ThePartOfTheCrateWeTake.{size, well_formed}
 use Rattle.rules.specs.SettingsAndUnitTable.{DIGIT, SIGN, POINT, OTHER, class, is, is_next_duration, lower, holds, may_delimit, kind_multiplier, Card, card_check, line_first, stands, held_row, find_row, kind_coefficients, kind_downs}
@@ -51,12 +51,12 @@ abbrev pub Follows : List ℕ → Type 0
 Follows rest = (test : ℕ → Bool) → ((b : ℕ) → is SIGN b ≡ true → test b ≡ false) → starts test rest ≡ false
 
 a_sign : (b : ℕ) → is SIGN b ≡ true → (b ≡ 43) ⊎ (b ≡ 45)
-unfolding is class if◌then◌else◌
+unfolding is class when◌then◌else◌
 a_sign b e = go (between 48 57 b) (eqb b 43) (eqb b 45) (eqb b 46) (between 65 90 b || between 97 122 b) refl refl e
   where
     go :
         (digit plus minus point letter : Bool) → eqb b 43 ≡ plus → eqb b 45 ≡ minus
-        → eqb (if digit then DIGIT else if plus || minus then SIGN else if point then POINT else if letter then 3 else OTHER) SIGN ≡ true
+        → eqb (when digit then DIGIT else when plus || minus then SIGN else when point then POINT else when letter then 3 else OTHER) SIGN ≡ true
         → (b ≡ 43) ⊎ (b ≡ 45)
     go true plus minus point letter p m e = absurd (false≢true e)
     go false true minus point letter p m e = inl (eqb-true b 43 p)
@@ -80,7 +80,7 @@ unfolding ends
 sees_goes_on f text place e = lt-leb (length text) place (sees_in f text place e)
 
 minus_sign : (negative : Bool) (rest : List ℕ) → starts (eqb 45) (sign_byte negative ∷ rest) ≡ negative
-unfolding starts sign_byte if◌then◌else◌
+unfolding starts sign_byte when◌then◌else◌
 minus_sign true rest = refl
 minus_sign false rest = refl
 
@@ -147,7 +147,7 @@ module _ (card : Card) (good : card_check card ≡ got tt) where
     sign_not_stretch e = rw (e, either (is DIGIT b), either (holds s.outer b))
 
     sign_not_e : is SIGN b ≡ true → same_letter 101 b ≡ false
-    unfolding same_letter lower between if◌then◌else◌
+    unfolding same_letter lower between when◌then◌else◌
     sign_not_e e = of_signs (λ x. same_letter 101 x ≡ false) refl refl b e
 
   module _ (text : List ℕ) (place : ℕ) where
@@ -193,14 +193,14 @@ module _ (card : Card) (good : card_check card ≡ got tt) where
 
       -- no digit, and so no zero, stands behind the digits
       no_digit : (b : ℕ) → is SIGN b ≡ true → is DIGIT b ≡ false
-      unfolding is class between if◌then◌else◌
+      unfolding is class between when◌then◌else◌
       no_digit b e = of_signs (λ x. is DIGIT x ≡ false) refl refl b e
 
       no_zero : (b : ℕ) → is SIGN b ≡ true → eqb 48 b ≡ false
       no_zero b e = of_signs (λ x. eqb 48 x ≡ false) refl refl b e
 
       no_point : (b : ℕ) → is SIGN b ≡ true → is POINT b ≡ false
-      unfolding is class between if◌then◌else◌
+      unfolding is class between when◌then◌else◌
       no_point b e = of_signs (λ x. is POINT x ≡ false) refl refl b e
 
       -- nor does one stand behind the whole digits
@@ -211,7 +211,7 @@ module _ (card : Card) (good : card_check card ≡ got tt) where
           (λ _. follows test signs) (λ _. point)
 
       whole_ends : run (is DIGIT) text (place + 1) ≡ place + 1 + length whole
-      unfolding is class between if◌then◌else◌
+      unfolding is class between when◌then◌else◌
       whole_ends = run_over text (place + 1) whole (fract ++ rest) at_whole (is DIGIT) (whole_digits_only l.seconds) (whole_stops (is DIGIT) refl no_digit)
 
       whole_spelled : spelled 0 (slice (run (eqb 48) text (place + 1)) (place + 1 + length whole) text) ≡ l.seconds
@@ -231,7 +231,7 @@ module _ (card : Card) (good : card_check card ≡ got tt) where
       the_sign = sees_of text place (eqb 45) at_sign ∙ minus_sign l.negative (whole ++ (fract ++ rest))
 
       signed : sign_step s text place ≡ got (record { negative = l.negative; next = place + 1 })
-      unfolding sign_step if◌then◌else◌ ◌>>=◌
+      unfolding sign_step when◌then◌else◌ ◌>>=◌
       signed =
           rw (
             a_sign_here,
@@ -249,19 +249,19 @@ module _ (card : Card) (good : card_check card ≡ got tt) where
 
       module _ (none : l.nanoseconds ≡ 0) where
         no_fract : fract ≡ []
-        unfolding written_fraction if◌then◌else◌
+        unfolding written_fraction when◌then◌else◌
         no_fract = rw none
 
         rest_at_point : drop point text ≡ rest
         rest_at_point = at_fraction ∙ ap (λ f. f ++ rest) no_fract
 
         number_none : number_step s text (place + 1) ≡ got (record { whole = typed; fract = record { start = point; end = point }; next = point })
-        unfolding number_step fraction_step if◌then◌else◌
+        unfolding number_step fraction_step when◌then◌else◌
         number_none = rw (whole_ends, no text point rest_at_point follows (is POINT) no_point)
 
       module _ (some : l.nanoseconds ≡ 0 → ⊥) where
         fract_is : fract ≡ 46 ∷ fraction_digits l.nanoseconds
-        unfolding written_fraction if◌then◌else◌
+        unfolding written_fraction when◌then◌else◌
         fract_is = rw (ne_eqb l.nanoseconds 0 some)
 
         decimals_at : drop point text ≡ (46 ∷ []) ++ (fraction_digits l.nanoseconds ++ rest)
@@ -274,14 +274,14 @@ module _ (card : Card) (good : card_check card ≡ got tt) where
         decimals_end = run_over text (point + 1) (fraction_digits l.nanoseconds) rest first_decimal (is DIGIT) (fraction_digits_only l.nanoseconds) (follows (is DIGIT) no_digit)
 
         a_point : sees (is POINT) text point ≡ true
-        unfolding starts is class between if◌then◌else◌
+        unfolding starts is class between when◌then◌else◌
         a_point = sees_of text point (is POINT) decimals_at
 
         abbrev last : ℕ
         last = point + 1 + length (fraction_digits l.nanoseconds)
 
         number_some : number_step s text (place + 1) ≡ got (record { whole = typed; fract = record { start = point + 1; end = last }; next = last })
-        unfolding number_step fraction_step if◌then◌else◌
+        unfolding number_step fraction_step when◌then◌else◌
         number_some = rw (whole_ends, a_point, fractions, begins, decimals_end)
 
         rest_at_last : drop last text ≡ rest
@@ -313,7 +313,7 @@ module _ (card : Card) (good : card_check card ≡ got tt) where
               }
 
           read_back : evaluate text repr ≡ l
-          unfolding evaluate if◌then◌else◌ up down nanos kind_multiplier kind_coefficients kind_downs
+          unfolding evaluate when◌then◌else◌ up down nanos kind_multiplier kind_coefficients kind_downs
           read_back = rw (default, typed_attos) (ap₂ length_of (xor_false l.negative) (omega arith) ∙ length_of_size l well)
 
           module _ (read : number_step s text (place + 1) ≡ got number) (rest_there : drop number.next text ≡ rest) where
@@ -329,11 +329,11 @@ module _ (card : Card) (good : card_check card ≡ got tt) where
                 )
 
             one_part : part card text place ≡ got (record { repr = Typed repr; next = number.next })
-            unfolding part unsigned_part if◌then◌else◌ ◌>>=◌
+            unfolding part unsigned_part when◌then◌else◌ ◌>>=◌
             one_part = rw (goes_on text place at_sign, signed, finite, sees_or (is DIGIT) (is POINT) text (place + 1), begins)
 
             reads : part_reading card text place ≡ got (record { length = l; next = place + length (written l) })
-            unfolding part_reading evaluated allowed if◌then◌else◌ ◌>>=◌
+            unfolding part_reading evaluated allowed when◌then◌else◌ ◌>>=◌
             reads = rw (one_part, read_back, negatives, at_end, and_false)
 
       -- ---- without decimals, and with some

@@ -2,7 +2,7 @@
 use Rattle.std.specs.Prelude.{◌≡◌, refl, Bool, true, false, List, [], ◌∷◌, ◌++◌, ℕ, zero, suc, ◌+◌, ◌*◌, ◌-◌, ◌/◌, ◌%◌, ◌^◌, ◌≤◌, ◌<◌, eqb, length}
 use Rattle.std.proofs.Common.{sym, ap, ◌∙◌, add-zero, mul_comm, mul_assoc, div-lt_iff_lt-mul, arith, eqb-true, lit<}
 use Rattle.std.proofs.Math.Nat.{sub-zero, pow-succ'}
-use Rattle.rules.specs.Common.{if◌then◌else◌}
+use Rattle.rules.specs.Common.{when◌then◌else◌}
 use Rattle.rules.specs.Evaluation.{spelled}
 use Rattle.rules.specs.WriterAndShiftTotal.{decimals, no_leading_zeros, before_zeros, no_trailing_zeros, second_digits, nanosecond_digits, whole_digits, fraction_digits}
 use Rattle.rules.proofs.Laws.Choices.{if_either}
@@ -26,7 +26,7 @@ spelled_decimals n (suc k) x h =
 
 -- leading zeros spell nothing
 pub spelled_leading : (digits : List ℕ) → spelled 0 (no_leading_zeros digits) ≡ spelled 0 digits
-unfolding no_leading_zeros spelled if◌then◌else◌
+unfolding no_leading_zeros spelled when◌then◌else◌
 spelled_leading [] = refl
 spelled_leading (d ∷ []) = refl
 spelled_leading (d ∷ e ∷ digits) = go (eqb d 48) refl (spelled_leading (e ∷ digits))
@@ -35,13 +35,13 @@ spelled_leading (d ∷ e ∷ digits) = go (eqb d 48) refl (spelled_leading (e �
         (b : Bool)
         → eqb d 48 ≡ b
         → spelled 0 (no_leading_zeros (e ∷ digits)) ≡ spelled 0 (e ∷ digits)
-        → spelled 0 (if b then no_leading_zeros (e ∷ digits) else d ∷ e ∷ digits) ≡ spelled 0 (d ∷ e ∷ digits)
+        → spelled 0 (when b then no_leading_zeros (e ∷ digits) else d ∷ e ∷ digits) ≡ spelled 0 (d ∷ e ∷ digits)
     go true z more = more ∙ rw (eqb-true d 48 z)
     go false z more = refl
 
 -- trailing zeros are powers of ten: with as many of these as digits were dropped, what is left spells the same
 pub spelled_trailing : (n : ℕ) (digits : List ℕ) → spelled n (no_trailing_zeros digits) * 10 ^ (length digits - length (no_trailing_zeros digits)) ≡ spelled n digits
-unfolding no_trailing_zeros before_zeros spelled if◌then◌else◌
+unfolding no_trailing_zeros before_zeros spelled when◌then◌else◌
 spelled_trailing n [] = omega arith
 spelled_trailing n (d ∷ digits) = go (no_trailing_zeros digits) (eqb d 48) refl (spelled_trailing (n * 10 + (d - 48)) digits)
   where

@@ -15,7 +15,7 @@ use Rattle.rules.specs.declared.Signed.{Signed}
 use Rattle.rules.specs.declared.Part.{Part}
 use Rattle.rules.specs.declared.Refusal.{Refusal}
 use Rattle.rules.specs.declared.Refusal.TheVariants.{Nothing, NoNumber}
-use Rattle.rules.specs.Common.{if◌then◌else◌, ascii, between, ends, starts, sees, run}
+use Rattle.rules.specs.Common.{when◌then◌else◌, ascii, between, ends, starts, sees, run}
 use Rattle.rules.specs.NumbersHandedBack.{Outcome, got, refused, ◌>>=◌}
 use Rattle.rules.specs.SettingsAndUnitTable.{DIGIT, SIGN, POINT, LETTER, OTHER, class, is, lower, holds, Card}
 use Rattle.rules.specs.ReadingOnePart.{same_letter, prefix, says, gap, sign_step, number_step, exponent_step, unit_step, numeral_end, numeral_found, numeral_step, spoken_unit_step, connection, infinite, finite, spoken, infinite_part, finite_part, spoken_part, unsigned_part, part}
@@ -35,7 +35,7 @@ use Rattle.reading.specs.declared.start.Start.{Start}
 
 -- the class of the byte at a place; at the end there is none
 unfoldable pub class_at : List ℕ → ℕ → ℕ
-class_at text place = if ends text place then OTHER else class (get_or text place 0)
+class_at text place = when ends text place then OTHER else class (get_or text place 0)
 
 -- the sign, and the class of what follows it
 abbrev pub start_of : List ℕ → Signed → Start
@@ -45,7 +45,7 @@ unfoldable pub signed_start : Settings → List ℕ → ℕ → Outcome Start
 signed_start s text place = sign_step s text place >>= λ signed. got (start_of text signed)
 
 unfoldable pub part_start : Settings → List ℕ → ℕ → Outcome Start
-part_start s text place = if ends text place then refused (Nothing place) else signed_start s text place
+part_start s text place = when ends text place then refused (Nothing place) else signed_start s text place
 
 -- ---- up to the connection
 
@@ -68,13 +68,13 @@ typed_spoken card text negative place = do
 
 unfoldable pub typed_word : Card → List ℕ → Bool → ℕ → Outcome Part
 typed_word card text negative place =
-    if card.settings.infinity && says (ascii "inf") text place
+    when card.settings.infinity && says (ascii "inf") text place
     then typed_infinite card.settings text negative place
     else typed_spoken card text negative place
 
 unfoldable pub typed_unsigned : Card → List ℕ → Bool → ℕ → Outcome Part
 typed_unsigned card text negative place =
-    if sees (λ b. is DIGIT b || is POINT b) text place then typed_finite card text negative place else typed_word card text negative place
+    when sees (λ b. is DIGIT b || is POINT b) text place then typed_finite card text negative place else typed_word card text negative place
 
 unfoldable pub typed_part : Card → List ℕ → ℕ → Outcome Part
 typed_part card text place = part_start card.settings text place >>= λ start. typed_unsigned card text start.negative start.next
@@ -129,11 +129,11 @@ module _ (card : Card) (text : List ℕ) where
 
 module _ (text : List ℕ) (place : ℕ) where
   pub class_end : length text ≤ place → OTHER ≡ class_at text place
-  unfolding class_at ends if◌then◌else◌
+  unfolding class_at ends when◌then◌else◌
   class_end h = rw (le-leb (length text) place h)
 
   pub class_here : place < length text → class (get_or text place 0) ≡ class_at text place
-  unfolding class_at ends if◌then◌else◌
+  unfolding class_at ends when◌then◌else◌
   class_here h = rw (lt-leb (length text) place h)
 
   -- a byte that is known to be of a class has it
@@ -156,12 +156,12 @@ module _ (s : Settings) (text : List ℕ) (place : ℕ) where
   signed_got e f = rw f (sym (bind_got _ e))
 
   pub start_nothing : length text ≤ place → refused (Nothing place) ≡ part_start s text place
-  unfolding part_start ends if◌then◌else◌
+  unfolding part_start ends when◌then◌else◌
   start_nothing h = rw (le-leb (length text) place h)
 
   module _ (h : place < length text) where
     pub start_signed : signed_start s text place ≡ part_start s text place
-    unfolding part_start ends if◌then◌else◌
+    unfolding part_start ends when◌then◌else◌
     start_signed = rw (lt-leb (length text) place h)
 
     pub start_plain :
@@ -184,7 +184,7 @@ module _ (s : Settings) (text : List ℕ) (place : ℕ) where
 
 -- a byte of `inf` is a letter
 inf_letter : (b : ℕ) → same_letter 105 b ≡ true → class b ≡ LETTER
-unfolding same_letter lower class between if◌then◌else◌
+unfolding same_letter lower class between when◌then◌else◌
 inf_letter b e = go (between 65 90 b) refl
   where
     capital : between 65 90 b ≡ true → lower b ≡ b + 32
@@ -225,17 +225,17 @@ module _ (card : Card) (text : List ℕ) (negative : Bool) (place : ℕ) where
   numeric = sees (λ b. is DIGIT b || is POINT b) text place
 
   numeric_class : numeric ≡ begins (class_at text place)
-  unfolding numeric class_at ends is if◌then◌else◌
+  unfolding numeric class_at ends is when◌then◌else◌
   numeric_class = go (leb (length text) place) refl
     where
-      go : (c : Bool) → leb (length text) place ≡ c → numeric ≡ begins (if c then OTHER else class (get_or text place 0))
+      go : (c : Bool) → leb (length text) place ≡ c → numeric ≡ begins (when c then OTHER else class (get_or text place 0))
       go true f = sees_end _ text place (leb-true (length text) place f)
       go false f = sees_here _ text place (leb-false (length text) place f)
 
   pub unsigned_number :
       (class_at text place ≡ DIGIT) ⊎ (class_at text place ≡ POINT)
       → typed_finite card text negative place ≡ typed_unsigned card text negative place
-  unfolding typed_unsigned numeric if◌then◌else◌
+  unfolding typed_unsigned numeric when◌then◌else◌
   unsigned_number f = rw (numeric_class ∙ either f)
     where
       either : (class_at text place ≡ DIGIT) ⊎ (class_at text place ≡ POINT) → begins (class_at text place) ≡ true
@@ -245,7 +245,7 @@ module _ (card : Card) (text : List ℕ) (negative : Bool) (place : ℕ) where
       (class_at text place ≡ DIGIT → ⊥)
       → (class_at text place ≡ POINT → ⊥)
       → typed_word card text negative place ≡ typed_unsigned card text negative place
-  unfolding typed_unsigned numeric if◌then◌else◌
+  unfolding typed_unsigned numeric when◌then◌else◌
   not_numeric d p = rw (numeric_class, ne_eqb _ DIGIT d, ne_eqb _ POINT p)
 
   -- ---- a word: infinity, if it is allowed, or a numeral
@@ -298,7 +298,7 @@ module _ (card : Card) (text : List ℕ) (negative : Bool) (place : ℕ) where
       → (class_at text place ≡ POINT → ⊥)
       → (class_at text place ≡ LETTER → ⊥)
       → refused (NoNumber place) ≡ typed_unsigned card text negative place
-  unfolding typed_word typed_spoken numeral_step numeral_found if◌then◌else◌
+  unfolding typed_word typed_spoken numeral_step numeral_found when◌then◌else◌
   unsigned_none sayable d p l = no_word (says (ascii "inf") text place) refl ∙ not_numeric d p
     where
       no_numeral : numeral_step card text place ≡ refused (NoNumber place)

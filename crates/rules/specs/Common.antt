@@ -6,10 +6,10 @@ use Prim.Native.String.{String}
 use Prim.Native.String
 use Prim.Native.Char.{code}
 
-infixr 5 if◌then◌else◌
-unfoldable pub if◌then◌else◌ {ℓ} : {A : Type ℓ} → Bool → A → A → A
-if true then a else b = a
-if false then a else b = b
+infixr 5 when◌then◌else◌
+unfoldable pub when◌then◌else◌ {ℓ} : {A : Type ℓ} → Bool → A → A → A
+when true then a else b = a
+when false then a else b = b
 
 -- the bytes of a text in quotes
 unfoldable pub ascii : String → List ℕ
@@ -51,7 +51,7 @@ sees test text place = starts test (drop place text)
 -- how many bytes pass the test before the first that does not
 unfoldable pub front : (ℕ → Bool) → List ℕ → ℕ
 front test [] = 0
-front test (b ∷ rest) = let more = suc (front test rest) in if test b then more else 0
+front test (b ∷ rest) = let more = suc (front test rest) in when test b then more else 0
 
 -- the place after the bytes from here on that pass the test
 unfoldable pub run : (ℕ → Bool) → List ℕ → ℕ → ℕ

@@ -14,7 +14,7 @@ use Rattle.rules.specs.declared.Repr.{Repr}
 use Rattle.rules.specs.declared.Repr.TheVariants.{Typed, Spoken}
 use Rattle.rules.specs.declared.Reading.{Reading}
 use Rattle.rules.specs.declared.Refusal.TheVariants.{Nothing, NegativeForbidden, OutOfRange}
-use Rattle.rules.specs.Common.{if◌then◌else◌, ends}
+use Rattle.rules.specs.Common.{when◌then◌else◌, ends}
 use Rattle.rules.specs.ThePartOfTheCrateWeTake.{nanoseconds_per_second, seconds_limit, zero_length, largest, size}
 use Rattle.rules.specs.NumbersHandedBack.{Outcome, got, refused, ◌>>=◌, ◌>>◌, unless}
 use Rattle.rules.specs.SettingsAndUnitTable.{times, in_range, Card}
@@ -33,10 +33,10 @@ digits_of text whole fract = slice whole.start whole.end text ++ slice fract.sta
 
 -- the powers of ten collected: those above zero, and those below
 unfoldable pub up : Exponent → Multiplier → ℕ
-up e m = m.up + (if e.negative then 0 else e.power)
+up e m = m.up + (when e.negative then 0 else e.power)
 
 unfoldable pub down : Exponent → Multiplier → ℕ
-down e m = m.down + (if e.negative then e.power else 0)
+down e m = m.down + (when e.negative then e.power else 0)
 
 -- A: the number n with f of its digits after the point, times ten to the power up - down, cut at the eighteenth decimal
 unfoldable pub attos : ℕ → ℕ → ℕ → ℕ → ℕ
@@ -51,15 +51,15 @@ nanos c a = c * a / 10 ^ 9
 -- so many nanoseconds with a sign: zero is plus, and 2^64 x 10^9 or more is MAX or MIN
 unfoldable pub length_of : Bool → ℕ → Length
 length_of negative r =
-    if eqb r 0
+    when eqb r 0
     then zero_length
-    else if leb (seconds_limit * nanoseconds_per_second) r
+    else when leb (seconds_limit * nanoseconds_per_second) r
     then largest negative
     else record { negative = negative; seconds = r / nanoseconds_per_second; nanoseconds = r % nanoseconds_per_second }
 
 unfoldable pub evaluate : List ℕ → DurationRepr → Length
 evaluate text d =
-    if d.infinite
+    when d.infinite
     then largest d.negative
     else
     length_of (xor d.negative d.multiplier.negative)
@@ -93,7 +93,7 @@ evaluated text (Spoken d) = evaluate_spoken d
 -- a part is read to its end, then evaluated, then tested for 5
 unfoldable pub allowed : Settings → ℕ → ℕ → Length → Outcome Reading
 allowed s place next l =
-    if l.negative && not s.negatives then refused (NegativeForbidden place) else got (record { length = l; next = next })
+    when l.negative && not s.negatives then refused (NegativeForbidden place) else got (record { length = l; next = next })
 
 unfoldable pub part_reading : Card → List ℕ → ℕ → Outcome Reading
 part_reading card text place = do
@@ -105,9 +105,9 @@ part_reading card text place = do
 
 unfoldable pub sum : Length → Length → Length
 sum a b =
-    if beq a.negative b.negative
+    when beq a.negative b.negative
     then length_of a.negative (size a + size b)
-    else if leb (size b) (size a)
+    else when leb (size b) (size a)
     then length_of a.negative (size a - size b)
     else length_of b.negative (size b - size a)
 
@@ -122,7 +122,7 @@ parts card text (suc n) place =
     part_reading card text place
     >>= λ r.
     let others = parts card text n r.next in
-    if ends text r.next then got (r.length ∷ []) else (others >>= λ more. got (r.length ∷ more))
+    when ends text r.next then got (r.length ∷ []) else (others >>= λ more. got (r.length ∷ more))
 
 -- the total adds the parts in order
 unfoldable pub total : Card → List ℕ → Outcome Length

@@ -19,7 +19,7 @@ use Rattle.rules.specs.declared.Repr.TheVariants.{Typed, Spoken}
 use Rattle.rules.specs.declared.Part.{Part}
 use Rattle.rules.specs.declared.Refusal.{Refusal}
 use Rattle.rules.specs.declared.Refusal.TheVariants.{Nothing, SignEnds, DelimiterEnds, FractionOff, FractionEmpty, ExponentOff, ExponentByte, ExponentEnds, ExponentAbove, ExponentBelow, InfinityByte, InfinityEnds, InfinityGoesOn, ConjunctionEnds, ConjunctionGoesOn, NoNumber, NoUnit}
-use Rattle.rules.specs.Common.{if◌then◌else◌, ascii, ends, sees, run}
+use Rattle.rules.specs.Common.{when◌then◌else◌, ascii, ends, sees, run}
 use Rattle.rules.specs.NumbersHandedBack.{Outcome, got, refused, ◌>>=◌, ◌>>◌}
 use Rattle.rules.specs.SettingsAndUnitTable.{DIGIT, SIGN, POINT, is, is_next_duration, lower, holds, letters_of, conjunctions_of, kind_multiplier, Card, lookup, find_row, row, kind, row_multiplier, product}
 
@@ -41,21 +41,21 @@ says word text place = prefix word (drop place text)
 -- a delimiter run that a step takes and that reaches the end of the text is 18 at its first byte
 unfoldable pub delimiters : ByteSet → List ℕ → ℕ → Outcome ℕ
 delimiters set text place =
-    if sees (holds set) text place && ends text (run (holds set) text place)
+    when sees (holds set) text place && ends text (run (holds set) text place)
     then refused (DelimiterEnds place)
     else got (run (holds set) text place)
 
 -- inner delimiters, if switched on
 unfoldable pub gap : Bool → Settings → List ℕ → ℕ → Outcome ℕ
-gap on s text place = if on then delimiters s.inner text place else got place
+gap on s text place = when on then delimiters s.inner text place else got place
 
 -- ---- 1. an optional sign; end after it: 17 there; inner delimiters follow if switched on
 
 unfoldable pub sign_step : Settings → List ℕ → ℕ → Outcome Signed
 sign_step s text place =
-    if not (sees (is SIGN) text place)
+    when not (sees (is SIGN) text place)
     then got (record { negative = false; next = place })
-    else if ends text (place + 1)
+    else when ends text (place + 1)
     then refused (SignEnds (place + 1))
     else (gap s.after_sign s text (place + 1) >>= λ next. got (record { negative = sees (eqb 45) text place; next = next }))
 
@@ -63,11 +63,11 @@ sign_step s text place =
 
 unfoldable pub fraction_step : Settings → List ℕ → Bool → Whole → ℕ → Outcome Number
 fraction_step s text any_whole whole place =
-    if not (sees (is POINT) text place)
+    when not (sees (is POINT) text place)
     then got (record { whole = whole; fract = record { start = place; end = place }; next = place })
-    else if not s.fractions
+    else when not s.fractions
     then refused (FractionOff place)
-    else if not (any_whole || sees (is DIGIT) text (place + 1))
+    else when not (any_whole || sees (is DIGIT) text (place + 1))
     then refused (FractionEmpty place)
     else
     got
@@ -87,33 +87,33 @@ number_step s text place =
 -- ---- 4. `e` or `E`: exponents off, 21 at it; else optional sign and at least one digit; missing, 17 where the text ends, 21 at another byte
 
 unfoldable pub exponent_limit : Bool → ℕ
-exponent_limit negative = if negative then 32768 else 32767
+exponent_limit negative = when negative then 32768 else 32767
 
 unfoldable pub exponent_passed : Bool → ℕ → Refusal
-exponent_passed negative place = if negative then ExponentBelow place else ExponentAbove place
+exponent_passed negative place = when negative then ExponentBelow place else ExponentAbove place
 
 -- the digits from the place on, of which the rest of the text begins, after those that spelled `power`
 unfoldable pub exponent_digits : Bool → List ℕ → ℕ → ℕ → Outcome Scaled
 exponent_digits negative [] power place = got (record { exponent = record { negative = negative; power = power }; next = place })
 exponent_digits negative (b ∷ rest) power place =
     let more = exponent_digits negative rest (power * 10 + (b - 48)) (suc place) in
-    if not (is DIGIT b)
+    when not (is DIGIT b)
     then got (record { exponent = record { negative = negative; power = power }; next = place })
-    else if leb (power * 10 + (b - 48)) (exponent_limit negative) then more else refused (exponent_passed negative place)
+    else when leb (power * 10 + (b - 48)) (exponent_limit negative) then more else refused (exponent_passed negative place)
 
 unfoldable pub exponent_number : List ℕ → Bool → ℕ → Outcome Scaled
 exponent_number text negative place =
-    if sees (is DIGIT) text place
+    when sees (is DIGIT) text place
     then exponent_digits negative (drop place text) 0 place
-    else if ends text place then refused (ExponentEnds place) else refused (ExponentByte place)
+    else when ends text place then refused (ExponentEnds place) else refused (ExponentByte place)
 
 unfoldable pub exponent_step : Settings → List ℕ → ℕ → Outcome Scaled
 exponent_step s text place =
-    if not (sees (same_letter 101) text place)
+    when not (sees (same_letter 101) text place)
     then got (record { exponent = record { negative = false; power = 0 }; next = place })
-    else if not s.exponents
+    else when not s.exponents
     then refused (ExponentOff place)
-    else exponent_number text (sees (eqb 45) text (place + 1)) (if sees (is SIGN) text (place + 1) then place + 2 else place + 1)
+    else exponent_number text (sees (eqb 45) text (place + 1)) (when sees (is SIGN) text (place + 1) then place + 2 else place + 1)
 
 -- ---- 6. unit: the stretch up to an outer delimiter, digit or sign, and with ago on also up to an inner delimiter
 
@@ -130,12 +130,12 @@ negated m = record { negative = not m.negative; coefficient = m.coefficient; up 
 -- after a found row, with ago on: inner delimiters, then `ago`, negate the row; otherwise the place goes back
 unfoldable pub ago_step : Settings → List ℕ → Multiplier → ℕ → Outcome declared_unit.Unit
 ago_step s text m place =
-    if not (s.ago && sees (holds s.inner) text place)
+    when not (s.ago && sees (holds s.inner) text place)
     then got (record { multiplier = m; next = place })
     else
     (delimiters s.inner text place
     >>= λ word.
-    if says (ascii "ago") text word && closes_unit s text (word + 3)
+    when says (ascii "ago") text word && closes_unit s text (word + 3)
     then got (record { multiplier = negated m; next = word + 3 })
     else got (record { multiplier = m; next = place }))
 
@@ -157,23 +157,23 @@ unfoldable pub conjunction_size : List Conjunction → List ℕ → ℕ → ℕ
 conjunction_size [] text place = 0
 conjunction_size (c ∷ others) text place =
     let more = conjunction_size others text place in
-    if says (letters_of c) text place then c.size else more
+    when says (letters_of c) text place then c.size else more
 
 -- after the word: outer delimiters, or a digit or sign, else 19 at that byte; end of text, 19 at the word's start
 unfoldable pub after_conjunction : Settings → List ℕ → ℕ → ℕ → Outcome ℕ
 after_conjunction s text word place =
-    if ends text place
+    when ends text place
     then refused (ConjunctionEnds word)
-    else if sees (holds s.outer) text place
+    else when sees (holds s.outer) text place
     then delimiters s.outer text place
-    else if sees is_next_duration text place then got place else refused (ConjunctionGoesOn place)
+    else when sees is_next_duration text place then got place else refused (ConjunctionGoesOn place)
 
 unfoldable pub conjunction_step : Settings → List ℕ → ℕ → ℕ → Outcome ℕ
-conjunction_step s text word size = if eqb size 0 then got word else after_conjunction s text word (word + size)
+conjunction_step s text word size = when eqb size 0 then got word else after_conjunction s text word (word + size)
 
 unfoldable pub connection : Settings → List ℕ → ℕ → Outcome ℕ
 connection s text place =
-    if not (sees (holds s.outer) text place)
+    when not (sees (holds s.outer) text place)
     then got place
     else (delimiters s.outer text place >>= λ word. conjunction_step s text word (conjunction_size (conjunctions_of s) text word))
 
@@ -188,14 +188,14 @@ letters_step inf [] rest place = got place
 letters_step inf (w ∷ word) [] place = refused (InfinityEnds inf)
 letters_step inf (w ∷ word) (b ∷ rest) place =
     let more = letters_step inf word rest (suc place) in
-    if same_letter w b then more else refused (InfinityByte place)
+    when same_letter w b then more else refused (InfinityByte place)
 
 unfoldable pub infinity_closed : Settings → List ℕ → ℕ → Outcome ℕ
-infinity_closed s text place = if closes_infinity s text place then connection s text place else refused (InfinityGoesOn place)
+infinity_closed s text place = when closes_infinity s text place then connection s text place else refused (InfinityGoesOn place)
 
 unfoldable pub infinity_step : Settings → List ℕ → ℕ → Outcome ℕ
 infinity_step s text inf =
-    if closes_infinity s text (inf + 3)
+    when closes_infinity s text (inf + 3)
     then connection s text (inf + 3)
     else (letters_step inf (ascii "inity") (drop (inf + 3) text) (inf + 3) >>= λ place. infinity_closed s text place)
 
@@ -208,7 +208,7 @@ numeral_end s text place = run (λ b. not (holds s.inner b)) text place
 -- found, and inner delimiters follow that do not end the text; otherwise 6 at its first byte
 unfoldable pub numeral_found : Card → List ℕ → ℕ → Found → Outcome Numeral
 numeral_found card text place (Row i) =
-    if sees (holds card.settings.inner) text (numeral_end card.settings text place)
+    when sees (holds card.settings.inner) text (numeral_end card.settings text place)
     then
     (delimiters card.settings.inner text (numeral_end card.settings text place)
     >>= λ next. got (record { multiplier = row_multiplier (row card.numerals i); next = next }))
@@ -290,14 +290,14 @@ spoken_part card text negative place = do
 -- a digit or a point; or `inf` in any case if allowed; otherwise a numeral
 unfoldable pub unsigned_part : Card → List ℕ → Bool → ℕ → Outcome Part
 unsigned_part card text negative place =
-    if sees (λ b. is DIGIT b || is POINT b) text place
+    when sees (λ b. is DIGIT b || is POINT b) text place
     then finite_part card text negative place
-    else if card.settings.infinity && says (ascii "inf") text place
+    else when card.settings.infinity && says (ascii "inf") text place
     then infinite_part card.settings text negative place
     else spoken_part card text negative place
 
 unfoldable pub part : Card → List ℕ → ℕ → Outcome Part
 part card text place =
-    if ends text place
+    when ends text place
     then refused (Nothing place)
     else (sign_step card.settings text place >>= λ signed. unsigned_part card text signed.negative signed.next)

@@ -10,7 +10,7 @@ use Rattle.rules.specs.declared.Found.{Found}
 use Rattle.rules.specs.declared.Found.TheVariants.{Row, Nowhere}
 use Rattle.rules.specs.declared.Refusal.{Refusal}
 use Rattle.rules.specs.declared.Refusal.TheVariants.{Delimiters, Conjunctions, DefaultKind, TableSize, BadRow, LineSize, BadLineRow, NumeralsSize, BadNumeral}
-use Rattle.rules.specs.Common.{if◌then◌else◌, between, all, runs, same, starts}
+use Rattle.rules.specs.Common.{when◌then◌else◌, between, all, runs, same, starts}
 use Rattle.rules.specs.NumbersHandedBack.{Outcome, got, refused, ◌>>◌, unless}
 
 -- ---- byte classes
@@ -33,9 +33,9 @@ OTHER = 4
 -- the rule of the 256 byte classes: `0` to `9`; `+` and `-`; `.`; `A` to `Z` and `a` to `z`; all others
 unfoldable pub class : ℕ → ℕ
 class b =
-    if between 48 57 b
+    when between 48 57 b
     then DIGIT
-    else if eqb b 43 || eqb b 45 then SIGN else if eqb b 46 then POINT else if between 65 90 b || between 97 122 b then LETTER else OTHER
+    else when eqb b 43 || eqb b 45 then SIGN else when eqb b 46 then POINT else when between 65 90 b || between 97 122 b then LETTER else OTHER
 
 unfoldable pub is : ℕ → ℕ → Bool
 is wanted b = eqb (class b) wanted
@@ -46,7 +46,7 @@ is_next_duration b = is DIGIT b || is SIGN b
 
 -- ASCII letters compare in any case
 unfoldable pub lower : ℕ → ℕ
-lower b = if between 65 90 b then b + 32 else b
+lower b = when between 65 90 b then b + 32 else b
 
 -- ---- delimiters
 
@@ -157,7 +157,7 @@ unfoldable pub below_zero : ℕ → ℕ → Bool
 below_zero bytes x = leb (256 ^ bytes / 2) x
 
 unfoldable pub magnitude : ℕ → ℕ → ℕ
-magnitude bytes x = if below_zero bytes x then 256 ^ bytes - x else x
+magnitude bytes x = when below_zero bytes x then 256 ^ bytes - x else x
 
 -- coefficients multiplied, powers added
 unfoldable pub times : Multiplier → Multiplier → Multiplier
@@ -190,7 +190,7 @@ can_be_typed s n = not (led_by_e n) || e_may_lead s
 -- the first bad row of the n from i on
 unfoldable pub rows_check : (ℕ → Bool) → (ℕ → Refusal) → ℕ → ℕ → Outcome (Unit {0})
 rows_check accepted bad i zero = got tt
-rows_check accepted bad i (suc n) = let more = rows_check accepted bad (suc i) n in if accepted i then more else refused (bad i)
+rows_check accepted bad i (suc n) = let more = rows_check accepted bad (suc i) n in when accepted i then more else refused (bad i)
 
 -- "Names longer than sixteen bytes" (request eight): all else of a row stands behind the room that its name has
 module _ (room : ℕ) where
@@ -231,8 +231,8 @@ module _ (room : ℕ) where
   row_multiplier_in r = record {
     negative = below_zero coefficient_size (coefficient_field_in r);
     coefficient = magnitude coefficient_size (coefficient_field_in r);
-    up = if below_zero power_size (power_field_in r) then 0 else power_field_in r;
-    down = if below_zero power_size (power_field_in r) then magnitude power_size (power_field_in r) else 0;
+    up = when below_zero power_size (power_field_in r) then 0 else power_field_in r;
+    down = when below_zero power_size (power_field_in r) then magnitude power_size (power_field_in r) else 0;
   }
 
   -- kind times row
@@ -288,7 +288,7 @@ module _ (room : ℕ) where
   unfoldable pub lookup_from_in : List ℕ → List ℕ → ℕ → ℕ → Found
   lookup_from_in table wanted i zero = Nowhere
   lookup_from_in table wanted i (suc n) =
-      let more = lookup_from_in table wanted (suc i) n in if same (name (row_in table i)) wanted then Row i else more
+      let more = lookup_from_in table wanted (suc i) n in when same (name (row_in table i)) wanted then Row i else more
 
   unfoldable pub lookup_in : List ℕ → List ℕ → Found
   lookup_in table wanted = lookup_from_in table wanted 0 (rows_in table)
@@ -421,7 +421,7 @@ find_row hall line wanted = held_row hall line (stands hall line wanted)
 -- ---- the stored form of a row: two lower-case hexadecimal digits for each byte, 96 in all, and a newline
 
 unfoldable pub hexadecimal : ℕ → ℕ
-hexadecimal d = if ltb d 10 then 48 + d else 87 + d
+hexadecimal d = when ltb d 10 then 48 + d else 87 + d
 
 unfoldable pub two_digits : List ℕ → List ℕ
 two_digits [] = []

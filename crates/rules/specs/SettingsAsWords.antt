@@ -4,7 +4,7 @@ use Rattle.std.specs.Prelude.{Bool, not, List, [], ◌∷◌, ℕ, ◌+◌, ◌-
 use Rattle.rules.specs.declared.ByteSet.{ByteSet}
 use Rattle.rules.specs.declared.Conjunction.{Conjunction}
 use Rattle.rules.specs.declared.Settings.{Settings}
-use Rattle.rules.specs.Common.{if◌then◌else◌}
+use Rattle.rules.specs.Common.{when◌then◌else◌}
 use Rattle.rules.specs.SettingsAndUnitTable.{Card}
 
 -- one of the words
@@ -17,14 +17,14 @@ on word = not (eqb word 0)
 
 -- a word that its field cannot hold is the most that it can
 unfoldable pub held_to : ℕ → ℕ → ℕ
-held_to most word = if leb word most then word else most
+held_to most word = when leb word most then word else most
 
 -- what a field of 8 bits can hold
 abbrev pub most_of_a_byte : ℕ
 most_of_a_byte = 2 ^ 8 - 1
 
 abbrev pub bit : Bool → ℕ
-bit b = if b then 1 else 0
+bit b = when b then 1 else 0
 
 -- ---- seven switches, the inner and the outer set, the conjunctions, the default kind
 

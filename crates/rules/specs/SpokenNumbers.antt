@@ -3,7 +3,7 @@ use Rattle.std.specs.Prelude.{Bool, true, false, ◌&&◌, List, [], ◌∷◌, 
 use Prim.Native.String.{String}
 use Rattle.rules.specs.declared.ByteSet.{ByteSet}
 use Rattle.rules.specs.declared.Settings.{Settings}
-use Rattle.rules.specs.Common.{if◌then◌else◌, ascii, all}
+use Rattle.rules.specs.Common.{when◌then◌else◌, ascii, all}
 use Rattle.rules.specs.ThePartOfTheCrateWeTake.{largest}
 use Rattle.rules.specs.NumbersHandedBack.{done}
 use Rattle.rules.specs.SettingsAndUnitTable.{Card}
@@ -24,7 +24,7 @@ speaking numerals = record { settings = settings_A; hall = table_A; line = []; n
 -- so many numerals of one letter each
 unfoldable pub lettered : ℕ → List ℕ
 lettered zero = []
-lettered (suc n) = 1 ∷ (if ltb n 26 then 65 + n else 71 + n) ∷ replicate 31 0 ++ 3 ∷ 1 ∷ replicate 13 0 ++ lettered n
+lettered (suc n) = 1 ∷ (when ltb n 26 then 65 + n else 71 + n) ∷ replicate 31 0 ++ 3 ∷ 1 ∷ replicate 13 0 ++ lettered n
 
 unfoldable pub refused_with : ℕ → List ℕ → Bool
 refused_with position numerals = holds_under (speaking numerals) (fails "1s" 7 position)

@@ -4,7 +4,7 @@ use Rattle.std.specs.Prelude.{Bool, true, false, List, [], ◌∷◌, ◌++◌, 
 use Rattle.rules.specs.declared.Length.{Length}
 use Rattle.rules.specs.declared.Reading.{Reading}
 use Rattle.rules.specs.declared.Refusal.TheVariants.{NoRoom, Beyond, Malformed}
-use Rattle.rules.specs.Common.{if◌then◌else◌}
+use Rattle.rules.specs.Common.{when◌then◌else◌}
 use Rattle.rules.specs.ThePartOfTheCrateWeTake.{well_formed}
 use Rattle.rules.specs.NumbersHandedBack.{Outcome, got, refused, ◌>>=◌, ◌>>◌, unless}
 use Rattle.rules.specs.Evaluation.{sum}
@@ -20,10 +20,10 @@ decimals (suc n) x = (48 + x / 10 ^ n % 10) ∷ decimals n x
 unfoldable pub no_leading_zeros : List ℕ → List ℕ
 no_leading_zeros [] = []
 no_leading_zeros (d ∷ []) = d ∷ []
-no_leading_zeros (d ∷ e ∷ digits) = let more = no_leading_zeros (e ∷ digits) in if eqb d 48 then more else d ∷ e ∷ digits
+no_leading_zeros (d ∷ e ∷ digits) = let more = no_leading_zeros (e ∷ digits) in when eqb d 48 then more else d ∷ e ∷ digits
 
 unfoldable pub before_zeros : ℕ → List ℕ → List ℕ
-before_zeros d [] = if eqb d 48 then [] else d ∷ []
+before_zeros d [] = when eqb d 48 then [] else d ∷ []
 before_zeros d (e ∷ digits) = d ∷ e ∷ digits
 
 unfoldable pub no_trailing_zeros : List ℕ → List ℕ
@@ -38,7 +38,7 @@ abbrev pub nanosecond_digits : ℕ
 nanosecond_digits = 9
 
 unfoldable pub sign_byte : Bool → ℕ
-sign_byte negative = if negative then 45 else 43
+sign_byte negative = when negative then 45 else 43
 
 -- seconds without needless zeros
 unfoldable pub whole_digits : ℕ → List ℕ
@@ -50,7 +50,7 @@ fraction_digits nanoseconds = no_trailing_zeros (decimals nanosecond_digits nano
 
 -- if nanoseconds are not 0, a point and their digits
 unfoldable pub written_fraction : ℕ → List ℕ
-written_fraction nanoseconds = if eqb nanoseconds 0 then [] else 46 ∷ fraction_digits nanoseconds
+written_fraction nanoseconds = when eqb nanoseconds 0 then [] else 46 ∷ fraction_digits nanoseconds
 
 -- the sign always, the seconds, and the fraction
 unfoldable pub written : Length → List ℕ

@@ -11,7 +11,7 @@ use Rattle.std.proofs.Math.Dec.{leb}
 use Rattle.std.proofs.Math.ListN.{length, length-drop}
 use Rattle.std.proofs.Math.Seq.{length-take-le}
 use Rattle.rules.specs.declared.Answer.{Answer}
-use Rattle.rules.specs.Common.{if◌then◌else◌}
+use Rattle.rules.specs.Common.{when◌then◌else◌}
 use Rattle.rules.specs.SettingsAndUnitTable.{Card}
 use Rattle.rules.specs.WhatEveryEntryOwes.{total_answer}
 use Rattle.rules.proofs.Laws.Tests.{and_false}
@@ -28,7 +28,7 @@ come print size room [] p = p
 come print size room (line ∷ more) p =
     let next : Progress = record { read = p.read + length line + 1; printed = p.printed + length (print line) } in
     let on = come print size room more next in
-    if leb next.read size && leb next.printed room then on else p
+    when leb next.read size && leb next.printed room then on else p
 
 -- how far a sheet is answered into a buffer with so much room
 unfoldable pub answered_to : Card → List ℕ → ℕ → Progress
@@ -54,7 +54,7 @@ module _ (card : Card) (sheet : List ℕ) (room from place : ℕ) where
   at_line :
       from < length sheet
       → going_on card sheet room from place
-      ≡ (if leb (end + 1) (length sheet) && leb (place + size) room then going_on card sheet room (end + 1) (place + size) else record { read = from; printed = place })
+      ≡ (when leb (end + 1) (length sheet) && leb (place + size) room then going_on card sheet room (end + 1) (place + size) else record { read = from; printed = place })
   unfolding going_on come end size
   at_line h =
       let inside : line_end sheet from ≤ length sheet = end_within sheet from (omega arith) in
@@ -68,7 +68,7 @@ module _ (card : Card) (sheet : List ℕ) (room from place : ℕ) where
 
   -- without a newline it is not answered
   pub on_end : length sheet ≤ line_end sheet from → record { read = from; printed = place } ≡ going_on card sheet room from place
-  unfolding end size if◌then◌else◌
+  unfolding end size when◌then◌else◌
   on_end last = go (leb (length sheet) from) refl
     where
       go : (b : Bool) → leb (length sheet) from ≡ b → record { read = from; printed = place } ≡ going_on card sheet room from place
@@ -80,13 +80,13 @@ module _ (card : Card) (sheet : List ℕ) (room from place : ℕ) where
     some = omega (arith, end_from sheet from)
 
     pub on_full : room < place + length (line_printed card (line_at sheet from)) → record { read = from; printed = place } ≡ going_on card sheet room from place
-    unfolding end size if◌then◌else◌
+    unfolding end size when◌then◌else◌
     on_full h = sym (at_line some ∙ rw (lt-leb _ room h, and_false))
 
     pub on_more :
         place + length (line_printed card (line_at sheet from)) ≤ room
         → going_on card sheet room (line_end sheet from + 1) (place + length (line_printed card (line_at sheet from))) ≡ going_on card sheet room from place
-    unfolding end size if◌then◌else◌
+    unfolding end size when◌then◌else◌
     on_more h = sym (at_line some ∙ rw (le-leb (line_end sheet from + 1) (length sheet) (omega arith), le-leb _ room h))
 
 -- ---- what is printed for the lines up to a place

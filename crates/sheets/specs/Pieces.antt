@@ -7,7 +7,7 @@ use mathlib.Core.List.{List, [], ◌∷◌, ◌++◌, append_assoc, append-nil}
 use Prim.Native.Nat.{ℕ, zero, suc, ◌+◌, ◌*◌, ◌-◌, ◌≤◌, ◌<◌, zero-le, suc-le-suc}
 use Rattle.std.proofs.Math.ListN.{length}
 use Rattle.rules.specs.declared.Answer.{Answer}
-use Rattle.rules.specs.Common.{if◌then◌else◌, all}
+use Rattle.rules.specs.Common.{when◌then◌else◌, all}
 use Rattle.rules.specs.SettingsAndUnitTable.{Card}
 use Rattle.rules.specs.WhatEveryEntryOwes.{total_answer}
 use Rattle.rules.specs.WriterAndShiftTotal.{no_leading_zeros, decimals, second_digits, whole_digits}
@@ -65,12 +65,12 @@ abbrev pub most_printed : ℕ
 most_printed = 4 * second_digits + 6
 
 shorter : (digits : List ℕ) → length (no_leading_zeros digits) ≤ length digits
-unfolding no_leading_zeros if◌then◌else◌
+unfolding no_leading_zeros when◌then◌else◌
 shorter [] = zero-le
 shorter (d ∷ []) = suc-le-suc zero-le
 shorter (d ∷ e ∷ digits) = go (eqb d 48) (shorter (e ∷ digits))
   where
-    go : (b : Bool) → length (no_leading_zeros (e ∷ digits)) ≤ suc (length digits) → length (if b then no_leading_zeros (e ∷ digits) else d ∷ e ∷ digits) ≤ suc (suc (length digits))
+    go : (b : Bool) → length (no_leading_zeros (e ∷ digits)) ≤ suc (length digits) → length (when b then no_leading_zeros (e ∷ digits) else d ∷ e ∷ digits) ≤ suc (suc (length digits))
     go true h = omega arith
     go false h = omega arith
 

@@ -7,7 +7,7 @@ use Rattle.rules.specs.declared.Answer.{Answer}
 use Rattle.rules.specs.declared.Length.{Length}
 use Rattle.rules.specs.declared.Refusal.{Refusal}
 use Rattle.rules.specs.declared.Refusal.TheVariants.{Nothing, SignEnds, DelimiterEnds, FractionOff, FractionEmpty, ExponentOff, ExponentByte, ExponentEnds, ExponentAbove, ExponentBelow, InfinityByte, InfinityEnds, InfinityGoesOn, ConjunctionEnds, ConjunctionGoesOn, NegativeForbidden, NoNumber, NoUnit, OutOfRange, Delimiters, Conjunctions, DefaultKind, TableSize, BadRow, LineSize, BadLineRow, NumeralsSize, BadNumeral, WrongIndex, WrongLineIndex, TextTooLong, NoRoom, Beyond, Malformed, NotIso, YearOrMonth, TooLarge, NoStoredRow, NameTooLong}
-use Rattle.rules.specs.Common.{if◌then◌else◌, between}
+use Rattle.rules.specs.Common.{when◌then◌else◌, between}
 use Rattle.rules.specs.NumbersHandedBack.{Outcome, got, refused, number, position, done, refusal, answered}
 use Rattle.rules.specs.SettingsAndUnitTable.{Card}
 use Rattle.rules.specs.WriterAndShiftTotal.{writing}
@@ -20,7 +20,7 @@ use Rattle.six_slips.specs.TheAnswerBefore.{number_before, before, iso_before, i
 
 -- of each refusal: its number folded is the one before, and it is not 2
 number_folded : (cause : Refusal) → (fold_number (number cause) ≡ number_before cause) × (eqb (number cause) 2 ≡ false)
-unfolding fold_number slip between if◌then◌else◌ number number_before
+unfolding fold_number slip between when◌then◌else◌ number number_before
 number_folded (Nothing p) = (refl, refl)
 number_folded (SignEnds p) = (refl, refl)
 number_folded (DelimiterEnds p) = (refl, refl)
@@ -63,7 +63,7 @@ number_folded (NameTooLong i) = (refl, refl)
 
 -- of every refusal, and of nothing else
 folds : Folds before folded
-unfolding before folded fold_number slip between refusal if◌then◌else◌
+unfolding before folded fold_number slip between refusal when◌then◌else◌
 folds = record {
   refusals = λ cause. ap (λ n. refused_at n (position cause)) (number_folded cause).0;
   others = λ a read. rw read refl;

@@ -5,7 +5,7 @@ use Rattle.rules.specs.declared.Answer.{Answer}
 use Rattle.rules.specs.declared.Length.{Length}
 use Rattle.rules.specs.declared.Refusal.{Refusal}
 use Rattle.rules.specs.declared.Refusal.TheVariants.{Nothing, SignEnds, DelimiterEnds, FractionOff, FractionEmpty, ExponentOff, ExponentByte, ExponentEnds, ExponentAbove, ExponentBelow, InfinityByte, InfinityEnds, InfinityGoesOn, ConjunctionEnds, ConjunctionGoesOn, NegativeForbidden, NoNumber, NoUnit, OutOfRange, Delimiters, Conjunctions, DefaultKind, TableSize, BadRow, LineSize, BadLineRow, NumeralsSize, BadNumeral, WrongIndex, WrongLineIndex, TextTooLong, NoRoom, Beyond, Malformed, NotIso, YearOrMonth, TooLarge, NoStoredRow, NameTooLong}
-use Rattle.rules.specs.Common.{if◌then◌else◌, between}
+use Rattle.rules.specs.Common.{when◌then◌else◌, between}
 use Rattle.rules.specs.NumbersHandedBack.{position, done}
 use Rattle.handed_back.specs.ByAnotherTable.{Table, answered_by}
 use Rattle.iso.specs.IsoTimings.{read_iso, writing_iso}
@@ -70,7 +70,7 @@ unfoldable pub slip : ℕ → Bool
 slip n = between 17 22 n
 
 unfoldable pub fold_number : ℕ → ℕ
-fold_number n = if slip n then 2 else n
+fold_number n = when slip n then 2 else n
 
 unfoldable pub folded : Answer → Answer
 folded a = record { number = fold_number a.number; position = a.position; length = a.length }

@@ -9,7 +9,7 @@ use Rattle.std.proofs.Math.Seq.{get_or-take, get_or-drop, get_or-append-add, tak
 use Rattle.std.proofs.lemmas.Bool.{eqb-false}
 use Rattle.rules.specs.declared.Settings.{Settings}
 use Rattle.rules.specs.declared.Refusal.TheVariants.{TableSize, BadRow}
-use Rattle.rules.specs.Common.{if◌then◌else◌}
+use Rattle.rules.specs.Common.{when◌then◌else◌}
 use Rattle.rules.specs.NumbersHandedBack.{Outcome, got, refused, ◌>>◌, unless}
 use Rattle.rules.specs.SettingsAndUnitTable.{row_size, rows, rows_in, row, row_in, name, row_accepted, whole_rows_in, rows_check, table_check}
 use Rattle.rows.specs.Laws.Rows.{length_row}
@@ -131,17 +131,17 @@ passes_got {m = refused cause} e = absurd (false≢true e)
 
 -- a row as a table of one row: what is found of it is whether it passes by itself
 module _ (rule : RowRule) (new : List ℕ) (sized : length new ≡ row_size) {m : Outcome (Unit {0})} (found : m ≡ tabled TableSize 1 (tested rule false new) BadRow new) where
-  one_row : m ≡ (if alone rule new then got tt else refused (BadRow 0))
+  one_row : m ≡ (when alone rule new then got tt else refused (BadRow 0))
   unfolding whole_rows_in rows_in rows_check unless ◌>>◌ row_in
   one_row =
       let all : take row_size (drop (row_size * 0) new) ≡ new = take_all row_size new (omega arith) in
       found ∙ rw (sized, all)
 
   pub one_decides : passes m ≡ alone rule new
-  unfolding passes if◌then◌else◌
+  unfolding passes when◌then◌else◌
   one_decides = ap passes one_row ∙ go (alone rule new)
     where
-      go : (t : Bool) → passes (if t then got tt else refused (BadRow 0)) ≡ t
+      go : (t : Bool) → passes (when t then got tt else refused (BadRow 0)) ≡ t
       go true = refl
       go false = refl
 

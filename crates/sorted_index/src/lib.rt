@@ -1,3 +1,3 @@
-// A sorted index beside the unit table: only theorems, which stand in specs/.
+// A sorted index beside the unit table: only theorems, in specs/ and proofs/.
 
 #![tactic(auto)]

@@ -13,7 +13,7 @@ use Rattle.rules.specs.declared.Part.{Part}
 use Rattle.rules.specs.declared.Refusal.TheVariants.{BadRow}
 use Rattle.rules.specs.declared.Repr.TheVariants.{Typed}
 use Rattle.rules.specs.declared.Settings.{Settings}
-use Rattle.rules.specs.Common.{if◌then◌else◌, between, run}
+use Rattle.rules.specs.Common.{when◌then◌else◌, between, run}
 use Rattle.rules.specs.NumbersHandedBack.{Outcome, got, refused, ◌>>=◌, ◌>>◌, unless}
 use Rattle.rules.specs.SettingsAndUnitTable.{rows_in, row, kind, row_formed_in, row_right_in, row_accepted, row_accepted_in, whole_rows_in, rows_check, units_check_in, table_check, line_check, numerals_check_in, card_check, lookup_from_in, lookup, lookup_in, line_first, stands, held_row, find_row}
 use Rattle.rules.specs.ReadingOnePart.{in_stretch, find_unit, unit_found, unit_step, numeral_found, numeral_step, infinite_part, finite_part, spoken_part, unsigned_part, part}
@@ -36,8 +36,8 @@ abbrev typed : before.Part → Part
 typed p = record { repr = Typed p.repr; next = p.next }
 
 -- what follows a choice follows either case
-if_bind : {A B : Type 0} (b : Bool) (x y : Outcome A) (next : A → Outcome B) → ((if b then x else y) >>= next) ≡ (if b then x >>= next else y >>= next)
-unfolding if◌then◌else◌
+if_bind : {A B : Type 0} (b : Bool) (x y : Outcome A) (next : A → Outcome B) → ((when b then x else y) >>= next) ≡ (when b then x >>= next else y >>= next)
+unfolding when◌then◌else◌
 if_bind true x y next = refl
 if_bind false x y next = refl
 

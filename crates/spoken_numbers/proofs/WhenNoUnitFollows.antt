@@ -10,7 +10,7 @@ use Rattle.rules.specs.declared.Found.{Found}
 use Rattle.rules.specs.declared.Found.TheVariants.{Row, Nowhere}
 use Rattle.rules.specs.declared.Refusal.{Refusal}
 use Rattle.rules.specs.declared.Refusal.TheVariants.{NoUnit}
-use Rattle.rules.specs.Common.{if◌then◌else◌, all, ends, sees, run}
+use Rattle.rules.specs.Common.{when◌then◌else◌, all, ends, sees, run}
 use Rattle.rules.specs.NumbersHandedBack as numbers
 use Rattle.rules.specs.NumbersHandedBack.{Outcome, got, refused, ◌>>=◌, position}
 use Rattle.rules.specs.SettingsAndUnitTable.{is, holds, Card, lookup, row, row_multiplier}
@@ -46,7 +46,7 @@ module _ (card : Card) (text : List ℕ) where
 
   -- and it gets every numeral
   numeral_gets : (place i q : ℕ) → NumeralAt card text place i q → numeral_step card text place ≡ got (record { multiplier = row_multiplier (row card.numerals i); next = q })
-  unfolding numeral_step numeral_found delimiters ◌>>=◌ if◌then◌else◌
+  unfolding numeral_step numeral_found delimiters ◌>>=◌ when◌then◌else◌
   numeral_gets place i q h = rw (h.found, h.followed, h.behind, h.goes_on)
 
   -- without a unit the refusal is at the place

@@ -13,7 +13,7 @@ use Rattle.rules.specs.declared.Refusal.TheVariants.{Nothing, NoNumber, TableSiz
 use Rattle.rules.specs.declared.Scaled.{Scaled}
 use Rattle.rules.specs.declared.Settings.{Settings}
 use Rattle.rules.specs.declared.Unit as declared_unit
-use Rattle.rules.specs.Common.{if◌then◌else◌, ascii, between, all, ends, sees, run}
+use Rattle.rules.specs.Common.{when◌then◌else◌, ascii, between, all, ends, sees, run}
 use Rattle.rules.specs.ThePartOfTheCrateWeTake.{longest_text, zero_length, well_formed}
 use Rattle.rules.specs.NumbersHandedBack.{Outcome, got, refused, ◌>>=◌, ◌>>◌, unless, done, answered}
 use Rattle.rules.specs.SettingsAndUnitTable.{DIGIT, POINT, is, last_kind, kind_multiplier, settings_check, most_rows, name_room, zeros_at, row_size, rows, row, name_size, name, after_name, kind, product, in_range, may_name, named, can_be_typed, lookup}
@@ -39,7 +39,7 @@ row_accepted s table i = row_right s table i && can_be_typed s (name (row table 
 
 unfoldable pub rows_check : Settings → List ℕ → ℕ → ℕ → Outcome (Unit {0})
 rows_check s table i zero = got tt
-rows_check s table i (suc n) = let more = rows_check s table (suc i) n in if row_accepted s table i then more else refused (BadRow i)
+rows_check s table i (suc n) = let more = rows_check s table (suc i) n in when row_accepted s table i then more else refused (BadRow i)
 
 unfoldable pub table_check : Settings → List ℕ → Outcome (Unit {0})
 table_check s table = do
@@ -104,15 +104,15 @@ finite_part s table text negative place = do
 
 unfoldable pub unsigned_part : Settings → List ℕ → List ℕ → Bool → ℕ → Outcome Part
 unsigned_part s table text negative place =
-    if sees (λ b. is DIGIT b || is POINT b) text place
+    when sees (λ b. is DIGIT b || is POINT b) text place
     then finite_part s table text negative place
-    else if s.infinity && says (ascii "inf") text place
+    else when s.infinity && says (ascii "inf") text place
     then infinite_part s text negative place
     else refused (NoNumber place)
 
 unfoldable pub part : Settings → List ℕ → List ℕ → ℕ → Outcome Part
 part s table text place =
-    if ends text place
+    when ends text place
     then refused (Nothing place)
     else (sign_step s text place >>= λ signed. unsigned_part s table text signed.negative signed.next)
 
@@ -127,7 +127,7 @@ parts s table text (suc n) place =
     part_reading s table text place
     >>= λ r.
     let others = parts s table text n r.next in
-    if ends text r.next then got (r.length ∷ []) else (others >>= λ more. got (r.length ∷ more))
+    when ends text r.next then got (r.length ∷ []) else (others >>= λ more. got (r.length ∷ more))
 
 unfoldable pub total : Settings → List ℕ → List ℕ → Outcome Length
 total s table text = parts s table text (suc (length text)) 0 >>= λ lengths. got (sum_all zero_length lengths)

@@ -6,7 +6,7 @@ use borrow.Author.Tests.{le-leb, lt-leb}
 use Rattle.rules.specs.declared.ByteSet.{ByteSet}
 use Rattle.rules.specs.declared.Settings.{Settings}
 use Rattle.rules.specs.declared.Refusal.TheVariants.{DelimiterEnds}
-use Rattle.rules.specs.Common.{if◌then◌else◌, ends, sees, run}
+use Rattle.rules.specs.Common.{when◌then◌else◌, ends, sees, run}
 use Rattle.rules.specs.NumbersHandedBack.{got, refused}
 use Rattle.rules.specs.SettingsAndUnitTable.{holds}
 use Rattle.rules.specs.ReadingOnePart.{delimiters, gap}
@@ -46,16 +46,16 @@ module _ (set : ByteSet) (text : List ℕ) (place : ℕ) where
     there = at ∙ run_held set text (place + 1) ∙ sym (run_more (holds set) text place here)
 
     pub delimiters_end : length text ≤ end → refused (DelimiterEnds place) ≡ delimiters set text place
-    unfolding delimiters ends if◌then◌else◌
+    unfolding delimiters ends when◌then◌else◌
     delimiters_end k = rw (← there, here, le-leb (length text) end k)
 
     pub delimiters_past : end < length text → got end ≡ delimiters set text place
-    unfolding delimiters ends if◌then◌else◌
+    unfolding delimiters ends when◌then◌else◌
     delimiters_past k = rw (← there, lt-leb (length text) end k, and_false)
 
   -- and none
   pub delimiters_none : sees (holds set) text place ≡ false → got place ≡ delimiters set text place
-  unfolding delimiters if◌then◌else◌
+  unfolding delimiters when◌then◌else◌
   delimiters_none e = rw (run_stop (holds set) text place e, e)
 
 -- a run that is got ends within the text
@@ -72,9 +72,9 @@ delimiters_within set text place e d =
     (all_if (λ _. all_refused) (λ _. all_got (run_within (holds set) text place (omega arith)))) d
 
 pub gap_on : (s : Settings) (text : List ℕ) (place : ℕ) → gap true s text place ≡ delimiters s.inner text place
-unfolding gap if◌then◌else◌
+unfolding gap when◌then◌else◌
 gap_on s text place = refl
 
 pub gap_off : (s : Settings) (text : List ℕ) (place : ℕ) → gap false s text place ≡ got place
-unfolding gap if◌then◌else◌
+unfolding gap when◌then◌else◌
 gap_off s text place = refl

@@ -7,7 +7,7 @@ use Rattle.std.proofs.Math.Dec.{leb-suc-zero, leb-suc-suc}
 use Rattle.rules.specs.declared.ByteSet.{ByteSet}
 use Rattle.rules.specs.declared.Settings.{Settings}
 use Rattle.rules.specs.declared.Refusal.TheVariants.{InfinityByte, InfinityEnds, InfinityGoesOn}
-use Rattle.rules.specs.Common.{if◌then◌else◌, ascii, ends, sees}
+use Rattle.rules.specs.Common.{when◌then◌else◌, ascii, ends, sees}
 use Rattle.rules.specs.NumbersHandedBack.{Outcome, got, refused, ◌>>=◌}
 use Rattle.rules.specs.SettingsAndUnitTable.{holds}
 use Rattle.rules.specs.ReadingOnePart.{same_letter, connection, closes_infinity, letters_step, infinity_closed, infinity_step}
@@ -17,7 +17,7 @@ use Rattle.steps.specs.Letters.{matching}
 
 -- what closes the word, at the place after it
 unfoldable pub word_closed : Settings → List ℕ → ℕ → Outcome ℕ
-word_closed s text place = if closes_infinity s text place then got place else refused (InfinityGoesOn place)
+word_closed s text place = when closes_infinity s text place then got place else refused (InfinityGoesOn place)
 
 -- `inity` after `inf`
 unfoldable pub infinity_long : Settings → List ℕ → ℕ → Outcome ℕ
@@ -25,7 +25,7 @@ infinity_long s text inf = letters_step inf (ascii "inity") (drop (inf + 3) text
 
 -- `inf`, or the whole word
 unfoldable pub infinity_word : Settings → List ℕ → ℕ → Outcome ℕ
-infinity_word s text inf = if closes_infinity s text (inf + 3) then got (inf + 3) else infinity_long s text inf
+infinity_word s text inf = when closes_infinity s text (inf + 3) then got (inf + 3) else infinity_long s text inf
 
 -- the step is the word, and then the connection
 module _ (s : Settings) (text : List ℕ) where
@@ -42,21 +42,21 @@ module _ (s : Settings) (text : List ℕ) where
 -- ---- letter by letter: all of them, the text's end before the last, or a wrong one
 
 matching_most : (word rest : List ℕ) → matching word rest ≤ length word
-unfolding matching if◌then◌else◌
+unfolding matching when◌then◌else◌
 matching_most [] rest = zero-le
 matching_most (w ∷ word) [] = zero-le
 matching_most (w ∷ word) (b ∷ rest) = go (same_letter w b) (matching_most word rest)
   where
-    go : (c : Bool) → matching word rest ≤ length word → (if c then suc (matching word rest) else 0) ≤ suc (length word)
+    go : (c : Bool) → matching word rest ≤ length word → (when c then suc (matching word rest) else 0) ≤ suc (length word)
     go true h = suc-le-suc h
     go false h = zero-le
 
 -- what the step comes to where so many letters of a word of so many match a rest of so many bytes
 counted : ℕ → ℕ → ℕ → ℕ → ℕ → Outcome ℕ
 counted inf place letters word rest =
-    if leb word letters
+    when leb word letters
     then got (place + word)
-    else if leb rest letters then refused (InfinityEnds inf) else refused (InfinityByte (place + letters))
+    else when leb rest letters then refused (InfinityEnds inf) else refused (InfinityByte (place + letters))
 
 -- one letter more that matches
 counted_next : (inf place letters word rest : ℕ) → counted inf (suc place) letters word rest ≡ counted inf place (suc letters) (suc word) (suc rest)
@@ -68,7 +68,7 @@ counted_next inf place letters word rest =
 letters_counted :
     (inf : ℕ) (word rest : List ℕ) (place : ℕ)
     → letters_step inf word rest place ≡ counted inf place (matching word rest) (length word) (length rest)
-unfolding letters_step matching counted if◌then◌else◌
+unfolding letters_step matching counted when◌then◌else◌
 letters_counted inf [] rest place = ap got (sym (add-zero place))
 letters_counted inf (w ∷ word) [] place = rw (leb-suc-zero (length word))
 letters_counted inf (w ∷ word) (b ∷ rest) place = go (same_letter w b) (letters_counted inf word rest (suc place))
@@ -79,8 +79,8 @@ letters_counted inf (w ∷ word) (b ∷ rest) place = go (same_letter w b) (lett
     go :
         (c : Bool)
         → step ≡ counted inf (suc place) (matching word rest) (length word) (length rest)
-        → (if c then step else refused (InfinityByte place))
-        ≡ counted inf place (if c then suc (matching word rest) else 0) (suc (length word)) (suc (length rest))
+        → (when c then step else refused (InfinityByte place))
+        ≡ counted inf place (when c then suc (matching word rest) else 0) (suc (length word)) (suc (length rest))
     go true e = e ∙ counted_next inf place (matching word rest) (length word) (length rest)
     go false e = rw (leb-suc-zero (length word), leb-suc-zero (length rest), add-zero place)
 
@@ -96,35 +96,35 @@ module _
   five_counted = rw (m, ← (length-drop (inf + 3) text)) (letters_counted inf (ascii "inity") (drop (inf + 3) text) (inf + 3))
 
   pub long_ends : letters < 5 → length text ≤ inf + 3 + letters → refused (InfinityEnds inf) ≡ infinity_long s text inf
-  unfolding infinity_long counted if◌then◌else◌
+  unfolding infinity_long counted when◌then◌else◌
   long_ends h k = sym (bind_refused _ (five_counted ∙ rw (lt-leb 5 letters h, le-leb (length text - (inf + 3)) letters (omega arith))))
 
   pub long_byte : letters < 5 → inf + 3 + letters < length text → refused (InfinityByte (inf + 3 + letters)) ≡ infinity_long s text inf
-  unfolding infinity_long counted if◌then◌else◌
+  unfolding infinity_long counted when◌then◌else◌
   long_byte h k = sym (bind_refused _ (five_counted ∙ rw (lt-leb 5 letters h, lt-leb (length text - (inf + 3)) letters (omega arith))))
 
   module _ (h : 5 ≤ letters) where
     all_read : letters_step inf (ascii "inity") (drop (inf + 3) text) (inf + 3) ≡ got (inf + 3 + letters)
-    unfolding counted if◌then◌else◌
+    unfolding counted when◌then◌else◌
     all_read = five_counted ∙ rw (le-leb 5 letters h) (ap (λ n. got (inf + 3 + n)) (omega (arith, five_most (drop (inf + 3) text))))
 
     pub long_closed : closes_infinity s text (inf + 3 + letters) ≡ true → got (inf + 3 + letters) ≡ infinity_long s text inf
-    unfolding infinity_long word_closed if◌then◌else◌
+    unfolding infinity_long word_closed when◌then◌else◌
     long_closed e = sym (bind_got _ all_read ∙ rw e)
 
     pub long_goes_on :
         closes_infinity s text (inf + 3 + letters) ≡ false
         → refused (InfinityGoesOn (inf + 3 + letters)) ≡ infinity_long s text inf
-    unfolding infinity_long word_closed if◌then◌else◌
+    unfolding infinity_long word_closed when◌then◌else◌
     long_goes_on e = sym (bind_got _ all_read ∙ rw e)
 
 module _ (s : Settings) (text : List ℕ) (inf : ℕ) where
   pub word_short : closes_infinity s text (inf + 3) ≡ true → got (inf + 3) ≡ infinity_word s text inf
-  unfolding infinity_word if◌then◌else◌
+  unfolding infinity_word when◌then◌else◌
   word_short e = rw e
 
   pub word_long : closes_infinity s text (inf + 3) ≡ false → infinity_long s text inf ≡ infinity_word s text inf
-  unfolding infinity_word if◌then◌else◌
+  unfolding infinity_word when◌then◌else◌
   word_long e = rw e
 
 module _ (s : Settings) (text : List ℕ) (place : ℕ) where

@@ -2,7 +2,7 @@
 use Rattle.std.specs.Prelude.{◌≡◌, Bool}
 use Rattle.std.proofs.Math.Path.{refl}
 use Rattle.std.proofs.Math.Bool.{true, false}
-use Rattle.rules.specs.Common.{if◌then◌else◌}
+use Rattle.rules.specs.Common.{when◌then◌else◌}
 use Rattle.rules.specs.NumbersHandedBack.{Outcome, got, refused, ◌>>=◌}
 
 module _ {B C : Type 0} (more : B → Outcome C) where
@@ -18,7 +18,7 @@ module _ {B C : Type 0} (more : B → Outcome C) where
       (b : Bool) {x y : Outcome C} (u v : Outcome B)
       → x ≡ (u >>= more)
       → y ≡ (v >>= more)
-      → (if b then x else y) ≡ ((if b then u else v) >>= more)
-  unfolding if◌then◌else◌
+      → (when b then x else y) ≡ ((when b then u else v) >>= more)
+  unfolding when◌then◌else◌
   if_joined true u v p q = p
   if_joined false u v p q = q

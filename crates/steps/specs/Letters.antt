@@ -6,7 +6,7 @@ use Rattle.std.proofs.Math.Numerals.{add-one}
 use native.Mathlib.Omega.{arith}
 use Rattle.std.proofs.Math.ListN.{drop_of_length-le}
 use Rattle.std.proofs.Math.Seq.{drop-cons}
-use Rattle.rules.specs.Common.{if◌then◌else◌}
+use Rattle.rules.specs.Common.{when◌then◌else◌}
 use Rattle.rules.specs.SettingsAndUnitTable.{low_bytes}
 use Rattle.rules.specs.ReadingOnePart.{same_letter, prefix, says}
 use Rattle.rules.proofs.Laws.Tests.{eqb_iff}
@@ -15,7 +15,7 @@ use Rattle.rules.proofs.Laws.Tests.{eqb_iff}
 unfoldable pub matching : List ℕ → List ℕ → ℕ
 matching [] rest = 0
 matching (w ∷ word) [] = 0
-matching (w ∷ word) (b ∷ rest) = let more = suc (matching word rest) in if same_letter w b then more else 0
+matching (w ∷ word) (b ∷ rest) = let more = suc (matching word rest) in when same_letter w b then more else 0
 
 matching_nothing : (word : List ℕ) → matching word [] ≡ 0
 unfolding matching
@@ -24,7 +24,7 @@ matching_nothing (w ∷ word) = refl
 
 -- the word stands there if all of its letters do
 prefix_matching : (word rest : List ℕ) → prefix word rest ≡ eqb (matching word rest) (length word)
-unfolding prefix matching if◌then◌else◌
+unfolding prefix matching when◌then◌else◌
 prefix_matching [] rest = refl
 prefix_matching (w ∷ word) [] = sym (ne_eqb 0 (suc (length word)) (λ e. omega arith))
 prefix_matching (w ∷ word) (b ∷ rest) = go (same_letter w b) (prefix_matching word rest)
@@ -32,7 +32,7 @@ prefix_matching (w ∷ word) (b ∷ rest) = go (same_letter w b) (prefix_matchin
     go :
         (c : Bool)
         → prefix word rest ≡ eqb (matching word rest) (length word)
-        → (c && prefix word rest) ≡ eqb (if c then suc (matching word rest) else 0) (suc (length word))
+        → (c && prefix word rest) ≡ eqb (when c then suc (matching word rest) else 0) (suc (length word))
     go true e = e ∙ eqb_iff (matching word rest) (length word) (suc (matching word rest)) (suc (length word)) (ap suc) (λ h. omega arith)
     go false e = sym (ne_eqb 0 (suc (length word)) (λ h. omega arith))
 
@@ -54,11 +54,11 @@ module _ (word text : List ℕ) (i place : ℕ) where
     pub matching_more :
         same_letter (get_or word i 0) (get_or text place 0) ≡ true
         → matching (drop i word) (drop place text) ≡ suc (matching (drop (i + 1) word) (drop (place + 1) text))
-    unfolding matching if◌then◌else◌
+    unfolding matching when◌then◌else◌
     matching_more e = rw (drop-cons word i 0 hi, drop-cons text place 0 hp, e, add-one i, add-one place)
 
     pub matching_stops : same_letter (get_or word i 0) (get_or text place 0) ≡ false → matching (drop i word) (drop place text) ≡ 0
-    unfolding matching if◌then◌else◌
+    unfolding matching when◌then◌else◌
     matching_stops e = rw (drop-cons word i 0 hi, drop-cons text place 0 hp, e)
 
 -- ---- the same for a word whose letters stand in a number

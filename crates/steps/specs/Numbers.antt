@@ -7,7 +7,7 @@ use Rattle.std.proofs.Math.Dec.{ltb}
 use Rattle.rules.specs.declared.Settings.{Settings}
 use Rattle.rules.specs.declared.Whole.{Whole}
 use Rattle.rules.specs.declared.Refusal.TheVariants.{FractionOff, FractionEmpty}
-use Rattle.rules.specs.Common.{if◌then◌else◌, sees, run}
+use Rattle.rules.specs.Common.{when◌then◌else◌, sees, run}
 use Rattle.rules.specs.NumbersHandedBack.{got, refused}
 use Rattle.rules.specs.SettingsAndUnitTable.{DIGIT, POINT, is}
 use Rattle.rules.specs.ReadingOnePart.{fraction_step, number_step}
@@ -20,12 +20,12 @@ module _ (s : Settings) (text : List ℕ) (any_whole : Bool) (whole : Whole) (pl
       sees (is POINT) text place ≡ false
       → got (record { whole = whole; fract = record { start = place; end = place }; next = place })
       ≡ fraction_step s text any_whole whole place
-  unfolding fraction_step if◌then◌else◌
+  unfolding fraction_step when◌then◌else◌
   fraction_absent e = rw e
 
   module _ (e : sees (is POINT) text place ≡ true) where
     pub fraction_off : s.fractions ≡ false → refused (FractionOff place) ≡ fraction_step s text any_whole whole place
-    unfolding fraction_step if◌then◌else◌
+    unfolding fraction_step when◌then◌else◌
     fraction_off off = rw (e, off)
 
     module _
@@ -35,19 +35,19 @@ module _ (s : Settings) (text : List ℕ) (any_whole : Bool) (whole : Whole) (pl
           end ≡ place + 1
           → any_whole ≡ false
           → refused (FractionEmpty place) ≡ fraction_step s text any_whole whole place
-      unfolding fraction_step if◌then◌else◌
+      unfolding fraction_step when◌then◌else◌
       fraction_empty h w = rw (e, on, w, sees_none (is DIGIT) text (place + 1) (omega (arith, rw f at h)))
 
       pub fraction_after :
           any_whole ≡ true
           → got (record { whole = whole; fract = record { start = place + 1; end = end }; next = end }) ≡ fraction_step s text any_whole whole place
-      unfolding fraction_step if◌then◌else◌
+      unfolding fraction_step when◌then◌else◌
       fraction_after w = rw (e, on, w, f)
 
       pub fraction_some :
           (end ≡ place + 1 → ⊥)
           → got (record { whole = whole; fract = record { start = place + 1; end = end }; next = end }) ≡ fraction_step s text any_whole whole place
-      unfolding fraction_step if◌then◌else◌
+      unfolding fraction_step when◌then◌else◌
       fraction_some h = rw (e, on, sees_run (is DIGIT) text (place + 1) beyond, or_true, f)
         where
           beyond : place + 1 < run (is DIGIT) text (place + 1)

@@ -14,7 +14,7 @@ use Rattle.rules.specs.declared.Found.{Found}
 use Rattle.rules.specs.declared.Found.TheVariants.{Row, Nowhere}
 use Rattle.rules.specs.declared.Refusal.{Refusal}
 use Rattle.rules.specs.declared.Refusal.TheVariants.{NoNumber}
-use Rattle.rules.specs.Common.{if◌then◌else◌, starts, sees, run}
+use Rattle.rules.specs.Common.{when◌then◌else◌, starts, sees, run}
 use Rattle.rules.specs.NumbersHandedBack.{Outcome, got, refused, ◌>>=◌}
 use Rattle.rules.specs.SettingsAndUnitTable.{LETTER, is, holds, Card, rows, rows_in, row, row_multiplier, lookup_from_in, lookup, lookup_in}
 use Rattle.rules.specs.ReadingOnePart.{delimiters, numeral_end, numeral_found, numeral_step}
@@ -44,7 +44,7 @@ row_and_place i next = record { row = i; next = next }
 
 unfoldable pub numeral_here : Settings → List ℕ → ℕ → Found → Outcome FoundNumeral
 numeral_here s text place (Row i) =
-    if sees (holds s.inner) text (numeral_end s text place)
+    when sees (holds s.inner) text (numeral_end s text place)
     then (delimiters s.inner text (numeral_end s text place) >>= λ next. got (row_and_place i next))
     else refused (NoNumber place)
 numeral_here s text place Nowhere = refused (NoNumber place)
@@ -60,15 +60,15 @@ numeral_of numerals found = record { multiplier = row_multiplier (row numerals f
 pub numeral_is :
     (card : Card) (text : List ℕ) (place : ℕ)
     → numeral_step card text place ≡ (numeral_row card.settings card.numerals text place >>= λ found. got (numeral_of card.numerals found))
-unfolding numeral_step numeral_found numeral_row numeral_here if◌then◌else◌ ◌>>=◌
+unfolding numeral_step numeral_found numeral_row numeral_here when◌then◌else◌ ◌>>=◌
 numeral_is card text place = go (lookup card.numerals (slice place end text))
   where
     end : ℕ
     end = numeral_end card.settings text place
 
     told : (i : ℕ) (b : Bool) (run : Outcome ℕ)
-        → (if b then (run >>= λ next. got (numeral_of card.numerals (row_and_place i next))) else refused (NoNumber place))
-        ≡ ((if b then (run >>= λ next. got (row_and_place i next)) else refused (NoNumber place)) >>= λ found. got (numeral_of card.numerals found))
+        → (when b then (run >>= λ next. got (numeral_of card.numerals (row_and_place i next))) else refused (NoNumber place))
+        ≡ ((when b then (run >>= λ next. got (row_and_place i next)) else refused (NoNumber place)) >>= λ found. got (numeral_of card.numerals found))
     told i true (got next) = refl
     told i true (refused cause) = refl
     told i false run = refl
@@ -114,7 +114,7 @@ module _ (s : Settings) (numerals text : List ℕ) (place : ℕ) where
     numeral_from = rw ended (run_from _ text place)
 
     pub numeral_ends : length text ≤ end → refused (NoNumber place) ≡ numeral_row s numerals text place
-    unfolding numeral_row numeral_here if◌then◌else◌
+    unfolding numeral_row numeral_here when◌then◌else◌
     numeral_ends h = go (lookup numerals (slice place (numeral_end s text place) text))
       where
         go : (f : Found) → refused (NoNumber place) ≡ numeral_here s text place f
@@ -144,7 +144,7 @@ module _ (s : Settings) (numerals text : List ℕ) (place : ℕ) where
 
         module _ {k : ℕ} (r : found ≡ Row k) where
           asked : numeral_row s numerals text place ≡ (delimiters inner text end >>= λ next. got (row_and_place k next))
-          unfolding numeral_row numeral_here if◌then◌else◌
+          unfolding numeral_row numeral_here when◌then◌else◌
           asked = rw (looked, r, end_is, ← i, delimiter_behind)
 
           pub numeral_refused : {cause : Refusal} → delimiters inner text end ≡ refused cause → refused cause ≡ numeral_row s numerals text place

@@ -8,7 +8,7 @@ use Rattle.rules.specs.declared.Settings.{Settings}
 use Rattle.rules.specs.declared.Signed.{Signed}
 use Rattle.rules.specs.declared.Refusal.{Refusal}
 use Rattle.rules.specs.declared.Refusal.TheVariants.{SignEnds}
-use Rattle.rules.specs.Common.{if◌then◌else◌, between, ends, sees}
+use Rattle.rules.specs.Common.{when◌then◌else◌, between, ends, sees}
 use Rattle.rules.specs.NumbersHandedBack.{got, refused}
 use Rattle.rules.specs.SettingsAndUnitTable.{SIGN, class, is}
 use Rattle.rules.specs.ReadingOnePart.{gap, sign_step}
@@ -19,10 +19,10 @@ use Rattle.rules.proofs.Laws.Texts.{sees_here, sees_end}
 -- ---- the sign, if there is one: minus or not, and the place after it
 
 unfoldable pub sign_at : List ℕ → ℕ → Signed
-sign_at text place = record { negative = sees (eqb 45) text place; next = if sees (is SIGN) text place then place + 1 else place }
+sign_at text place = record { negative = sees (eqb 45) text place; next = when sees (is SIGN) text place then place + 1 else place }
 
 no_minus : (b : ℕ) → is SIGN b ≡ false → eqb 45 b ≡ false
-unfolding is class between if◌then◌else◌
+unfolding is class between when◌then◌else◌
 no_minus b e = go (eqb 45 b) refl
   where
     minus : is SIGN 45 ≡ true
@@ -34,20 +34,20 @@ no_minus b e = go (eqb 45 b) refl
 
 module _ (text : List ℕ) (place : ℕ) where
   pub sign_ends : length text ≤ place → ◌≡◌ {A = Signed} (record { negative = false; next = place }) (sign_at text place)
-  unfolding sign_at if◌then◌else◌
+  unfolding sign_at when◌then◌else◌
   sign_ends h = rw (sees_end (eqb 45) text place h, sees_end (is SIGN) text place h)
 
   module _ (h : place < length text) where
     pub sign_none :
         is SIGN (get_or text place 0) ≡ false
         → ◌≡◌ {A = Signed} (record { negative = false; next = place }) (sign_at text place)
-    unfolding sign_at if◌then◌else◌
+    unfolding sign_at when◌then◌else◌
     sign_none e = rw (sees_here (eqb 45) text place h, sees_here (is SIGN) text place h, e, no_minus (get_or text place 0) e)
 
     pub sign_there :
         is SIGN (get_or text place 0) ≡ true
         → ◌≡◌ {A = Signed} (record { negative = eqb (get_or text place 0) 45; next = place + 1 }) (sign_at text place)
-    unfolding sign_at if◌then◌else◌
+    unfolding sign_at when◌then◌else◌
     sign_there e = rw (sees_here (eqb 45) text place h, sees_here (is SIGN) text place h, e, eqb_sym 45 (get_or text place 0))
 
   minus_unseen : sees (is SIGN) text place ≡ false → sees (eqb 45) text place ≡ false
@@ -63,7 +63,7 @@ module _ (text : List ℕ) (place : ℕ) where
 
 module _ (s : Settings) (text : List ℕ) (place : ℕ) where
   sign_absent : sees (is SIGN) text place ≡ false → got (record { negative = false; next = place }) ≡ sign_step s text place
-  unfolding sign_step if◌then◌else◌
+  unfolding sign_step when◌then◌else◌
   sign_absent e = rw e
 
   pub sign_other :
@@ -76,12 +76,12 @@ module _ (s : Settings) (text : List ℕ) (place : ℕ) where
     seen :
         {b : Bool}
         → sees (is SIGN) text place ≡ b
-        → sign ≡ record { negative = sees (eqb 45) text place; next = if b then place + 1 else place }
+        → sign ≡ record { negative = sees (eqb 45) text place; next = when b then place + 1 else place }
     unfolding sign_at
     seen e = rw e at at
 
     pub sign_plain : sign.next ≡ place → got sign ≡ sign_step s text place
-    unfolding if◌then◌else◌
+    unfolding when◌then◌else◌
     sign_plain h = go (sees (is SIGN) text place) refl
       where
         go : (b : Bool) → sees (is SIGN) text place ≡ b → got sign ≡ sign_step s text place
@@ -90,7 +90,7 @@ module _ (s : Settings) (text : List ℕ) (place : ℕ) where
 
     module _ (other : sign.next ≡ place → ⊥) where
       there : sees (is SIGN) text place ≡ true
-      unfolding if◌then◌else◌
+      unfolding when◌then◌else◌
       there = go (sees (is SIGN) text place) refl
         where
           go : (b : Bool) → sees (is SIGN) text place ≡ b → b ≡ true
@@ -98,11 +98,11 @@ module _ (s : Settings) (text : List ℕ) (place : ℕ) where
           go false e = absurd (other (ap (λ x. x.next) (seen e)))
 
       after : sign.next ≡ place + 1
-      unfolding if◌then◌else◌
+      unfolding when◌then◌else◌
       after = ap (λ x. x.next) (seen there)
 
       pub sign_last : length text ≤ sign.next → refused (SignEnds sign.next) ≡ sign_step s text place
-      unfolding sign_step ends if◌then◌else◌
+      unfolding sign_step ends when◌then◌else◌
       sign_last h = rw (after, there, le-leb (length text) (place + 1) (rw after at h))
 
       module _ (h : sign.next < length text) {on : Bool} (a : s.after_sign ≡ on) where
@@ -116,10 +116,10 @@ module _ (s : Settings) (text : List ℕ) (place : ℕ) where
             {next : ℕ}
             → gap on s text sign.next ≡ got next
             → got (record { negative = sign.negative; next = next }) ≡ sign_step s text place
-        unfolding sign_step ends if◌then◌else◌
+        unfolding sign_step ends when◌then◌else◌
         sign_got g =
             rw (ap (λ x. x.negative) (seen there), there, lt-leb (length text) (place + 1) more, bind_got _ (switched ∙ g))
 
         pub sign_refused : {cause : Refusal} → gap on s text sign.next ≡ refused cause → refused cause ≡ sign_step s text place
-        unfolding sign_step ends if◌then◌else◌
+        unfolding sign_step ends when◌then◌else◌
         sign_refused g = rw (there, lt-leb (length text) (place + 1) more, bind_refused _ (switched ∙ g))

@@ -12,7 +12,7 @@ use Rattle.rules.specs.declared.Multiplier.{Multiplier}
 use Rattle.rules.specs.declared.Unit as declared_unit
 use Rattle.rules.specs.declared.Found.TheVariants.{Nowhere}
 use Rattle.rules.specs.declared.Refusal.{Refusal}
-use Rattle.rules.specs.Common.{if◌then◌else◌, between, ascii, ends, sees, front, run}
+use Rattle.rules.specs.Common.{when◌then◌else◌, between, ascii, ends, sees, front, run}
 use Rattle.rules.specs.NumbersHandedBack.{Outcome, got, refused, ◌>>=◌}
 use Rattle.rules.specs.SettingsAndUnitTable.{settings_check, class, is, is_next_duration, holds, rows, row, kind, row_multiplier, product, in_range, lookup, line_first, stands, held_row, find_row}
 use Rattle.rules.specs.ReadingOnePart.{says, delimiters, in_stretch, closes_unit, negated, ago_step}
@@ -62,12 +62,12 @@ abbrev pub next_set : ByteSet
 next_set = record { word0 = 287992881640112128; word1 = 0; word2 = 0; word3 = 0 }
 
 next_holds : (b : ℕ) → b < 256 → holds next_set b ≡ is_next_duration b
-unfolding runs is_next_duration is class between if◌then◌else◌
+unfolding runs is_next_duration is class between when◌then◌else◌
 next_holds b h = first_word 287992881640112128 is_next_duration refl refl b h
 
 -- the bytes before which a name ends, as one set
 unfoldable pub stops_of : Settings → ByteSet
-stops_of s = if s.ago then either (either s.outer next_set) s.inner else either s.outer next_set
+stops_of s = when s.ago then either (either s.outer next_set) s.inner else either s.outer next_set
 
 module _ (s : Settings) (b : ℕ) (h : b < 256) where
   not-not : (t : Bool) → t ≡ not (not t)
@@ -75,7 +75,7 @@ module _ (s : Settings) (b : ℕ) (h : b < 256) where
   not-not false = refl
 
   stops : holds (stops_of s) b ≡ not (in_stretch s b)
-  unfolding stops_of in_stretch if◌then◌else◌
+  unfolding stops_of in_stretch when◌then◌else◌
   stops = go s.ago refl
     where
       go : (a : Bool) → s.ago ≡ a → holds (stops_of s) b ≡ not (in_stretch s b)
@@ -146,17 +146,17 @@ back place = AgoRead.Got (record { negated = false; next = place })
 
 unfoldable pub ago_after : Settings → List ℕ → ℕ → Outcome ℕ → AgoRead
 ago_after s text place (got word) =
-    if says (ascii "ago") text word && closes_unit s text (word + 3) then AgoRead.Got (record { negated = true; next = word + 3 }) else back place
+    when says (ascii "ago") text word && closes_unit s text (word + 3) then AgoRead.Got (record { negated = true; next = word + 3 }) else back place
 ago_after s text place (refused cause) = AgoRead.Refused cause
 
 -- what follows a unit's name, whatever the unit
 unfoldable pub ago_read : Settings → List ℕ → ℕ → AgoRead
 ago_read s text place =
-    if not (s.ago && sees (holds s.inner) text place) then back place else ago_after s text place (delimiters s.inner text place)
+    when not (s.ago && sees (holds s.inner) text place) then back place else ago_after s text place (delimiters s.inner text place)
 
 -- a multiplier as it is, or negated
 abbrev pub negated_if : Bool → Multiplier → Multiplier
-negated_if negate m = if negate then negated m else m
+negated_if negate m = when negate then negated m else m
 
 abbrev pub agoed : Multiplier → AgoRead → Outcome declared_unit.Unit
 agoed m (AgoRead.Got found) = got (record { multiplier = negated_if found.negated m; next = found.next })
@@ -164,31 +164,31 @@ agoed m (AgoRead.Refused cause) = refused cause
 
 -- is document 01's step, of each
 pub ago_is : (s : Settings) (text : List ℕ) (place : ℕ) (m : Multiplier) → ago_step s text m place ≡ agoed m (ago_read s text place)
-unfolding ago_step ago_read ago_after if◌then◌else◌ ◌>>=◌
+unfolding ago_step ago_read ago_after when◌then◌else◌ ◌>>=◌
 ago_is s text place m = go (not (s.ago && sees (holds s.inner) text place)) (delimiters s.inner text place)
   where
     said : (b : Bool) (word : ℕ)
-        → (if b then got (record { multiplier = negated m; next = word + 3 }) else got (record { multiplier = m; next = place }))
-        ≡ agoed m (if b then AgoRead.Got (record { negated = true; next = word + 3 }) else back place)
+        → (when b then got (record { multiplier = negated m; next = word + 3 }) else got (record { multiplier = m; next = place }))
+        ≡ agoed m (when b then AgoRead.Got (record { negated = true; next = word + 3 }) else back place)
     said true word = refl
     said false word = refl
 
     go : (b : Bool) (run : Outcome ℕ)
-        → (if b
+        → (when b
         then got (record { multiplier = m; next = place })
         else
         (run
         >>= λ word.
-        if says (ascii "ago") text word && closes_unit s text (word + 3)
+        when says (ascii "ago") text word && closes_unit s text (word + 3)
         then got (record { multiplier = negated m; next = word + 3 })
         else got (record { multiplier = m; next = place })))
-        ≡ agoed m (if b then back place else ago_after s text place run)
+        ≡ agoed m (when b then back place else ago_after s text place run)
     go true run = refl
     go false (got word) = said (says (ascii "ago") text word && closes_unit s text (word + 3)) word
     go false (refused cause) = refl
 
 pub ago_off : (s : Settings) (text : List ℕ) (place : ℕ) → s.ago ≡ false → back place ≡ ago_read s text place
-unfolding ago_read if◌then◌else◌
+unfolding ago_read when◌then◌else◌
 ago_off s text place a = rw a
 
 module _ (s : Settings) {inner : ByteSet} (i : s.inner ≡ inner) (text : List ℕ) (place : ℕ) (a : s.ago ≡ true) where
@@ -199,26 +199,26 @@ module _ (s : Settings) {inner : ByteSet} (i : s.inner ≡ inner) (text : List �
   taken e = ap (λ set. delimiters set text place) i ∙ e
 
   pub ago_none : sees (holds inner) text place ≡ false → back place ≡ ago_read s text place
-  unfolding ago_read if◌then◌else◌
+  unfolding ago_read when◌then◌else◌
   ago_none e = rw (a, inner_sees e)
 
   module _ (e : sees (holds inner) text place ≡ true) where
     pub ago_refused : {cause : Refusal} → delimiters inner text place ≡ refused cause → AgoRead.Refused cause ≡ ago_read s text place
-    unfolding ago_read ago_after if◌then◌else◌
+    unfolding ago_read ago_after when◌then◌else◌
     ago_refused d = rw (a, inner_sees e, taken d)
 
     module _ {word : ℕ} (d : delimiters inner text place ≡ got word) where
       pub ago_other : says (ascii "ago") text word ≡ false → back place ≡ ago_read s text place
-      unfolding ago_read ago_after if◌then◌else◌
+      unfolding ago_read ago_after when◌then◌else◌
       ago_other w = rw (a, inner_sees e, taken d, w)
 
       module _ (w : says (ascii "ago") text word ≡ true) where
         pub ago_open : closes_unit s text (word + 3) ≡ false → back place ≡ ago_read s text place
-        unfolding ago_read ago_after if◌then◌else◌ closes_unit
+        unfolding ago_read ago_after when◌then◌else◌ closes_unit
         ago_open c = rw (a, inner_sees e, taken d, w, c)
 
         pub ago_there : closes_unit s text (word + 3) ≡ true → AgoRead.Got (record { negated = true; next = word + 3 }) ≡ ago_read s text place
-        unfolding ago_read ago_after if◌then◌else◌ closes_unit
+        unfolding ago_read ago_after when◌then◌else◌ closes_unit
         ago_there c = rw (a, inner_sees e, taken d, w, c)
 
 -- ---- what the lookup finds

@@ -7,7 +7,7 @@ use Rattle.std.proofs.Math.ListN.{length, length-take}
 use Rattle.std.proofs.lemmas.List.{set_at}
 use Rattle.std.proofs.Math.Seq.{append_snoc, take_at, get_or_at}
 use borrow.Author.Tests.{lt-ltb, le-ltb, ltb-true, eq-eqb, eqb-true}
-use Rattle.rules.specs.Common.{if◌then◌else◌, between, all}
+use Rattle.rules.specs.Common.{when◌then◌else◌, between, all}
 use Rattle.rules.specs.SettingsAndUnitTable.{row_size_in, hexadecimal, two_digits, stored}
 use Rattle.rules.proofs.Laws.Choices.{if_either, and_left, and_right, all_first, all_others}
 use Rattle.rules.proofs.Laws.Tables.{listed, entry}
@@ -49,15 +49,15 @@ digits_turn row before line i below room e =
 
 module _ (b : ℕ) where
   pub value_low : 48 ≤ b → b ≤ 57 → digit_value b ≡ b - 48
-  unfolding digit_value if◌then◌else◌
+  unfolding digit_value when◌then◌else◌
   value_low l h = rw (between_in 48 57 b l h)
 
   pub value_high : 97 ≤ b → b ≤ 102 → digit_value b ≡ b - 87
-  unfolding digit_value if◌then◌else◌
+  unfolding digit_value when◌then◌else◌
   value_high l h = rw (between_above 48 57 b (omega arith), between_in 97 102 b l h)
 
   pub value_none : between 48 57 b ≡ false → between 97 102 b ≡ false → digit_value b ≡ 16
-  unfolding digit_value if◌then◌else◌
+  unfolding digit_value when◌then◌else◌
   value_none l h = rw (l, h)
 
 -- ---- bytes from digits, two by two
@@ -107,27 +107,27 @@ digit_below line k e long h =
 
 -- what is refused changes nothing
 pub line_kept : (row line : List ℕ) → stores row line ≡ false → (false ≡ stores row line) × (line ≡ line_after row line)
-unfolding line_after if◌then◌else◌
+unfolding line_after when◌then◌else◌
 line_kept row line e = (sym e, rw e)
 
 pub row_kept : (line row : List ℕ) → restores line row ≡ false → (false ≡ restores line row) × (row ≡ row_after line row)
-unfolding row_after if◌then◌else◌
+unfolding row_after when◌then◌else◌
 row_kept line row e = (sym e, rw e)
 
 -- ---- there and back
 
 value_hexadecimal : (d : ℕ) → d < 16 → digit_value (hexadecimal d) ≡ d
-unfolding listed digit_value hexadecimal between if◌then◌else◌
+unfolding listed digit_value hexadecimal between when◌then◌else◌
 value_hexadecimal d h =
     let table : List ℕ = 0 ∷ 1 ∷ 2 ∷ 3 ∷ 4 ∷ 5 ∷ 6 ∷ 7 ∷ 8 ∷ 9 ∷ 10 ∷ 11 ∷ 12 ∷ 13 ∷ 14 ∷ 15 ∷ [] in
     sym (entry (λ k. digit_value (hexadecimal k)) 16 table refl d h) ∙ entry (λ k. k) 16 table refl d h
 
 hexadecimal_digit : (d : ℕ) → d < 10 → hexadecimal d ≡ 48 + d
-unfolding hexadecimal if◌then◌else◌
+unfolding hexadecimal when◌then◌else◌
 hexadecimal_digit d h = rw (lt-ltb d 10 h)
 
 hexadecimal_letter : (d : ℕ) → 10 ≤ d → hexadecimal d ≡ 87 + d
-unfolding hexadecimal if◌then◌else◌
+unfolding hexadecimal when◌then◌else◌
 hexadecimal_letter d h = rw (le-ltb d 10 h)
 
 hexadecimal_value : (b : ℕ) → digit_value b < 16 → hexadecimal (digit_value b) ≡ b

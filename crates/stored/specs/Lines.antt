@@ -1,11 +1,11 @@
 -- A stored row read back, and what storing and restoring leave in the lent buffer. Assumes nothing.
 use Rattle.std.specs.Prelude.{Bool, ◌&&◌, List, [], ◌∷◌, ◌++◌, ℕ, ◌+◌, ◌*◌, ◌-◌, eqb, ltb, leb, length, get_or, take, drop}
-use Rattle.rules.specs.Common.{if◌then◌else◌, between, all}
+use Rattle.rules.specs.Common.{when◌then◌else◌, between, all}
 use Rattle.rules.specs.SettingsAndUnitTable.{row_size_in, name_room, row_size, stored}
 
 -- what a lower-case hexadecimal digit stands for, and 16 for a byte that is none
 unfoldable pub digit_value : ℕ → ℕ
-digit_value b = if between 48 57 b then b - 48 else if between 97 102 b then b - 87 else 16
+digit_value b = when between 48 57 b then b - 48 else when between 97 102 b then b - 87 else 16
 
 unfoldable pub spells : ℕ → Bool
 spells b = ltb (digit_value b) 16
@@ -49,10 +49,10 @@ unfoldable pub stores : List ℕ → List ℕ → Bool
 stores row line = eqb (length row) row_size && leb line_size (length line)
 
 unfoldable pub line_after : List ℕ → List ℕ → List ℕ
-line_after row line = if stores row line then stored row ++ drop line_size line else line
+line_after row line = when stores row line then stored row ++ drop line_size line else line
 
 unfoldable pub restores : List ℕ → List ℕ → Bool
 restores line row = leb row_size (length row) && line_accepted line
 
 unfoldable pub row_after : List ℕ → List ℕ → List ℕ
-row_after line row = if restores line row then restored line ++ drop row_size row else row
+row_after line row = when restores line row then restored line ++ drop row_size row else row

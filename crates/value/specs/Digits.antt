@@ -6,7 +6,7 @@ use Rattle.std.proofs.Math.Path.{sym}
 use Rattle.std.proofs.Math.Nat.{pow-succ', one-le-pow, pow-le-pow_right, min-eq_left, zero-min, min-zero, suc-min-suc, sub-zero, zero-sub, suc-sub-suc}
 use Rattle.std.proofs.lemmas.Bool.{eqb-false}
 use Rattle.std.proofs.Math.Seq.{slice, slice_empty, slice-cons, take-nil, drop-nil}
-use Rattle.rules.specs.Common.{if◌then◌else◌, between, all, front, run}
+use Rattle.rules.specs.Common.{when◌then◌else◌, between, all, front, run}
 use Rattle.rules.specs.SettingsAndUnitTable.{DIGIT, class, is}
 use Rattle.rules.specs.Evaluation.{spelled}
 use Rattle.rules.proofs.Laws.Choices.{and_left, and_right, and_both, if_either, all_first, all_others}
@@ -38,7 +38,7 @@ run_end test text place h = run_stop test text place (sees_end test text place h
 
 -- so many bytes that pass go on with it at once
 front_many : (test : ℕ → Bool) (n : ℕ) (rest : List ℕ) → n ≤ length rest → all test (take n rest) ≡ true → front test rest ≡ n + front test (drop n rest)
-unfolding front all if◌then◌else◌
+unfolding front all when◌then◌else◌
 front_many test zero rest h e = sym (zero-add (front test rest))
 front_many test (suc n) [] h e = absurd (omega arith)
 front_many test (suc n) (b ∷ rest) h e =
@@ -53,7 +53,7 @@ run_many test text place n h e =
 
 -- the last byte that goes on with a run of zeros, and of digits
 unfoldable pub last : Bool → ℕ
-last zeros = if zeros then 48 else 57
+last zeros = when zeros then 48 else 57
 
 -- what passes a test that is as strict stands in as long a run
 front_same : (test other : ℕ → Bool) → ((b : ℕ) → test b ≡ other b) → (rest : List ℕ) → front test rest ≡ front other rest
@@ -66,11 +66,11 @@ unfolding run
 run_same test other h text place = rw (front_same test other h (drop place text))
 
 front_through : (narrow broad : ℕ → Bool) → ((b : ℕ) → narrow b ≡ true → broad b ≡ true) → (rest : List ℕ) → front broad rest ≡ front narrow rest + front broad (drop (front narrow rest) rest)
-unfolding front if◌then◌else◌
+unfolding front when◌then◌else◌
 front_through narrow broad h [] = refl
 front_through narrow broad h (b ∷ rest) = go (narrow b) refl (front_through narrow broad h rest)
   where
-    go : (c : Bool) → narrow b ≡ c → front broad rest ≡ front narrow rest + front broad (drop (front narrow rest) rest) → front broad (b ∷ rest) ≡ (if c then suc (front narrow rest) else 0) + front broad (drop (if c then suc (front narrow rest) else 0) (b ∷ rest))
+    go : (c : Bool) → narrow b ≡ c → front broad rest ≡ front narrow rest + front broad (drop (front narrow rest) rest) → front broad (b ∷ rest) ≡ (when c then suc (front narrow rest) else 0) + front broad (drop (when c then suc (front narrow rest) else 0) (b ∷ rest))
     go true e more = rw (h b e, suc-add) (ap suc more)
     go false e more = sym (zero-add _)
 
@@ -82,14 +82,14 @@ run_through narrow broad h text place =
 
 -- a digit is a byte from `0` to `9`
 pub digit_between : (b : ℕ) → between 48 57 b ≡ is DIGIT b
-unfolding is class if◌then◌else◌
+unfolding is class when◌then◌else◌
 digit_between b = go (between 48 57 b)
   where
-    go : (c : Bool) → c ≡ eqb (if c then DIGIT else if eqb b 43 || eqb b 45 then 1 else if eqb b 46 then 2 else if between 65 90 b || between 97 122 b then 3 else 4) DIGIT
+    go : (c : Bool) → c ≡ eqb (when c then DIGIT else when eqb b 43 || eqb b 45 then 1 else when eqb b 46 then 2 else when between 65 90 b || between 97 122 b then 3 else 4) DIGIT
     go true = refl
     go false = other (eqb b 43 || eqb b 45) (eqb b 46) (between 65 90 b || between 97 122 b)
       where
-        other : (x y z : Bool) → false ≡ eqb (if x then 1 else if y then 2 else if z then 3 else 4) DIGIT
+        other : (x y z : Bool) → false ≡ eqb (when x then 1 else when y then 2 else when z then 3 else 4) DIGIT
         other true y z = refl
         other false true z = refl
         other false false true = refl
@@ -118,15 +118,15 @@ run_zeros text place = run_same (between 48 48) (eqb 48) (between_itself 48) tex
 
 -- what a run that was passed by eights comes to, of digits and of zeros
 pub digits_end : (text : List ℕ) (place next end : ℕ) → run (between 48 (last false)) text next ≡ run (between 48 (last false)) text place → end ≡ run (between 48 57) text next → end ≡ run (is DIGIT) text place
-unfolding last if◌then◌else◌
+unfolding last when◌then◌else◌
 digits_end text place next end e h = h ∙ e ∙ run_digits text place
 
 pub zeros_end : (text : List ℕ) (place next end : ℕ) → run (between 48 (last true)) text next ≡ run (between 48 (last true)) text place → end ≡ run (between 48 48) text next → end ≡ run (eqb 48) text place
-unfolding last if◌then◌else◌
+unfolding last when◌then◌else◌
 zeros_end text place next end e h = h ∙ e ∙ run_zeros text place
 
 zero_digit : (b : ℕ) → eqb 48 b ≡ true → is DIGIT b ≡ true
-unfolding is class between if◌then◌else◌
+unfolding is class between when◌then◌else◌
 zero_digit b e = rw (← (eqb-true 48 b e))
 
 pub run_after_zeros : (text : List ℕ) (place : ℕ) → run (is DIGIT) text (run (eqb 48) text place) ≡ run (is DIGIT) text place
@@ -247,11 +247,11 @@ module _ (start end count : ℕ) {cut : ℕ} (at : cut ≡ start + min count (en
 
 -- the bytes of a run pass
 front_passes : (test : ℕ → Bool) (rest : List ℕ) → all test (take (front test rest) rest) ≡ true
-unfolding front all if◌then◌else◌
+unfolding front all when◌then◌else◌
 front_passes test [] = refl
 front_passes test (b ∷ rest) = go (test b) refl (front_passes test rest)
   where
-    go : (c : Bool) → test b ≡ c → all test (take (front test rest) rest) ≡ true → all test (take (if c then suc (front test rest) else 0) (b ∷ rest)) ≡ true
+    go : (c : Bool) → test b ≡ c → all test (take (front test rest) rest) ≡ true → all test (take (when c then suc (front test rest) else 0) (b ∷ rest)) ≡ true
     go true e more = and_both e more
     go false e more = refl
 
@@ -333,21 +333,21 @@ spelled_in_all k n room ds h b e = lt_of_lt_of_le (spelled_in_room k n room ds h
 
 -- one more digit, and none after the last that is sure to fit
 summed_next : (n d : ℕ) (ds : List ℕ) → n < 10 ^ 18 → summed n (d ∷ ds) ≡ summed (n * 10 + (d - 48)) ds
-unfolding summed if◌then◌else◌
+unfolding summed when◌then◌else◌
 summed_next n d ds h = rw (lt-ltb n (10 ^ 18) h)
 
 summed_full : (n : ℕ) (ds : List ℕ) → 10 ^ 18 ≤ n → summed n ds ≡ n
-unfolding summed if◌then◌else◌
+unfolding summed when◌then◌else◌
 summed_full n [] h = refl
 summed_full n (d ∷ ds) h = rw (le-ltb n (10 ^ 18) h)
 
 -- digits go on from a sum as from those that it was summed up from
 pub summed_append : (n : ℕ) (ds es : List ℕ) → summed (summed n ds) es ≡ summed n (ds ++ es)
-unfolding summed if◌then◌else◌
+unfolding summed when◌then◌else◌
 summed_append n [] es = refl
 summed_append n (d ∷ ds) es = go (ltb n (10 ^ 18)) refl (summed_append (n * 10 + (d - 48)) ds es)
   where
-    go : (c : Bool) → ltb n (10 ^ 18) ≡ c → summed (summed (n * 10 + (d - 48)) ds) es ≡ summed (n * 10 + (d - 48)) (ds ++ es) → summed (if c then summed (n * 10 + (d - 48)) ds else n) es ≡ (if c then summed (n * 10 + (d - 48)) (ds ++ es) else n)
+    go : (c : Bool) → ltb n (10 ^ 18) ≡ c → summed (summed (n * 10 + (d - 48)) ds) es ≡ summed (n * 10 + (d - 48)) (ds ++ es) → summed (when c then summed (n * 10 + (d - 48)) ds else n) es ≡ (when c then summed (n * 10 + (d - 48)) (ds ++ es) else n)
     go true e more = more
     go false e more = summed_full n es (ltb-false n (10 ^ 18) e)
 

@@ -4,7 +4,7 @@ use Rattle.std.proofs.Common.{sym, ◌∙◌, ap, zero-le, add-zero, one-mul, mu
 use Rattle.std.specs.Bool.{xor}
 use Rattle.rules.specs.declared.Multiplier.{Multiplier}
 use Rattle.rules.specs.declared.DurationRepr.{DurationRepr}
-use Rattle.rules.specs.Common.{if◌then◌else◌}
+use Rattle.rules.specs.Common.{when◌then◌else◌}
 use Rattle.rules.specs.ThePartOfTheCrateWeTake.{zero_length, largest}
 use Rattle.rules.specs.Evaluation.{digits_of, up, down, attos, nanos, length_of, evaluate, worth}
 use Rattle.rules.proofs.Laws.Apart.{none, nanos_none}
@@ -19,11 +19,11 @@ use Rattle.value.specs.Places.{spans_none}
 
 module _ (text : List ℕ) (d : DurationRepr) (number : ℕ) where
   pub typed_down : d.exponent.negative ≡ true → {above below : ℕ} → above ≡ d.multiplier.up → below ≡ d.multiplier.down + d.exponent.power → counted_attos number text d.whole d.fract above below ≡ attos_of text d number
-  unfolding attos_of up down if◌then◌else◌
+  unfolding attos_of up down when◌then◌else◌
   typed_down e f g = rw (f, g, e, add-zero)
 
   pub typed_up : d.exponent.negative ≡ false → {above below : ℕ} → above ≡ d.multiplier.up + d.exponent.power → below ≡ d.multiplier.down → counted_attos number text d.whole d.fract above below ≡ attos_of text d number
-  unfolding attos_of up down if◌then◌else◌
+  unfolding attos_of up down when◌then◌else◌
   typed_up e f g = rw (f, g, e, add-zero)
 
   -- one of zero changes neither
@@ -37,11 +37,11 @@ module _ (text : List ℕ) (d : DurationRepr) (number : ℕ) where
   -- ---- what the length is, case by case
 
   pub evaluate_infinite : d.infinite ≡ true → evaluate_counted text d number ≡ largest d.negative
-  unfolding evaluate_counted if◌then◌else◌
+  unfolding evaluate_counted when◌then◌else◌
   evaluate_infinite e = rw e
 
   pub evaluate_finite : d.infinite ≡ false → evaluate_counted text d number ≡ length_of (xor d.negative d.multiplier.negative) (nanos d.multiplier.coefficient (attos_of text d number))
-  unfolding evaluate_counted if◌then◌else◌
+  unfolding evaluate_counted when◌then◌else◌
   evaluate_finite e = rw e
 
   pub evaluate_nothing : d.infinite ≡ false → d.multiplier.coefficient ≡ 0 → evaluate_counted text d number ≡ zero_length
@@ -59,7 +59,7 @@ pub record Parts (a seconds attos : ℕ) : Type 0 where
   pub below : attos < 10 ^ 18
 
 pub fits_parts : (a seconds attos : ℕ) → shifted_of a ≡ shifted.Fits seconds attos → Parts a seconds attos
-unfolding shifted_of if◌then◌else◌
+unfolding shifted_of when◌then◌else◌
 fits_parts a seconds attos e = go (ltb (a / 10 ^ 18) (2 ^ 64)) refl
   where
     go : (b : Bool) → ltb (a / 10 ^ 18) (2 ^ 64) ≡ b → Parts a seconds attos
@@ -74,7 +74,7 @@ fits_parts a seconds attos e = go (ltb (a / 10 ^ 18) (2 ^ 64)) refl
         absurd (never z)
 
 pub too_many : (a : ℕ) → shifted_of a ≡ shifted.TooLarge → 2 ^ 64 * 10 ^ 18 ≤ a
-unfolding shifted_of if◌then◌else◌
+unfolding shifted_of when◌then◌else◌
 too_many a e = go (ltb (a / 10 ^ 18) (2 ^ 64)) refl
   where
     go : (b : Bool) → ltb (a / 10 ^ 18) (2 ^ 64) ≡ b → 2 ^ 64 * 10 ^ 18 ≤ a
@@ -124,5 +124,5 @@ no_digits text = spans_none text 0 zero-le
 
 -- 1 times a multiplier is what that is worth
 pub evaluate_one : (text : List ℕ) (negative : Bool) (m : Multiplier) → evaluate_counted text (one negative m) 1 ≡ worth negative m
-unfolding evaluate_counted attos_of counted up down worth if◌then◌else◌
+unfolding evaluate_counted attos_of counted up down worth when◌then◌else◌
 evaluate_one text negative m = rw (digits_none text 0, add-zero m.up, add-zero m.down)

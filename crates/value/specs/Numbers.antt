@@ -5,7 +5,7 @@ use Rattle.rules.specs.declared.Length.{Length}
 use Rattle.rules.specs.declared.Whole.{Whole}
 use Rattle.rules.specs.declared.Fract.{Fract}
 use Rattle.rules.specs.declared.DurationRepr.{DurationRepr}
-use Rattle.rules.specs.Common.{if◌then◌else◌, all}
+use Rattle.rules.specs.Common.{when◌then◌else◌, all}
 use Rattle.rules.specs.ThePartOfTheCrateWeTake.{largest}
 use Rattle.rules.specs.SettingsAndUnitTable.{DIGIT, is}
 use Rattle.rules.specs.Evaluation.{spelled, digits_of, up, down, attos, nanos, length_of}
@@ -18,12 +18,12 @@ use Rattle.value.specs.declared.number.Shifted.TheVariants as shifted
 
 -- a number, if 64 bits hold it
 unfoldable pub as_word : ℕ → Word
-as_word n = if ltb n (2 ^ 64) then Fits n else TooLarge
+as_word n = when ltb n (2 ^ 64) then Fits n else TooLarge
 
 -- digits summed up after those that spelled n, for as long as a word surely holds one more
 unfoldable pub summed : ℕ → List ℕ → ℕ
 summed n [] = n
-summed n (d ∷ digits) = if ltb n (10 ^ 18) then summed (n * 10 + (d - 48)) digits else n
+summed n (d ∷ digits) = when ltb n (10 ^ 18) then summed (n * 10 + (d - 48)) digits else n
 
 -- the number that goes beside digits: their sum, where it was typed; 1, and no digits, where it was spoken
 pub data Counts (number : ℕ) (digits : List ℕ) : Type 0 where
@@ -78,13 +78,13 @@ attos_of text d number =
 -- document 01's evaluation, of the number that counts
 unfoldable pub evaluate_counted : List ℕ → DurationRepr → ℕ → Length
 evaluate_counted text d number =
-    if d.infinite
+    when d.infinite
     then largest d.negative
     else length_of (xor d.negative d.multiplier.negative) (nanos d.multiplier.coefficient (attos_of text d number))
 
 -- so many attoseconds, if 64 bits hold their seconds
 unfoldable pub shifted_of : ℕ → Shifted
-shifted_of a = if ltb (a / 10 ^ 18) (2 ^ 64) then shifted.Fits (a / 10 ^ 18) (a % 10 ^ 18) else shifted.TooLarge
+shifted_of a = when ltb (a / 10 ^ 18) (2 ^ 64) then shifted.Fits (a / 10 ^ 18) (a % 10 ^ 18) else shifted.TooLarge
 
 -- seconds as a word, with the attoseconds behind them
 abbrev pub with_attos : Word → ℕ → Shifted

@@ -14,7 +14,7 @@ use Rattle.std.proofs.Math.Seq.{slice, slice_empty, slice-cons, length-slice, ta
 use Rattle.std.proofs.lemmas.List.{take-append-le}
 use Rattle.rules.specs.declared.Whole.{Whole}
 use Rattle.rules.specs.declared.Fract.{Fract}
-use Rattle.rules.specs.Common.{if◌then◌else◌, all, run}
+use Rattle.rules.specs.Common.{when◌then◌else◌, all, run}
 use Rattle.rules.specs.SettingsAndUnitTable.{DIGIT, is}
 use Rattle.rules.specs.Evaluation.{spelled, digits_of, attos}
 use Rattle.rules.proofs.Laws.Choices.{all_append}
@@ -31,18 +31,18 @@ use Rattle.value.specs.Digits.{ten_pos, ten_grows, ten_sum, run_passes, run_afte
 -- ---- a number as a word of 64 bits
 
 pub word_fits : {n m : ℕ} → n ≡ m → n < 2 ^ 64 → Fits n ≡ as_word m
-unfolding as_word if◌then◌else◌
+unfolding as_word when◌then◌else◌
 word_fits {n} e h = rw (← e, lt-ltb n (2 ^ 64) h)
 
 pub word_too_large : (n : ℕ) → 2 ^ 64 ≤ n → TooLarge ≡ as_word n
-unfolding as_word if◌then◌else◌
+unfolding as_word when◌then◌else◌
 word_too_large n h = rw (le-ltb n (2 ^ 64) h)
 
 pub fits_word : (n : ℕ) {m : ℕ} → Fits m ≡ as_word n → m ≡ n
-unfolding as_word if◌then◌else◌
+unfolding as_word when◌then◌else◌
 fits_word n {m} e = go (ltb n (2 ^ 64)) e
   where
-    go : (b : Bool) → Fits m ≡ (if b then Fits n else TooLarge) → m ≡ n
+    go : (b : Bool) → Fits m ≡ (when b then Fits n else TooLarge) → m ≡ n
     go true e = cc
     go false e = cc
 
@@ -258,10 +258,10 @@ module _ {text : List ℕ} {whole : Whole} {fract : Fract} (s : Spans text whole
 -- ---- a number moved by a power of ten
 
 shifted_word : (a : ℕ) → shifted_of a ≡ with_attos (as_word (a / 10 ^ 18)) (a % 10 ^ 18)
-unfolding as_word shifted_of if◌then◌else◌
+unfolding as_word shifted_of when◌then◌else◌
 shifted_word a = go (ltb (a / 10 ^ 18) (2 ^ 64))
   where
-    go : (b : Bool) → (if b then shifted.Fits (a / 10 ^ 18) (a % 10 ^ 18) else shifted.TooLarge) ≡ with_attos (if b then Fits (a / 10 ^ 18) else TooLarge) (a % 10 ^ 18)
+    go : (b : Bool) → (when b then shifted.Fits (a / 10 ^ 18) (a % 10 ^ 18) else shifted.TooLarge) ≡ with_attos (when b then Fits (a / 10 ^ 18) else TooLarge) (a % 10 ^ 18)
     go true = refl
     go false = refl
 

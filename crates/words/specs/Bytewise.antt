@@ -4,7 +4,7 @@ use Rattle.std.proofs.Common.{sym, ap, ap₂, ◌∙◌, mod-eq_of_lt, pow-suc, 
 use Rattle.std.specs.Int.Bits.{bit_and, bit_or, bit_xor}
 use Rattle.std.proofs.lemmas.Nat.{and_block, or_block, xor_block, and_le_r, or_lt, xor_lt}
 use Rattle.std.proofs.lemmas.Nat.Bits.{and_high}
-use Rattle.rules.specs.Common.{if◌then◌else◌, all, between}
+use Rattle.rules.specs.Common.{when◌then◌else◌, all, between}
 use Rattle.rules.specs.SettingsAndUnitTable.{LETTER, class, is, low_first}
 use Rattle.rules.proofs.Laws.Choices.{and_both}
 use Rattle.rules.proofs.Laws.Lists.{Bytes}
@@ -117,17 +117,17 @@ eight_zeros_only bytes eight p e = same_bytes 48 (lit< tt) bytes p (rw eight e)
 -- of each byte that is one
 unfoldable pub marked : List ℕ → ℕ
 marked [] = 0
-marked (b ∷ bytes) = (if is LETTER b then 128 else 0) + 256 * marked bytes
+marked (b ∷ bytes) = (when is LETTER b then 128 else 0) + 256 * marked bytes
 
 -- a byte below 128 as a small letter, with what `a` lacks of 128, and with what the byte after `z` does
 abbrev mark_of : ℕ → ℕ
 mark_of b = bit_and (bit_xor (bit_or b 32 + 31) (bit_or b 32 + 5)) 128
 
-one_mark : (b : ℕ) → b < 128 → mark_of b ≡ (if is LETTER b then 128 else 0)
-unfolding listed is class between if◌then◌else◌
+one_mark : (b : ℕ) → b < 128 → mark_of b ≡ (when is LETTER b then 128 else 0)
+unfolding listed is class between when◌then◌else◌
 one_mark b h =
-    let table : List ℕ = listed (λ b. if is LETTER b then 128 else 0) 0 128 in
-    sym (entry mark_of 128 table refl b h) ∙ entry (λ b. if is LETTER b then 128 else 0) 128 table refl b h
+    let table : List ℕ = listed (λ b. when is LETTER b then 128 else 0) 0 128 in
+    sym (entry mark_of 128 table refl b h) ∙ entry (λ b. when is LETTER b then 128 else 0) 128 table refl b h
 
 -- none is from 128 on: the first, and the others
 below_128 : (b : ℕ) (bytes : List ℕ) → b < 256 → bit_and (b + 256 * low_first bytes) (128 + 256 * repeated 128 (length bytes)) ≡ 0 → (b < 128) × (bit_and (low_first bytes) (repeated 128 (length bytes)) ≡ 0)
@@ -171,13 +171,13 @@ marks_are (b ∷ bytes) p e =
 
 -- where the marks are those of the first n, these are letters
 pub marked_letters : (bytes : List ℕ) (n : ℕ) → n ≤ length bytes → marked bytes ≡ repeated 128 n → all (is LETTER) (take n bytes) ≡ true
-unfolding all marked repeated if◌then◌else◌
+unfolding all marked repeated when◌then◌else◌
 marked_letters bytes zero h e = refl
 marked_letters [] (suc n) h e = absurd (omega arith)
 marked_letters (b ∷ bytes) (suc n) h e = go (is LETTER b) e (marked_letters bytes n (omega arith))
   where
     go :
-        (letter : Bool) → (if letter then 128 else 0) + 256 * marked bytes ≡ 128 + 256 * repeated 128 n
+        (letter : Bool) → (when letter then 128 else 0) + 256 * marked bytes ≡ 128 + 256 * repeated 128 n
         → (marked bytes ≡ repeated 128 n → all (is LETTER) (take n bytes) ≡ true)
         → (letter && all (is LETTER) (take n bytes)) ≡ true
     go true e more = more (omega arith)

@@ -6,7 +6,7 @@ use Prim.Native.Nat.{ℕ, zero, suc, ◌+◌, ◌*◌, ◌-◌, ◌/◌, ◌%◌
 use Rattle.std.proofs.Math.Nat.{add-zero, sub-zero, div-eq_of_lt, div-div-eq-div-mul, one-le-pow, pow-le-pow_right, pow-succ'}
 use native.Mathlib.Omega.{arith}
 use Rattle.std.proofs.Math.ListN.{take, drop}
-use Rattle.rules.specs.Common.{if◌then◌else◌}
+use Rattle.rules.specs.Common.{when◌then◌else◌}
 use Rattle.rules.proofs.Laws.Choices.{if_either}
 use Rattle.rules.specs.WriterAndShiftTotal.{decimals, no_leading_zeros, before_zeros, no_trailing_zeros, whole_digits}
 use Rattle.writing.specs.Laid.{laid}
@@ -34,7 +34,7 @@ decimals_last (suc n) x = ap₂ (λ d rest. (48 + d % 10) ∷ rest) (sym (ten_mo
 -- ---- without leading zeros
 
 leading_zero : (n x : ℕ) → x < 10 ^ suc n → no_leading_zeros (decimals (suc (suc n)) x) ≡ no_leading_zeros (decimals (suc n) x)
-unfolding no_leading_zeros decimals if◌then◌else◌
+unfolding no_leading_zeros decimals when◌then◌else◌
 leading_zero n x h = rw (div-eq_of_lt h)
 
 -- more digits than a number has are zeros in front
@@ -57,7 +57,7 @@ abbrev pub Digits : ℕ → ℕ → Type 0
 Digits x n = (1 ≤ n) × (x < 10 ^ n) × Leads x n
 
 kept : (n x : ℕ) → x < 10 ^ suc n → Leads x (suc n) → no_leading_zeros (decimals (suc n) x) ≡ decimals (suc n) x
-unfolding no_leading_zeros decimals if◌then◌else◌
+unfolding no_leading_zeros decimals when◌then◌else◌
 kept zero x h l = refl
 kept (suc n) x h l = rw (ne_eqb (48 + x / 10 ^ suc n % 10) 48 (first l))
   where
@@ -157,12 +157,12 @@ whole_few k x few h =
 -- ---- without trailing zeros
 
 trailing_zero : (digits : List ℕ) → no_trailing_zeros (digits ++ 48 ∷ []) ≡ no_trailing_zeros digits
-unfolding no_trailing_zeros before_zeros if◌then◌else◌
+unfolding no_trailing_zeros before_zeros when◌then◌else◌
 trailing_zero [] = refl
 trailing_zero (d ∷ digits) = rw (trailing_zero digits)
 
 trailing_digit : (digits : List ℕ) (e : ℕ) → (e ≡ 48 → ⊥) → no_trailing_zeros (digits ++ e ∷ []) ≡ digits ++ e ∷ []
-unfolding no_trailing_zeros before_zeros if◌then◌else◌
+unfolding no_trailing_zeros before_zeros when◌then◌else◌
 trailing_digit [] e h = rw (ne_eqb e 48 h)
 trailing_digit (d ∷ digits) e h = rw (trailing_digit digits e h) (go digits)
   where

@@ -9,7 +9,7 @@ use borrow.Author.Tests.{le-leb, lt-leb, eqb-true, eqb-false, ne_eqb}
 use Rattle.std.proofs.Math.ListN.{length}
 use Rattle.rules.specs.declared.Length.{Length}
 use Rattle.rules.specs.declared.Refusal.TheVariants.{NoRoom, Beyond, Malformed}
-use Rattle.rules.specs.Common.{if◌then◌else◌}
+use Rattle.rules.specs.Common.{when◌then◌else◌}
 use Rattle.rules.specs.NumbersHandedBack.{◌>>◌, unless, done, refusal, answered}
 use Rattle.rules.specs.ThePartOfTheCrateWeTake.{well_formed}
 use Rattle.rules.specs.WriterAndShiftTotal.{decimals, sign_byte, before_zeros, no_trailing_zeros, whole_digits, fraction_digits, written_fraction, written, writing, buffer_after}
@@ -22,7 +22,7 @@ use Rattle.writing.specs.Laid.{laid, laid_then, laid_on, laid_nothing}
 
 -- how many bytes the decimals take: none, or a point and they
 unfoldable pub fraction_size : ℕ → ℕ
-fraction_size count = if eqb count 0 then 0 else 1 + count
+fraction_size count = when eqb count 0 then 0 else 1 + count
 
 pub fraction_size_most : (count : ℕ) → count ≤ 9 → fraction_size count ≤ 10
 unfolding fraction_size
@@ -34,17 +34,17 @@ form_size whole fract = 1 + whole + fraction_size fract
 
 -- the decimals of a number of which there are some, behind a point
 unfoldable pub behind_point : Decimal → List ℕ
-behind_point d = if eqb d.count 0 then [] else 46 ∷ decimals d.count d.number
+behind_point d = when eqb d.count 0 then [] else 46 ∷ decimals d.count d.number
 
 unfoldable pub form_bytes : ℕ → Decimal → Decimal → List ℕ
 form_bytes sign whole fract = sign ∷ (decimals whole.count whole.number ++ behind_point fract)
 
 module _ (d : Decimal) where
   pub behind_length : length (behind_point d) ≡ fraction_size d.count
-  unfolding behind_point fraction_size if◌then◌else◌
+  unfolding behind_point fraction_size when◌then◌else◌
   behind_length = go (eqb d.count 0)
     where
-      go : (b : Bool) → length (if b then [] else 46 ∷ decimals d.count d.number) ≡ (if b then 0 else 1 + d.count)
+      go : (b : Bool) → length (when b then [] else 46 ∷ decimals d.count d.number) ≡ (when b then 0 else 1 + d.count)
       go true = refl
       go false = rw (decimals_length d.count d.number) (omega arith)
 
@@ -54,20 +54,20 @@ module _ (d : Decimal) where
 
   module _ (none : d.count ≡ 0) where
     pub no_fraction_size : 0 ≡ fraction_size d.count
-    unfolding fraction_size if◌then◌else◌
+    unfolding fraction_size when◌then◌else◌
     no_fraction_size = rw none
 
     pub no_fraction : (buffer : List ℕ) (point : ℕ) → buffer ≡ laid buffer point (behind_point d)
-    unfolding behind_point if◌then◌else◌
+    unfolding behind_point when◌then◌else◌
     no_fraction buffer point = laid_nothing buffer point ∙ ap (laid buffer point) (rw none)
 
   module _ (some : d.count ≡ 0 → ⊥) where
     pub some_fraction_size : 1 + d.count ≡ fraction_size d.count
-    unfolding fraction_size if◌then◌else◌
+    unfolding fraction_size when◌then◌else◌
     some_fraction_size = rw (ne_eqb d.count 0 some)
 
     pub some_fraction : (buffer : List ℕ) (point : ℕ) → point < length buffer → laid (set buffer point 46) (point + 1) (decimals d.count d.number) ≡ laid buffer point (behind_point d)
-    unfolding behind_point if◌then◌else◌
+    unfolding behind_point when◌then◌else◌
     some_fraction buffer point h = laid_on buffer point 46 (decimals d.count d.number) h ∙ ap (laid buffer point) (rw (ne_eqb d.count 0 some))
 
 -- the sign, behind it the seconds, and behind them the decimals
@@ -102,12 +102,12 @@ all_zeros (suc n) x h e = go (eqb (x % 10) 0) refl (all_zeros n (x / 10))
     go false z before = absurd (omega (arith, sym (decimals_length (suc n) x) ∙ ap length (sym (trailing_kept (suc n) x some (eqb-false _ 0 z)) ∙ e)))
 
 pub no_decimals : fraction_digits 0 ≡ []
-unfolding fraction_digits no_trailing_zeros decimals before_zeros if◌then◌else◌
+unfolding fraction_digits no_trailing_zeros decimals before_zeros when◌then◌else◌
 no_decimals = refl
 
 -- the decimals of nanoseconds stand behind a point unless the nanoseconds are 0
 pub behind_is : (x : ℕ) (d : Decimal) → x < 10 ^ 9 → fraction_digits x ≡ decimals d.count d.number → behind_point d ≡ written_fraction x
-unfolding behind_point written_fraction if◌then◌else◌ fraction_digits
+unfolding behind_point written_fraction when◌then◌else◌ fraction_digits
 behind_is x d h e = go (eqb x 0) (eqb d.count 0) refl refl
   where
     count : length (fraction_digits x) ≡ d.count
@@ -123,7 +123,7 @@ behind_is x d h e = go (eqb x 0) (eqb d.count 0) refl refl
     all : d.count ≡ 0 → x ≡ 0
     all z = all_zeros 9 x h (empty (fraction_digits x) (count ∙ z))
 
-    go : (b c : Bool) → eqb x 0 ≡ b → eqb d.count 0 ≡ c → (if c then [] else 46 ∷ decimals d.count d.number) ≡ (if b then [] else 46 ∷ fraction_digits x)
+    go : (b c : Bool) → eqb x 0 ≡ b → eqb d.count 0 ≡ c → (when c then [] else 46 ∷ decimals d.count d.number) ≡ (when b then [] else 46 ∷ fraction_digits x)
     go true true f g = refl
     go true false f g = absurd (eqb-false d.count 0 g (none (eqb-true x 0 f)))
     go false true f g = absurd (eqb-false x 0 f (all (eqb-true d.count 0 g)))

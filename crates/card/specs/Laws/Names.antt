@@ -2,7 +2,7 @@
 use Rattle.std.specs.Prelude.{◌≡◌, refl, Bool, true, false, not, ◌&&◌, ◌||◌, List, [], ◌∷◌, ℕ, suc, ◌-◌, ◌<◌, eqb, length, get_or, take, drop}
 use Rattle.std.proofs.Common.{sym, ap, ◌∙◌, arith, length-drop, take-append-drop, take_all}
 use Rattle.rules.specs.declared.ByteSet.{ByteSet}
-use Rattle.rules.specs.Common.{if◌then◌else◌, all, between}
+use Rattle.rules.specs.Common.{when◌then◌else◌, all, between}
 use Rattle.rules.specs.SettingsAndUnitTable.{LETTER, is, row_size, name_at, name_size, name, led_by_e, lower}
 use Rattle.rules.proofs.Laws.Choices.{and_both, all_first, all_others}
 use Rattle.rules.proofs.Laws.Lists.{Bytes, all_both, all_alike}
@@ -30,7 +30,7 @@ letters_outside set none (b ∷ l) p letters =
 -- ---- names led by `e`
 
 pub led_byte : (b : ℕ) → b < 256 → eqb 101 (lower b) ≡ (eqb b 101 || eqb b 69)
-unfolding runs lower between if◌then◌else◌
+unfolding runs lower between when◌then◌else◌
 led_byte b h = agree (λ b. eqb 101 (lower b)) (λ b. eqb b 101 || eqb b 69) 0 256 refl b (omega arith) h
 
 pub led_first : (r : List ℕ) → length r ≡ row_size → padded r ≡ true → Bytes r → led_by_e (name r) ≡ (eqb (get_or r name_at 0) 101 || eqb (get_or r name_at 0) 69)

@@ -11,7 +11,7 @@ use borrow.Author.Count.{below_more}
 use borrow.Author.Tests.{lt-ltb, le-ltb, le-leb, lt-leb, eq-eqb, eqb-true, ne_eqb, not-true}
 use Rattle.rules.specs.declared.Settings.{Settings}
 use Rattle.rules.specs.declared.Refusal.{Refusal}
-use Rattle.rules.specs.Common.{if◌then◌else◌, all, between, same}
+use Rattle.rules.specs.Common.{when◌then◌else◌, all, between, same}
 use Rattle.rules.specs.NumbersHandedBack.{got, refused, ◌>>◌, unless}
 use Rattle.rules.specs.SettingsAndUnitTable.{last_kind, second_kind, zeros_at, row_size, rows, rows_in, row, row_in, name, kind, name_size, may_name, named, named_in, product, in_range, led_by_e, e_may_lead, can_be_typed, row_formed, row_formed_in, row_right, row_right_in, row_accepted, row_accepted_in, numeral_accepted, numeral_accepted_in, whole_rows, whole_rows_in, rows_check}
 use Rattle.rules.proofs.Laws.Choices.{and_left, and_right}
@@ -49,7 +49,7 @@ module _ (table wanted : List ℕ) where
 -- the first of the n rows from i on that fails the test; the row behind them, if none does
 unfoldable pub first_bad : (ℕ → Bool) → ℕ → ℕ → ℕ
 first_bad test i zero = i
-first_bad test i (suc n) = let more = first_bad test (suc i) n in if test i then more else i
+first_bad test i (suc n) = let more = first_bad test (suc i) n in when test i then more else i
 
 module _ (test : ℕ → Bool) where
   -- what the rows from i on give, of n in all
@@ -69,11 +69,11 @@ module _ (test : ℕ → Bool) where
     counted = omega arith
 
     pub bad_here : test i ≡ false → bad_from n i ≡ i
-    unfolding bad_from first_bad if◌then◌else◌
+    unfolding bad_from first_bad when◌then◌else◌
     bad_here e = rw (counted, e)
 
     pub bad_next : test i ≡ true → bad_from n i ≡ bad_from n (i + 1)
-    unfolding bad_from first_bad if◌then◌else◌
+    unfolding bad_from first_bad when◌then◌else◌
     bad_next e = rw (counted, e, add-one i)
 
   -- rows that pass leave it to those behind them
@@ -84,25 +84,25 @@ module _ (test : ℕ → Bool) where
 
   -- the check refuses the first bad row
   module _ (bad : ℕ → Refusal) where
-    checked : (n i : ℕ) → rows_check test bad i n ≡ (if ltb (first_bad test i n) (i + n) then refused (bad (first_bad test i n)) else got tt)
-    unfolding rows_check first_bad if◌then◌else◌
+    checked : (n i : ℕ) → rows_check test bad i n ≡ (when ltb (first_bad test i n) (i + n) then refused (bad (first_bad test i n)) else got tt)
+    unfolding rows_check first_bad when◌then◌else◌
     checked zero i = rw (add-zero i, le-ltb i i (omega arith))
     checked (suc n) i = go (test i) (checked n (suc i))
       where
         go :
             (b : Bool)
-            → rows_check test bad (suc i) n ≡ (if ltb (first_bad test (suc i) n) (suc i + n) then refused (bad (first_bad test (suc i) n)) else got tt)
-            → (if b then rows_check test bad (suc i) n else refused (bad i))
-            ≡ (if ltb (if b then first_bad test (suc i) n else i) (i + suc n) then refused (bad (if b then first_bad test (suc i) n else i)) else got tt)
+            → rows_check test bad (suc i) n ≡ (when ltb (first_bad test (suc i) n) (suc i + n) then refused (bad (first_bad test (suc i) n)) else got tt)
+            → (when b then rows_check test bad (suc i) n else refused (bad i))
+            ≡ (when ltb (when b then first_bad test (suc i) n else i) (i + suc n) then refused (bad (when b then first_bad test (suc i) n else i)) else got tt)
         go true e = rw (add-suc i n, ← (suc-add i n)) e
         go false e = rw (lt-ltb i (i + suc n) (omega arith))
 
     pub check_bad : (n : ℕ) → first_bad test 0 n < n → rows_check test bad 0 n ≡ refused (bad (first_bad test 0 n))
-    unfolding if◌then◌else◌
+    unfolding when◌then◌else◌
     check_bad n h = checked n 0 ∙ rw (lt-ltb (first_bad test 0 n) (0 + n) (omega arith))
 
     pub check_good : (n : ℕ) → n ≤ first_bad test 0 n → rows_check test bad 0 n ≡ got tt
-    unfolding if◌then◌else◌
+    unfolding when◌then◌else◌
     check_good n h = checked n 0 ∙ rw (le-ltb (first_bad test 0 n) (0 + n) (omega arith))
 
 -- ---- a table's check, by its size and its first bad row
@@ -299,14 +299,14 @@ tested_padded rule false table i good = alone_padded rule (row table i) good
 pub unit_ruled :
     (rule : RowRule) (s : Settings)
     → bytes_of rule.set ≡ unnameable s
-    → rule.further ≡ (if e_may_lead s then Nothing else NotLedByE)
+    → rule.further ≡ (when e_may_lead s then Nothing else NotLedByE)
     → (table : List ℕ) → Bytes table
     → (i : ℕ) → ruled rule table i ≡ row_accepted s table i
-unfolding ruled row_accepted_in row_right_in can_be_typed asked_further if◌then◌else◌
+unfolding ruled row_accepted_in row_right_in can_be_typed asked_further when◌then◌else◌
 unit_ruled rule s set further table bytes i =
     rw (set, further) (ap₂ ◌&&◌ (formed_alike _ _ (λ k. refl) (outside_names s) table bytes i) (go (e_may_lead s)))
   where
-    go : (leads : Bool) → asked_further (if leads then Nothing else NotLedByE) (row table i) ≡ (not (led_by_e (name (row table i))) || leads)
+    go : (leads : Bool) → asked_further (when leads then Nothing else NotLedByE) (row table i) ≡ (not (led_by_e (name (row table i))) || leads)
     go true = sym (or_true (not (led_by_e (name (row table i)))))
     go false = sym (or_false (not (led_by_e (name (row table i)))))
 

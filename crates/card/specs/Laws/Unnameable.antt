@@ -5,7 +5,7 @@ use Rattle.std.specs.Bool.{beq}
 use Rattle.std.proofs.lemmas.Bool.{not-true}
 use Rattle.rules.specs.declared.ByteSet.{ByteSet}
 use Rattle.rules.specs.declared.Settings.{Settings}
-use Rattle.rules.specs.Common.{if◌then◌else◌, between}
+use Rattle.rules.specs.Common.{when◌then◌else◌, between}
 use Rattle.rules.specs.SettingsAndUnitTable.{DIGIT, SIGN, POINT, LETTER, may_delimit, may_name, class, is, word, holds, settings_check}
 use Rattle.rules.specs.NumbersHandedBack.{got}
 use Rattle.rules.proofs.Laws.Choices.{and_left}
@@ -19,7 +19,7 @@ of_a_number : ℕ → Bool
 of_a_number b = is DIGIT b || is SIGN b || is POINT b
 
 number_holds : (b : ℕ) → b < 256 → holds number_set b ≡ of_a_number b
-unfolding runs number_set of_a_number is class between if◌then◌else◌
+unfolding runs number_set of_a_number is class between when◌then◌else◌
 number_holds b h = first_word 288063250384289792 of_a_number refl refl b h
 
 pub outside : (set : ByteSet) (b : ℕ) → passes set false b ≡ not (holds set b)
@@ -37,7 +37,7 @@ outside_names s b h = outside (unnameable s) b ∙ rw (either_holds, either_hold
 
 -- and a byte below 128 that the other set does not hold is a letter
 pub outside_letters : (b : ℕ) → b < 256 → (passes no_letters false b && between 0 127 b) ≡ is LETTER b
-unfolding passes no_letters holds word runs is class between if◌then◌else◌
+unfolding passes no_letters holds word runs is class between when◌then◌else◌
 outside_letters b h = agree (λ b. passes no_letters false b && between 0 127 b) (is LETTER) 0 256 refl b (omega arith) h
 
 -- ---- sets without letters

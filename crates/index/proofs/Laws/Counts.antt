@@ -3,17 +3,17 @@ use Rattle.std.specs.Prelude.{◌≡◌, refl, Bool, true, false, not, ◌⊎◌
 use Rattle.std.proofs.Common.{sym, ap, ◌∙◌, ⊎_elim, inl, inr, arith, ltb-true, ltb-false, eqb-true, eq-eqb, ne_eqb}
 use Rattle.std.proofs.lemmas.Bool.{false≢true, eqb-false}
 use Prim.Native.Nat.{ℕ, zero, suc, zero-le, ◌+◌, ◌≤◌, ◌<◌}
-use Rattle.rules.specs.Common.{if◌then◌else◌}
+use Rattle.rules.specs.Common.{when◌then◌else◌}
 use Rattle.index.specs.TheSortedIndex.{count}
 
 -- ---- one number more
 
 pub count_passed : (test : ℕ → Bool) (n : ℕ) → test n ≡ true → count test (suc n) ≡ suc (count test n)
-unfolding count if◌then◌else◌
+unfolding count when◌then◌else◌
 count_passed test n e = rw e
 
 pub count_failed : (test : ℕ → Bool) (n : ℕ) → test n ≡ false → count test (suc n) ≡ count test n
-unfolding count if◌then◌else◌
+unfolding count when◌then◌else◌
 count_failed test n e = rw e
 
 count_grows : (test : ℕ → Bool) (n : ℕ) → count test n ≤ count test (suc n)
@@ -64,7 +64,7 @@ module _ (test other : ℕ → Bool) where
           both n (h n (omega arith)) (λ p q. omega arith) (λ p q. omega arith) (λ p q. omega arith)
 
 all_pass : (n : ℕ) → count (λ k. true) n ≡ n
-unfolding count if◌then◌else◌
+unfolding count when◌then◌else◌
 all_pass zero = refl
 all_pass (suc n) = ap suc (all_pass n)
 
@@ -116,13 +116,13 @@ whether f v (suc m) = go (eqb (f m) v) refl (whether f v m)
 
 -- the places but one
 unfoldable pub skip : ℕ → ℕ → ℕ
-skip v k = if ltb k v then k else suc k
+skip v k = when ltb k v then k else suc k
 
 pub skipped : (v k : ℕ) → ((k < v) × (skip v k ≡ k)) ⊎ ((v ≤ k) × (skip v k ≡ suc k))
-unfolding skip if◌then◌else◌
+unfolding skip when◌then◌else◌
 skipped v k = go (ltb k v) refl
   where
-    go : (t : Bool) → ltb k v ≡ t → ((k < v) × ((if ltb k v then k else suc k) ≡ k)) ⊎ ((v ≤ k) × ((if ltb k v then k else suc k) ≡ suc k))
+    go : (t : Bool) → ltb k v ≡ t → ((k < v) × ((when ltb k v then k else suc k) ≡ k)) ⊎ ((v ≤ k) × ((when ltb k v then k else suc k) ≡ suc k))
     go true e = inl (ltb-true k v e, rw e)
     go false e = inr (ltb-false k v e, rw e)
 

@@ -3,7 +3,7 @@ use Rattle.std.specs.Prelude.{◌≡◌, refl, Bool, true, false, List, [], ◌�
 use Rattle.std.proofs.Common.{sym, ap, ◌∙◌, ⊎_elim, inl, inr, arith}
 use Rattle.std.proofs.lemmas.Bool.{false≢true}
 use borrow.Author.Tests.{ltb-true, ltb-false, lt-ltb, le-ltb}
-use Rattle.rules.specs.Common.{if◌then◌else◌}
+use Rattle.rules.specs.Common.{when◌then◌else◌}
 use Rattle.rules.proofs.Laws.Choices.{if_either}
 use Rattle.index.specs.declared.Order.{Order}
 use Rattle.index.specs.declared.Order.TheVariants.{Before, Same, After}
@@ -13,15 +13,15 @@ use Rattle.index.specs.TheSortedIndex.{order, is_before, before}
 
 module _ (a b : ℕ) (more bs : List ℕ) where
   order_less : a < b → order (a ∷ more) (b ∷ bs) ≡ Before
-  unfolding order if◌then◌else◌
+  unfolding order when◌then◌else◌
   order_less h = rw (lt-ltb a b h)
 
   order_more : b < a → order (a ∷ more) (b ∷ bs) ≡ After
-  unfolding order if◌then◌else◌
+  unfolding order when◌then◌else◌
   order_more h = rw (le-ltb a b (omega arith), lt-ltb b a h)
 
   order_further : a ≡ b → order (a ∷ more) (b ∷ bs) ≡ order more bs
-  unfolding order if◌then◌else◌
+  unfolding order when◌then◌else◌
   order_further e = rw (le-ltb a b (omega arith), le-ltb b a (omega arith))
 
 pub before_less : (a b : ℕ) (more bs : List ℕ) → a < b → before (a ∷ more) (b ∷ bs) ≡ true

@@ -9,7 +9,7 @@ use Rattle.std.proofs.Math.Dec.{ltb}
 use borrow.Author.Tests.{ltb-true, ltb-false, lt-ltb, le-ltb}
 use Rattle.rules.specs.declared.Found.{Found}
 use Rattle.rules.specs.declared.Found.TheVariants.{Row, Nowhere}
-use Rattle.rules.specs.Common.{if◌then◌else◌, same}
+use Rattle.rules.specs.Common.{when◌then◌else◌, same}
 use Rattle.rules.specs.SettingsAndUnitTable.{rows, row, name, lookup_from, lookup_from_in, lookup, lookup_in}
 use Rattle.rules.proofs.Laws.Choices.{if_either}
 use Rattle.rows.specs.Laws.Lookup.{unnamed}
@@ -31,14 +31,14 @@ by_either P After f g h = h refl
 
 module _ (table wanted : List ℕ) where
   searched_from : (n i : ℕ) → (row_search_from table wanted i n).found ≡ lookup_from table wanted i n
-  unfolding row_search_from lookup_from_in if◌then◌else◌
+  unfolding row_search_from lookup_from_in when◌then◌else◌
   searched_from zero i = refl
   searched_from (suc n) i = go (same (name (row table i)) wanted) (searched_from n (suc i))
     where
       more : Searched
       more = row_search_from table wanted (suc i) n
 
-      go : (t : Bool) → more.found ≡ lookup_from table wanted (suc i) n → (if t then here i else more).found ≡ (if t then Row i else lookup_from table wanted (suc i) n)
+      go : (t : Bool) → more.found ≡ lookup_from table wanted (suc i) n → (when t then here i else more).found ≡ (when t then Row i else lookup_from table wanted (suc i) n)
       go true e = refl
       go false e = e
 
@@ -81,7 +81,7 @@ module _ (table index wanted : List ℕ) where
 
   -- and where fewer than 2 ^ k are left, at most k: each probe leaves less than half
   halved : (n k low high : ℕ) → high < low + 2 ^ k → (index_search_from table index wanted n low high).compared ≤ k
-  unfolding index_search_from if◌then◌else◌
+  unfolding index_search_from when◌then◌else◌
   halved zero k low high h = zero-le
   halved (suc n) zero low high h = rw (le-ltb low high (omega arith)) zero-le
   halved (suc n) (suc k) low high h =
@@ -104,7 +104,7 @@ module _ (table index wanted : List ℕ) where
   probes low high = index_search_from table index wanted (high - low) low high
 
   enough : (n m low high : ℕ) → high - low ≤ n → high - low ≤ m → index_search_from table index wanted n low high ≡ index_search_from table index wanted m low high
-  unfolding index_search_from if◌then◌else◌
+  unfolding index_search_from when◌then◌else◌
   enough zero zero low high p q = refl
   enough zero (suc m) low high p q = rw (le-ltb low high (omega arith))
   enough (suc n) zero low high p q = rw (le-ltb low high (omega arith))
@@ -134,7 +134,7 @@ module _ (table index wanted : List ℕ) where
       → probes low high
       ≡ and_then
       (by_order (order wanted (entry_name table index (middle low high))) (probes low (middle low high)) (here (entry index (middle low high))) (probes (suc (middle low high)) high))
-  unfolding probes index_search_from if◌then◌else◌
+  unfolding probes index_search_from when◌then◌else◌
   probes_more low high h =
       enough (high - low) (suc (high - low - 1)) low high (omega arith) (omega arith)
       ∙ rw (

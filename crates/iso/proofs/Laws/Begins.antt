@@ -4,7 +4,7 @@ use Rattle.std.proofs.Common.{sym, ap, ◌∙◌, inl, inr, append_assoc, append
 use Rattle.std.proofs.Math.Seq.{take-length, append_snoc}
 use Rattle.rules.specs.declared.Refusal.{Refusal}
 use Rattle.rules.specs.declared.Refusal.TheVariants.{NotIso}
-use Rattle.rules.specs.Common.{if◌then◌else◌, all}
+use Rattle.rules.specs.Common.{when◌then◌else◌, all}
 use Rattle.rules.specs.NumbersHandedBack.{Outcome, got, refused}
 use Rattle.iso.specs.IsoTimings.{Component, Stand, start, step, may_end, read_from, components}
 use Rattle.iso.proofs.Laws.Sound.{never}
@@ -58,7 +58,7 @@ begins_walk bytes = walked bytes (way start 0 bytes)
 
 -- a text that walks to its end is read, or refused there
 pub walk_ends : {last : Stand} {end : ℕ} (text : List ℕ) → Walk start 0 text last end → Reads text ⊎ (components text ≡ refused (NotIso (length text)))
-unfolding components read_from if◌then◌else◌
+unfolding components read_from when◌then◌else◌
 walk_ends {last} {end} text w = go (may_end last) refl
   where
     go : (c : Bool) → may_end last ≡ c → Reads text ⊎ (components text ≡ refused (NotIso (length text)))

@@ -8,7 +8,7 @@ use mathlib.Core.List.{List, [], ◌∷◌, ◌++◌}
 use Rattle.std.proofs.Math.Dec.{leb}
 use Rattle.std.proofs.Math.ListN.{length}
 use borrow.Author.Tests.{leb-true, leb-false}
-use Rattle.rules.specs.Common.{if◌then◌else◌}
+use Rattle.rules.specs.Common.{when◌then◌else◌}
 use Rattle.rules.specs.NumbersHandedBack.{got, ◌>>=◌}
 use Rattle.rules.proofs.Laws.Choices.{and_left, and_right}
 use Rattle.iso.specs.IsoTimings.{DAYS, WEEKS, ANY, Component, none, digits, is_mark, right_fraction, right_number, closes, right_after, right, letter, spelling_after, spelling, Stand, start, date, wanted, whole, mark, fraction, unit, closed, on, may_come, after_letter, letter_step, step, may_end, read_from, components}
@@ -30,11 +30,11 @@ module _ (c : Component) (cs : List Component) (goes : (place : ℕ) → read_fr
   -- where it may come
   module _ (k : ℕ) (known : Kind c.kind) (comes : may_come k c.kind ≡ true) where
     letter_reads : (s : Stand) (place : ℕ) → step s place (letter c.kind) ≡ letter_step k c.whole c.fraction place (letter c.kind) → read_from s place (letter c.kind ∷ others c cs) ≡ got (c ∷ cs)
-    unfolding read_from letter_step ◌>>=◌ if◌then◌else◌
+    unfolding read_from letter_step ◌>>=◌ when◌then◌else◌
     letter_reads s place e = rw (e, (letter_of c.kind known).back, comes, goes (suc place))
 
     fraction_reads : (fs : List ℕ) (place : ℕ) → c.fraction ≡ fs → right_fraction fs ≡ true → read_from (whole k c.whole) place (fs ++ (letter c.kind ∷ others c cs)) ≡ got (c ∷ cs)
-    unfolding step right_fraction if◌then◌else◌
+    unfolding step right_fraction when◌then◌else◌
     fraction_reads [] place e h =
         let l = letter_of c.kind known in letter_reads (whole k c.whole) place (rw (e, l.no_digit, l.no_mark))
     fraction_reads (m ∷ ds) place e h =
@@ -64,7 +64,7 @@ module _ (c : Component) (cs : List Component) (goes : (place : ℕ) → read_fr
       ∙ number_reads DAYS (f, omega arith) comes (wanted DAYS) (suc place) (digit_begins DAYS) r.number)
 
   first_reads : {s : Stand} {k : ℕ} (place : ℕ) → Behind s k → Right k c cs → read_from s place (spelling_after k (c ∷ cs)) ≡ got (c ∷ cs)
-  unfolding spelling_after step if◌then◌else◌
+  unfolding spelling_after step when◌then◌else◌
   first_reads place first r = go (leb DAYS c.kind) refl
     where
       go : (t : Bool) → leb DAYS c.kind ≡ t → read_from date place (spelling_after ANY (c ∷ cs)) ≡ got (c ∷ cs)
@@ -87,12 +87,12 @@ module _ (c : Component) (cs : List Component) (goes : (place : ℕ) → read_fr
 -- after a component: the end, or the others
 module _ (c : Component) (cs : List Component) (place : ℕ) where
   ends : (cs : List Component) → none cs ≡ true → read_from closed place (others c cs) ≡ got cs
-  unfolding read_from may_end spelling_after none if◌then◌else◌
+  unfolding read_from may_end spelling_after none when◌then◌else◌
   ends [] e = refl
   ends (d ∷ cs) e = absurd (false≢true e)
 
   behind_reads : c.kind ≤ WEEKS → right_behind c cs ≡ true → (Behind (unit c.kind) c.kind → right_after c.kind cs ≡ true → read_from (unit c.kind) place (others c cs) ≡ got cs) → read_from (after_letter c) place (others c cs) ≡ got cs
-  unfolding right_behind after_letter if◌then◌else◌
+  unfolding right_behind after_letter when◌then◌else◌
   behind_reads h r goes = go (closes c) refl
     where
       go : (t : Bool) → closes c ≡ t → read_from (after_letter c) place (others c cs) ≡ got cs
@@ -101,7 +101,7 @@ module _ (c : Component) (cs : List Component) (place : ℕ) where
 
 -- the components that may follow
 complete_from : (cs : List Component) {s : Stand} {k : ℕ} (place : ℕ) → Behind s k → right_after k cs ≡ true → (may_end s || not (none cs)) ≡ true → read_from s place (spelling_after k cs) ≡ got cs
-unfolding read_from may_end none spelling_after if◌then◌else◌
+unfolding read_from may_end none spelling_after when◌then◌else◌
 complete_from [] place first r h = absurd (false≢true h)
 complete_from [] place (later l) r h = refl
 complete_from (c ∷ cs) {k = k} place b r h =
@@ -113,7 +113,7 @@ complete_from (c ∷ cs) {k = k} place b r h =
     below_any (later l) h = omega arith
 
 pub complete : (cs : List Component) → right cs ≡ true → components (spelling cs) ≡ got cs
-unfolding right components spelling step if◌then◌else◌ may_end
+unfolding right components spelling step when◌then◌else◌ may_end
 complete cs h =
     goes_on start date 0 80 (spelling_after ANY cs) refl
     ∙ complete_from cs 1 first (and_right (not (none cs)) (right_after ANY cs) h) (and_left (not (none cs)) (right_after ANY cs) h)

@@ -2,7 +2,7 @@
 use Rattle.std.specs.Prelude.{◌≡◌, refl, Bool, true, false, not, ◌&&◌, List, [], ◌∷◌, ◌++◌, ℕ, ◌≤◌, ◌<◌, leb, ltb}
 use Rattle.std.proofs.Common.{sym, ◌∙◌, leb-true, le-leb, ltb-true, lt-ltb}
 use Rattle.std.proofs.lemmas.Bool.{false≢true, not-true}
-use Rattle.rules.specs.Common.{if◌then◌else◌, all}
+use Rattle.rules.specs.Common.{when◌then◌else◌, all}
 use Rattle.rules.specs.SettingsAndUnitTable.{DIGIT, is}
 use Rattle.rules.proofs.Laws.Choices.{and_left, and_right, and_both, all_append}
 use Rattle.iso.specs.IsoTimings.{SECONDS, WEEKS, Component, none, digits, is_mark, right_fraction, right_number, closes, right_after, letter}
@@ -47,7 +47,7 @@ one_spelling c rest = c.whole ++ (c.fraction ++ (letter c.kind ∷ rest))
 
 -- what follows a component: nothing, or components of kinds below its own
 unfoldable pub right_behind : Component → List Component → Bool
-right_behind c cs = if closes c then none cs else right_after c.kind cs
+right_behind c cs = when closes c then none cs else right_after c.kind cs
 
 -- a right component after one of kind k, and those that follow it
 pub record Right (k : ℕ) (c : Component) (cs : List Component) : Type 0 where

@@ -10,7 +10,7 @@ use Rattle.std.proofs.Math.ListN.{length, get_or}
 use Rattle.std.proofs.Math.Seq.{take-length, take-append_seam, get_or-append_seam, split_at}
 use Rattle.rules.specs.declared.Refusal.{Refusal}
 use Rattle.rules.specs.declared.Refusal.TheVariants.{NotIso, YearOrMonth, TextTooLong, TooLarge}
-use Rattle.rules.specs.Common.{if◌then◌else◌, between, all}
+use Rattle.rules.specs.Common.{when◌then◌else◌, between, all}
 use Rattle.rules.specs.ThePartOfTheCrateWeTake.{longest_text, seconds_limit, nanoseconds_per_second}
 use Rattle.rules.specs.SettingsAndUnitTable.{DIGIT, is, class}
 use Rattle.rules.specs.NumbersHandedBack.{Outcome, got, refused, ◌>>=◌, ◌>>◌, unless, number}
@@ -55,12 +55,12 @@ stepped_year_or_month (stops_at_year_or_month n d e) h = (n, d, e)
 
 module _ {last : Stand} {end : ℕ} where
   walk_last : {bytes : List ℕ} → Walk start 0 bytes last end → numbered last ≡ is DIGIT (get_or (0 ∷ bytes) (length bytes) 0)
-  unfolding numbered is class between if◌then◌else◌
+  unfolding numbered is class between when◌then◌else◌
   walk_last w = walk_numbered true start_sane 0 refl w
 
   -- a number that may end is no empty text
   walk_far : (bytes : List ℕ) → Walk start 0 bytes last end → numbered last ≡ true → 0 < length bytes
-  unfolding numbered is class between if◌then◌else◌
+  unfolding numbered is class between when◌then◌else◌
   walk_far [] w n = absurd (false≢true (sym (walk_last w) ∙ n))
   walk_far (b ∷ bytes) w n = omega arith
 

@@ -4,7 +4,7 @@ use Rattle.std.proofs.Common.{sym, ◌∙◌, ap, ⊎_elim, arith, leb-true, le-
 use Rattle.rules.specs.declared.Length.{Length}
 use Rattle.rules.specs.declared.Refusal.{Refusal}
 use Rattle.rules.specs.declared.Refusal.TheVariants.{TextTooLong, TooLarge}
-use Rattle.rules.specs.Common.{if◌then◌else◌}
+use Rattle.rules.specs.Common.{when◌then◌else◌}
 use Rattle.rules.specs.ThePartOfTheCrateWeTake.{longest_text, nanoseconds_per_second, seconds_limit}
 use Rattle.rules.specs.NumbersHandedBack.{Outcome, got, refused, ◌>>=◌, ◌>>◌, unless}
 use Rattle.rules.specs.Evaluation.{length_of}
@@ -61,7 +61,7 @@ SpellsMore text = (t : Spelt text) × (seconds_limit * nanoseconds_per_second �
 
 -- a length is read of exactly the texts that spell it
 pub reads_exactly : (text : List ℕ) (l : Length) → (read_iso text ≡ got l) ↔ Spells text l
-unfolding held if◌then◌else◌
+unfolding held when◌then◌else◌
 reads_exactly text l = (
   read (reads text),
   λ s.
@@ -77,7 +77,7 @@ reads_exactly text l = (
 
 -- those that spell more are too large, and no others
 pub too_large_exactly : (text : List ℕ) → (read_iso text ≡ refused TooLarge) ↔ SpellsMore text
-unfolding held if◌then◌else◌
+unfolding held when◌then◌else◌
 too_large_exactly text = (
   read (reads text),
   λ s.

@@ -3,7 +3,7 @@ use Rattle.std.specs.Prelude.{◌≡◌, refl, true, false, ℕ, suc, ◌+◌, l
 use Rattle.std.proofs.Common.{◌∙◌, add-zero, add-suc, suc-add}
 use Rattle.std.proofs.lemmas.Bool.{false≢true}
 use mathlib.Core.List.{List, [], ◌∷◌, ◌++◌, append-nil, append_assoc}
-use Rattle.rules.specs.Common.{if◌then◌else◌, all}
+use Rattle.rules.specs.Common.{when◌then◌else◌, all}
 use Rattle.rules.specs.SettingsAndUnitTable.{DIGIT, is}
 use Rattle.rules.specs.NumbersHandedBack.{Outcome, got, refused, ◌>>=◌}
 use Rattle.rules.proofs.Laws.Choices.{all_first, all_others}
@@ -46,12 +46,12 @@ Begins k s = DigitLeads s (λ b. whole k (b ∷ []))
 
 -- where a number must come, its first digit begins it
 pub digit_begins : (k place b : ℕ) → is DIGIT b ≡ true → digit_step k place b ≡ on (whole k (b ∷ []))
-unfolding digit_step if◌then◌else◌
+unfolding digit_step when◌then◌else◌
 digit_begins k place b h = rw h
 
 module _ (k : ℕ) where
   whole_joins : (ds : List ℕ) → DigitLeads (whole k ds) (λ b. whole k (ds ++ (b ∷ [])))
-  unfolding step if◌then◌else◌
+  unfolding step when◌then◌else◌
   whole_joins ds place b h = rw h
 
   -- digits after the digits of a number
@@ -59,7 +59,7 @@ module _ (k : ℕ) where
   whole_run = run (whole k) whole_joins
 
   fraction_joins : (ds fs : List ℕ) → DigitLeads (fraction k ds fs) (λ b. fraction k ds (fs ++ (b ∷ [])))
-  unfolding step if◌then◌else◌
+  unfolding step when◌then◌else◌
   fraction_joins ds fs place b h = rw h
 
   -- digits after a mark and digits
@@ -75,7 +75,7 @@ module _ (k : ℕ) where
   wanted_run = number_run (wanted k) (digit_begins k)
 
   mark_begins : (ds : List ℕ) (m : ℕ) → DigitLeads (mark k ds m) (λ b. fraction k ds (m ∷ b ∷ []))
-  unfolding step if◌then◌else◌
+  unfolding step when◌then◌else◌
   mark_begins ds m place b h = rw h
 
   -- digits after a mark

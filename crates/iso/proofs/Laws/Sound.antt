@@ -6,7 +6,7 @@ use mathlib.Core.List.{List, [], ◌∷◌, ◌++◌, append_assoc}
 use borrow.Author.Tests.{eqb-true, leb-true, leb-false}
 use Rattle.rules.specs.declared.Refusal.{Refusal}
 use Rattle.rules.specs.declared.Refusal.TheVariants.{NotIso, YearOrMonth}
-use Rattle.rules.specs.Common.{if◌then◌else◌}
+use Rattle.rules.specs.Common.{when◌then◌else◌}
 use Rattle.rules.specs.SettingsAndUnitTable.{DIGIT, is}
 use Rattle.rules.specs.NumbersHandedBack.{Outcome, got, refused, ◌>>=◌}
 use Rattle.rules.proofs.Laws.Choices.{and_left, and_right, and_both, if_either}
@@ -63,7 +63,7 @@ pub never : {A B : Type 0} {cause : Refusal} {a : A} → refused cause ≡ got a
 never h = let z : ◌≡◌ {A = ℕ} 0 1 = cc in absurd (omega arith)
 
 sound_end : (s : Stand) (place : ℕ) (cs : List Component) → read_from s place [] ≡ got cs → Sound s [] cs
-unfolding read_from may_end if◌then◌else◌ right_after spelling_after
+unfolding read_from may_end when◌then◌else◌ right_after spelling_after
 sound_end start place cs h = never h
 sound_end date place cs h = never h
 sound_end (wanted k) place cs h = never h
@@ -75,7 +75,7 @@ sound_end closed place cs h = let e : cs ≡ [] = cc in (e, refl)
 
 -- a component that is done, and what follows
 sound_behind : (c : Component) (cs : List Component) (rest : List ℕ) → Sound (after_letter c) rest cs → (right_behind c cs ≡ true) × (spelling_after c.kind cs ≡ rest)
-unfolding after_letter right_behind none spelling_after if◌then◌else◌
+unfolding after_letter right_behind none spelling_after when◌then◌else◌
 sound_behind c cs rest s = go (closes c) refl
   where
     go : (t : Bool) → closes c ≡ t → (right_behind c cs ≡ true) × (spelling_after c.kind cs ≡ rest)
@@ -105,7 +105,7 @@ module _ (rest : List ℕ) (soundly : Soundly rest) (place b : ℕ) (cs : List C
   record Reached (goal : Type 0) (o : Outcome Move) : Type 0 where
     reach : (o >>= λ m. read_from m.stand (suc place) rest >>= λ others. got (m.made ++ others)) ≡ got cs → goal
 
-  either : {goal : Type 0} (t : Bool) {x y : Outcome Move} → (t ≡ true → Reached goal x) → (t ≡ false → Reached goal y) → Reached goal (if t then x else y)
+  either : {goal : Type 0} (t : Bool) {x y : Outcome Move} → (t ≡ true → Reached goal x) → (t ≡ false → Reached goal y) → Reached goal (when t then x else y)
   either {goal} t f g = if_either (Reached goal) t f g
 
   stops : {goal : Type 0} (cause : Refusal) → Reached goal (refused cause)

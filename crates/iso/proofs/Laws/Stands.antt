@@ -9,7 +9,7 @@ use mathlib.Core.List.{List, [], ◌∷◌, ◌++◌}
 use Rattle.std.proofs.Math.Dec.{leb, ltb, eqb}
 use borrow.Author.Tests.{eqb-true, eqb-false, leb-true, leb-false, lt-leb, lt-ltb, ne_eqb}
 use Rattle.rules.specs.declared.Refusal.TheVariants.{NotIso, YearOrMonth}
-use Rattle.rules.specs.Common.{if◌then◌else◌, between}
+use Rattle.rules.specs.Common.{when◌then◌else◌, between}
 use Rattle.rules.specs.SettingsAndUnitTable.{DIGIT, is, class}
 use Rattle.rules.specs.NumbersHandedBack.{Outcome, got, refused, ◌>>=◌}
 use Rattle.rules.proofs.Laws.Choices.{if_either, and_left, and_right}
@@ -60,7 +60,7 @@ same_dated test t dated b e =
 
 module _ (s : Stand) (dated : Bool) (place b k : ℕ) where
   digit_dated : is DIGIT b ≡ true → leb ANY k ≡ dated → leb ANY k ≡ (dated && untimed b)
-  unfolding is class between if◌then◌else◌
+  unfolding is class between when◌then◌else◌
   digit_dated e h = h ∙ same_dated (is DIGIT) refl dated b e
 
   digit_stepped : SECONDS < k → leb ANY k ≡ dated → Stepped s dated place b (digit_step k place b)
@@ -69,10 +69,10 @@ module _ (s : Stand) (dated : Bool) (place b k : ℕ) where
 
 -- the kind of a letter that may come is in its order, and is of a date before `T` alone
 kind_from : (k kind : ℕ) → may_come k kind ≡ true → (SECONDS ≤ kind) × (leb DAYS kind ≡ false → leb ANY k ≡ false)
-unfolding may_come if◌then◌else◌
+unfolding may_come when◌then◌else◌
 kind_from k kind = go (leb ANY k) refl
   where
-    go : (c : Bool) → leb ANY k ≡ c → (if c then between DAYS WEEKS kind else leb SECONDS kind && ltb kind k) ≡ true → (SECONDS ≤ kind) × (leb DAYS kind ≡ false → leb ANY k ≡ false)
+    go : (c : Bool) → leb ANY k ≡ c → (when c then between DAYS WEEKS kind else leb SECONDS kind && ltb kind k) ≡ true → (SECONDS ≤ kind) × (leb DAYS kind ≡ false → leb ANY k ≡ false)
     go true e h =
         let from : DAYS ≤ kind = between_from DAYS WEEKS kind h in
         (omega arith, λ z. absurd (omega (arith, leb-false DAYS kind z)))
@@ -124,8 +124,8 @@ digit_of : (b n : ℕ) → eqb b n ≡ true → is DIGIT n ≡ false → false �
 digit_of b n e h = rw (eqb-true b n e) (sym h)
 
 -- `T` leads to a digit, and to a kind below days
-clock_stepped : (s : Stand) (dated : Bool) (place b : ℕ) {other : Outcome Move} → Stepped s dated place b other → Stepped s dated place b (if eqb b 84 then on (wanted DAYS) else other)
-unfolding Sane on numbered is class between if◌then◌else◌ untimed
+clock_stepped : (s : Stand) (dated : Bool) (place b : ℕ) {other : Outcome Move} → Stepped s dated place b other → Stepped s dated place b (when eqb b 84 then on (wanted DAYS) else other)
+unfolding Sane on numbered is class between when◌then◌else◌ untimed
 clock_stepped s dated place b h =
     if_either (Stepped s dated place b) (eqb b 84)
     (λ e. moves (omega arith, rw (e, and_false)) (digit_of b 84 e refl))
@@ -133,7 +133,7 @@ clock_stepped s dated place b h =
 
 -- what comes of each byte in each stand
 pub stepped : (s : Stand) (dated : Bool) → Sane s dated → (place b : ℕ) → Stepped s dated place b (step s place b)
-unfolding step Sane on numbered is_mark is class between if◌then◌else◌
+unfolding step Sane on numbered is_mark is class between when◌then◌else◌
 stepped start dated h place b =
     if_either (Stepped start dated place b) (eqb b 80)
     (λ e. moves (sym (same_dated (λ c. eqb c 80) refl dated b e) ∙ h) (digit_of b 80 e refl))
@@ -166,7 +166,7 @@ of_year_or_month P year month b e = ⊎_elim (λ z. rw z year) (λ z. rw z month
 
 -- where a number may end before `T`, `Y` and `M` are refused as years and months
 pub year_or_month_step : (s : Stand) → Sane s true → numbered s ≡ true → (place b : ℕ) → (b ≡ 89) ⊎ (b ≡ 77) → step s place b ≡ refused (YearOrMonth place)
-unfolding Sane numbered step is_mark letter_step may_come kind_of year_or_month is class between if◌then◌else◌
+unfolding Sane numbered step is_mark letter_step may_come kind_of year_or_month is class between when◌then◌else◌
 year_or_month_step (whole k ds) h n place b e = of_year_or_month (λ b. step (whole k ds) place b ≡ refused (YearOrMonth place)) (rw h.1) (rw h.1) b e
 year_or_month_step (fraction k ds fs) h n place b e = of_year_or_month (λ b. step (fraction k ds fs) place b ≡ refused (YearOrMonth place)) (rw h.1) (rw h.1) b e
 year_or_month_step start h n place b e = absurd (false≢true n)
@@ -180,7 +180,7 @@ year_or_month_step closed h n place b e = absurd (false≢true n)
 
 -- a letter that may come below k
 unfoldable pub some_letter : ℕ → ℕ
-some_letter k = if leb ANY k then 68 else 83
+some_letter k = when leb ANY k then 68 else 83
 
 unfoldable pub completion : Stand → List ℕ
 completion start = 80 ∷ 48 ∷ 68 ∷ []
@@ -206,7 +206,7 @@ unfolding after_letter may_end
 may_end_after c = if_either (λ s. may_end s ≡ true) (closes c) (λ z. refl) (λ z. refl)
 
 ended : (s : Stand) (place : ℕ) → may_end s ≡ true → ReadsFrom s place []
-unfolding read_from if◌then◌else◌
+unfolding read_from when◌then◌else◌
 ended s place e = ([], rw e)
 
 module _ (place k : ℕ) (ds fs : List ℕ) (low : SECONDS < k) where
@@ -214,15 +214,15 @@ module _ (place k : ℕ) (ds fs : List ℕ) (low : SECONDS < k) where
   made_by b = record { whole = ds; fraction = fs; kind = kind_of b }
 
   some_letter_comes : may_come k (kind_of (some_letter k)) ≡ true
-  unfolding may_come kind_of some_letter between if◌then◌else◌
+  unfolding may_come kind_of some_letter between when◌then◌else◌
   some_letter_comes = go (leb ANY k) refl
     where
-      go : (c : Bool) → leb ANY k ≡ c → (if c then between DAYS WEEKS (kind_of (if c then 68 else 83)) else (leb SECONDS (kind_of (if c then 68 else 83)) && ltb (kind_of (if c then 68 else 83)) k)) ≡ true
+      go : (c : Bool) → leb ANY k ≡ c → (when c then between DAYS WEEKS (kind_of (when c then 68 else 83)) else (leb SECONDS (kind_of (when c then 68 else 83)) && ltb (kind_of (when c then 68 else 83)) k)) ≡ true
       go true e = refl
       go false e = lt-ltb SECONDS k low
 
   letter_moves : letter_step k ds fs place (some_letter k) ≡ got (record { made = made_by (some_letter k) ∷ []; stand = after_letter (made_by (some_letter k)) })
-  unfolding letter_step if◌then◌else◌ made_by
+  unfolding letter_step when◌then◌else◌ made_by
   letter_moves = rw some_letter_comes
 
   -- read to the end by a letter, in a stand that takes it
@@ -236,11 +236,11 @@ some_letter_is P day second k = if_either P (leb ANY k) (λ e. day) (λ e. secon
 
 module _ (place k : ℕ) (ds : List ℕ) (low : SECONDS < k) where
   whole_reads : ReadsFrom (whole k ds) place (some_letter k ∷ [])
-  unfolding step is_mark is class between if◌then◌else◌
+  unfolding step is_mark is class between when◌then◌else◌
   whole_reads = letter_reads place k ds [] low (whole k ds) (some_letter_is (λ b. step (whole k ds) place b ≡ letter_step k ds [] place b) refl refl k)
 
   fraction_reads : (fs : List ℕ) → ReadsFrom (fraction k ds fs) place (some_letter k ∷ [])
-  unfolding step is class between if◌then◌else◌
+  unfolding step is class between when◌then◌else◌
   fraction_reads fs = letter_reads place k ds fs low (fraction k ds fs) (some_letter_is (λ b. step (fraction k ds fs) place b ≡ letter_step k ds fs place b) refl refl k)
 
 digit_reads : (s : Stand) (place k : ℕ) → SECONDS < k → step s place 48 ≡ on (whole k (48 ∷ [])) → ReadsFrom s place (48 ∷ some_letter k ∷ [])
@@ -248,11 +248,11 @@ unfolding on
 digit_reads s place k low e = one_more s place 48 (some_letter k ∷ []) e (whole_reads (suc place) k (48 ∷ []) low)
 
 date_reads : (place : ℕ) → ReadsFrom date place (48 ∷ 68 ∷ [])
-unfolding step digit_step is class between if◌then◌else◌ some_letter
+unfolding step digit_step is class between when◌then◌else◌ some_letter
 date_reads place = digit_reads date place ANY (omega arith) refl
 
 pub completed : (s : Stand) (dated : Bool) → Sane s dated → (place : ℕ) → ReadsFrom s place (completion s)
-unfolding Sane completion step digit_step on is class between if◌then◌else◌ may_end
+unfolding Sane completion step digit_step on is class between when◌then◌else◌ may_end
 completed start dated h place = one_more start place 80 (48 ∷ 68 ∷ []) refl (date_reads (suc place))
 completed date dated h place = date_reads place
 completed (wanted k) dated h place = digit_reads (wanted k) place k h.0 refl

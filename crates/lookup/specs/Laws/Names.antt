@@ -4,7 +4,7 @@ use Rattle.std.proofs.Common.{add-one, arith}
 use Rattle.std.proofs.Math.ListN.{drop_of_length-le}
 use Rattle.std.proofs.Math.Seq.{drop-cons}
 use borrow.Author.Tests.{lt-ltb, le-ltb}
-use Rattle.rules.specs.Common.{if◌then◌else◌}
+use Rattle.rules.specs.Common.{when◌then◌else◌}
 use Rattle.index.specs.declared.Order.TheVariants.{Before, Same, After}
 use Rattle.index.specs.TheSortedIndex.{order}
 
@@ -16,15 +16,15 @@ module _ (a b : List ℕ) (i : ℕ) where
 
     module _ (there : i < length b) where
       pub less_byte : get_or a i 0 < get_or b i 0 → order (drop i a) (drop i b) ≡ Before
-      unfolding order if◌then◌else◌
+      unfolding order when◌then◌else◌
       less_byte h = rw (drop-cons a i 0 here, drop-cons b i 0 there, lt-ltb (get_or a i 0) (get_or b i 0) h)
 
       pub more_byte : get_or b i 0 < get_or a i 0 → order (drop i a) (drop i b) ≡ After
-      unfolding order if◌then◌else◌
+      unfolding order when◌then◌else◌
       more_byte h = rw (drop-cons a i 0 here, drop-cons b i 0 there, le-ltb (get_or a i 0) (get_or b i 0) (omega arith), lt-ltb (get_or b i 0) (get_or a i 0) h)
 
       pub same_byte : get_or b i 0 ≤ get_or a i 0 → get_or a i 0 ≤ get_or b i 0 → order (drop i a) (drop i b) ≡ order (drop (i + 1) a) (drop (i + 1) b)
-      unfolding order if◌then◌else◌
+      unfolding order when◌then◌else◌
       same_byte p q = rw (add-one, drop-cons a i 0 here, drop-cons b i 0 there, le-ltb (get_or a i 0) (get_or b i 0) p, le-ltb (get_or b i 0) (get_or a i 0) q)
 
   module _ (ended : length a ≤ i) where

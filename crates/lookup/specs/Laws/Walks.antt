@@ -7,7 +7,7 @@ use native.Mathlib.Omega.{arith}
 use Rattle.std.proofs.Math.ListN.{drop, length-drop}
 use Rattle.std.proofs.Math.Seq.{drop-drop, take_all}
 use Rattle.rules.specs.declared.Found.TheVariants.{Row, Nowhere}
-use Rattle.rules.specs.Common.{if◌then◌else◌, same}
+use Rattle.rules.specs.Common.{when◌then◌else◌, same}
 use Rattle.rules.specs.SettingsAndUnitTable.{row_size, rows, rows_in, row, row_in, name}
 use Rattle.rows.specs.Named.{padded, Padded, found_row, row_named}
 use Rattle.rows.specs.Laws.Rows.{length_row}
@@ -76,11 +76,11 @@ module _ {table wanted : List ℕ} {at : ℕ} {rest : List ℕ} (w : Walking tab
     walk_padded rooms = (walk_long, rw walk_row (rooms at walk_below))
 
     pub walk_finds : same (name (take row_size rest)) wanted ≡ true → record { found = Row at; compared = at + 1 } ≡ row_search table wanted
-    unfolding row_search_from if◌then◌else◌
+    unfolding row_search_from when◌then◌else◌
     walk_finds e = rw (left, walk_asks e) at w.decides
 
     pub walk_goes_on : same (name (take row_size rest)) wanted ≡ false → Walking table wanted (at + 1) (take (length rest - row_size) (drop row_size rest))
-    unfolding row_search_from if◌then◌else◌
+    unfolding row_search_from when◌then◌else◌
     walk_goes_on e =
         let places : row_size * (at + 1) ≡ row_size * at + row_size = omega arith in
         let more : Searched = row_search_from table wanted (at + 1) (rows table - (at + 1)) in

@@ -8,7 +8,7 @@ use Prim.Native.Nat.{ℕ, zero, suc, ◌+◌, ◌*◌, ◌-◌, ◌/◌, ◌%◌
 use Rattle.std.proofs.Math.ListN.{take, drop, replicate, length-take, length-drop}
 use Rattle.std.proofs.lemmas.List.{length-replicate, take-append-le, drop-append-le}
 use Rattle.std.proofs.Math.Seq.{take-nil, drop-nil, take_all, get_or-take}
-use Rattle.rules.specs.Common.{if◌then◌else◌, between, all}
+use Rattle.rules.specs.Common.{when◌then◌else◌, between, all}
 use Rattle.rules.specs.SettingsAndUnitTable.{kind_at_in, zeros_at_in, row_size_in, name_size, name, after_name_in, hexadecimal, two_digits, stored}
 use Rattle.rules.proofs.Laws.Choices.{if_either, and_left, and_right, and_both}
 use Rattle.rules.proofs.Laws.Tests.{and_assoc, same_test, eqb_iff, between_to}
@@ -35,7 +35,7 @@ two_digits_drop (suc k) [] = sym (drop-nil (2 * suc k))
 two_digits_drop (suc k) (b ∷ l) = let twice : 2 * suc k ≡ suc (suc (2 * k)) = omega arith in rw (twice, two_digits_drop k l)
 
 two_digits_zeros : (k : ℕ) → two_digits (replicate k 0) ≡ replicate (2 * k) zero_digit
-unfolding two_digits hexadecimal if◌then◌else◌
+unfolding two_digits hexadecimal when◌then◌else◌
 two_digits_zeros zero = refl
 two_digits_zeros (suc k) = let twice : 2 * suc k ≡ suc (suc (2 * k)) = omega arith in rw (twice, two_digits_zeros k)
 

@@ -3,7 +3,7 @@
 use Rattle.std.specs.Prelude.{◌≡◌, refl, Bool, true, false, not, List, [], ◌∷◌, ◌++◌, ℕ, ◌<◌, eqb, length, take, drop}
 use Rattle.std.proofs.Common.{sym, ap, ◌∙◌, append_assoc, arith, take-append-drop, eqb-true}
 use Rattle.std.proofs.lemmas.Bool.{false≢true, not-true}
-use Rattle.rules.specs.Common.{if◌then◌else◌, between, all}
+use Rattle.rules.specs.Common.{when◌then◌else◌, between, all}
 use Rattle.rules.proofs.Laws.Choices.{all_first, all_others, all_weaken}
 use Rattle.stored.specs.Lines.{digits_size_in, line_size_in, digit_value, spells, line_accepted_in}
 use Rattle.stored.specs.Laws.{line_long, line_ends, line_spelled}
@@ -15,7 +15,7 @@ unfoldable pub in_line : ℕ → Bool
 in_line b = not (eqb b newline)
 
 pub line_first : (front rest : List ℕ) → all in_line front ≡ true → lines (front ++ newline ∷ rest) ≡ (front ++ newline ∷ []) ∷ lines rest
-unfolding lines with_byte if◌then◌else◌ in_line
+unfolding lines with_byte when◌then◌else◌ in_line
 line_first [] rest e = refl
 line_first (b ∷ front) rest e =
     rw (not-true (eqb b newline) (all_first in_line b front e), line_first front rest (all_others in_line b front e))
@@ -23,7 +23,7 @@ line_first (b ∷ front) rest e =
 -- ---- digits and a newline
 
 newline_spells : spells newline ≡ false
-unfolding spells digit_value between if◌then◌else◌
+unfolding spells digit_value between when◌then◌else◌
 newline_spells = refl
 
 digit_goes_on : (b : ℕ) → spells b ≡ true → eqb b newline ≡ false
@@ -46,7 +46,7 @@ record Begun (source : List ℕ) : Type 0 where
   front : take (length first) source ≡ first
 
 begun : (b : ℕ) (bs : List ℕ) → Begun (b ∷ bs)
-unfolding lines if◌then◌else◌ with_byte
+unfolding lines when◌then◌else◌ with_byte
 begun b [] = go (eqb b newline) refl
   where
     go : (t : Bool) → eqb b newline ≡ t → Begun (b ∷ [])

@@ -9,7 +9,7 @@ use Rattle.std.proofs.Math.Numerals.{add-one}
 use native.Mathlib.Omega.{arith}
 use Rattle.rules.specs.declared.Found.{Found}
 use Rattle.rules.specs.declared.Found.TheVariants.{Row, Nowhere}
-use Rattle.rules.specs.Common.{if◌then◌else◌, same}
+use Rattle.rules.specs.Common.{when◌then◌else◌, same}
 use Rattle.rules.specs.SettingsAndUnitTable.{row_size, rows, row, name, named, named_in, lookup_from, lookup_from_in, lookup, lookup_in, line_first, stands, held_row, find_row}
 use Rattle.rules.proofs.Laws.Choices.{if_either, and_left, and_right, or_neither}
 use Rattle.rows.specs.Named.{found_row, row_named}
@@ -56,13 +56,13 @@ module _ (table wanted : List ℕ) where
   lookup_start = rw sub-zero
 
   pub lookup_here : (i : ℕ) → i < rows table → same (name (row table i)) wanted ≡ true → rest_of_lookup table wanted i ≡ Row i
-  unfolding rest_of_lookup lookup_from_in if◌then◌else◌
+  unfolding rest_of_lookup lookup_from_in when◌then◌else◌
   lookup_here i h e =
       let counted : rows table - i ≡ suc (rows table - (i + 1)) = omega arith in
       rw (counted, e)
 
   pub lookup_next : (i : ℕ) → i < rows table → same (name (row table i)) wanted ≡ false → rest_of_lookup table wanted i ≡ rest_of_lookup table wanted (i + 1)
-  unfolding rest_of_lookup lookup_from_in if◌then◌else◌
+  unfolding rest_of_lookup lookup_from_in when◌then◌else◌
   lookup_next i h e =
       let counted : rows table - i ≡ suc (rows table - (i + 1)) = omega arith in
       rw (counted, e, add-one i)

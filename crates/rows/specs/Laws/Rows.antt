@@ -9,7 +9,7 @@ use native.Mathlib.Omega.{arith}
 use Rattle.std.proofs.Math.ListN.{get_or}
 use borrow.Author.Tests.{le-leb, lt-leb, leb-true, leb-false, ltb-true, lt-ltb}
 use Rattle.rules.specs.declared.Multiplier.{Multiplier}
-use Rattle.rules.specs.Common.{if◌then◌else◌, all}
+use Rattle.rules.specs.Common.{when◌then◌else◌, all}
 use Rattle.rules.specs.SettingsAndUnitTable.{coefficient_size, coefficient_field, power_size, row_size, name_room, rows, rows_in, row, row_in, name_size, name, kind, power_field, below_zero, magnitude, kind_coefficients, kind_downs, kind_multiplier, row_multiplier, row_multiplier_in, times, product, product_in, in_range}
 use Rattle.rules.proofs.Laws.Choices.{if_either, and_left, and_right}
 use Rattle.rules.proofs.Laws.Tests.{and_true, same_test}
@@ -32,27 +32,27 @@ unfolding below_zero
 below bytes x h = lt-leb (256 ^ bytes / 2) x h
 
 pub magnitude_of : (bytes x : ℕ) → x < 256 ^ bytes / 2 → magnitude bytes x ≡ x
-unfolding magnitude if◌then◌else◌
+unfolding magnitude when◌then◌else◌
 magnitude_of bytes x h = rw (below bytes x h)
 
 pub magnitude_below : (bytes x : ℕ) → 256 ^ bytes / 2 ≤ x → magnitude bytes x ≡ 256 ^ bytes - x
-unfolding magnitude if◌then◌else◌ below_zero
+unfolding magnitude when◌then◌else◌ below_zero
 magnitude_below bytes x h = rw (le-leb (256 ^ bytes / 2) x h)
 
 pub risen_of : (x : ℕ) → x < 32768 → risen x ≡ x
-unfolding risen if◌then◌else◌
+unfolding risen when◌then◌else◌
 risen_of x h = rw (below power_size x h)
 
 pub risen_below : (x : ℕ) → 32768 ≤ x → risen x ≡ 0
-unfolding risen if◌then◌else◌ below_zero
+unfolding risen when◌then◌else◌ below_zero
 risen_below x h = rw (le-leb 32768 x h)
 
 pub fallen_of : (x : ℕ) → x < 32768 → fallen x ≡ 0
-unfolding fallen if◌then◌else◌
+unfolding fallen when◌then◌else◌
 fallen_of x h = rw (below power_size x h)
 
 pub fallen_below : (x : ℕ) → 32768 ≤ x → fallen x ≡ 65536 - x
-unfolding fallen if◌then◌else◌ below_zero
+unfolding fallen when◌then◌else◌ below_zero
 fallen_below x h = rw (le-leb 32768 x h, magnitude_below power_size x h)
 
 pub risen_most : (x : ℕ) → risen x < 32768

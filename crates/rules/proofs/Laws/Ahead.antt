@@ -16,7 +16,7 @@ use Rattle.rules.specs.declared.Settings.{Settings}
 use Rattle.rules.specs.declared.Multiplier.{Multiplier}
 use Rattle.rules.specs.declared.Found.{Found}
 use Rattle.rules.specs.declared.Found.TheVariants.{Row, Nowhere}
-use Rattle.rules.specs.Common.{if◌then◌else◌, ascii, sees, run}
+use Rattle.rules.specs.Common.{when◌then◌else◌, ascii, sees, run}
 use Rattle.rules.specs.NumbersHandedBack.{◌>>=◌}
 use Rattle.rules.specs.SettingsAndUnitTable.{DIGIT, SIGN, POINT, is, holds, Card, lookup, row_multiplier, product}
 use Rattle.rules.specs.ReadingOnePart.{prefix, says, delimiters, gap, sign_step, fraction_step, number_step, exponent_digits, exponent_number, exponent_step, same_letter, in_stretch, ago_step, find_unit, unit_found, unit_step, numeral_end, numeral_found, numeral_step, spoken_unit_found, spoken_unit_step, after_conjunction, conjunction_step, connection, letters_step, infinity_closed, infinity_step, infinite_part, finite_part, spoken_part, unsigned_part, part}
@@ -44,8 +44,8 @@ pub says_within : (word text : List ℕ) (place : ℕ) → place ≤ length text
 unfolding says
 says_within word text place h e = omega (arith, prefix_length word (drop place text) e, length-drop place text)
 
-behind_a_sign : (b : Bool) (place : ℕ) → place ≤ (if b then place + 2 else place + 1)
-unfolding if◌then◌else◌
+behind_a_sign : (b : Bool) (place : ℕ) → place ≤ (when b then place + 2 else place + 1)
+unfolding when◌then◌else◌
 behind_a_sign true place = omega arith
 behind_a_sign false place = omega arith
 

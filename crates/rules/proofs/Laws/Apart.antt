@@ -9,7 +9,7 @@ use Rattle.std.proofs.Math.Dec.{ltb, eqb}
 use Rattle.std.proofs.Math.Arith.{digits_lt, digits_div, digits_mod}
 use borrow.Author.Tests.{ltb-true, ltb-false, lt-ltb, le-ltb, leb-true, le-leb, lt-leb, eqb-true, eq-eqb, ne_eqb, not-true}
 use Rattle.rules.specs.declared.Length.{Length}
-use Rattle.rules.specs.Common.{if◌then◌else◌}
+use Rattle.rules.specs.Common.{when◌then◌else◌}
 use Rattle.rules.specs.ThePartOfTheCrateWeTake.{zero_length, size, well_formed}
 use Rattle.rules.specs.Evaluation.{nanos, length_of, sum}
 use Rattle.rules.proofs.Laws.Choices.{and_left, and_right}
@@ -18,12 +18,12 @@ use Rattle.rules.proofs.Laws.Tests.{and_true, and_false, same_test}
 
 -- no nanoseconds are zero, with a plus
 pub none : (negative : Bool) → length_of negative 0 ≡ zero_length
-unfolding length_of if◌then◌else◌
+unfolding length_of when◌then◌else◌
 none negative = refl
 
 -- a number below the limit is its seconds and its nanoseconds, with a sign that is plus for zero
 pub apart : (negative : Bool) (seconds nanoseconds : ℕ) → seconds < 2 ^ 64 → nanoseconds < 10 ^ 9 → (seconds * 10 ^ 9 + nanoseconds ≡ 0 → negative ≡ false) → length_of negative (seconds * 10 ^ 9 + nanoseconds) ≡ record { negative = negative; seconds = seconds; nanoseconds = nanoseconds }
-unfolding length_of if◌then◌else◌ zero_length
+unfolding length_of when◌then◌else◌ zero_length
 apart negative seconds nanoseconds hs hn plus = go (eqb (seconds * 10 ^ 9 + nanoseconds) 0) refl
   where
     go : (b : Bool) → eqb (seconds * 10 ^ 9 + nanoseconds) 0 ≡ b → length_of negative (seconds * 10 ^ 9 + nanoseconds) ≡ record { negative = negative; seconds = seconds; nanoseconds = nanoseconds }
@@ -129,13 +129,13 @@ by_seconds a b other ha hb =
 -- ---- the sum, case by case
 
 pub sum_alike : (a b : Length) → beq a.negative b.negative ≡ true → sum a b ≡ length_of a.negative (size a + size b)
-unfolding sum if◌then◌else◌
+unfolding sum when◌then◌else◌
 sum_alike a b same = rw same
 
 pub sum_first : (a b : Length) → beq a.negative b.negative ≡ false → leb (size b) (size a) ≡ true → sum a b ≡ length_of a.negative (size a - size b)
-unfolding sum if◌then◌else◌
+unfolding sum when◌then◌else◌
 sum_first a b other longer = rw (other, longer)
 
 pub sum_second : (a b : Length) → beq a.negative b.negative ≡ false → leb (size b) (size a) ≡ false → sum a b ≡ length_of b.negative (size b - size a)
-unfolding sum if◌then◌else◌
+unfolding sum when◌then◌else◌
 sum_second a b other shorter = rw (other, shorter)

@@ -2,7 +2,7 @@
 use Rattle.std.specs.Prelude.{◌≡◌, refl, Bool, true, false, ◌&&◌, ◌||◌, ◌⊎◌, List, [], ◌∷◌, ◌++◌}
 use Rattle.std.proofs.Common.{sym, inl, inr}
 use Rattle.std.proofs.lemmas.Bool.{false≢true}
-use Rattle.rules.specs.Common.{if◌then◌else◌, all}
+use Rattle.rules.specs.Common.{when◌then◌else◌, all}
 
 pub and_left : (a b : Bool) → (a && b) ≡ true → a ≡ true
 and_left true b e = refl
@@ -24,17 +24,17 @@ or_neither true b e = absurd (false≢true (sym e))
 or_neither false b e = (refl, e)
 
 -- what holds of either case holds of the choice
-pub if_either : {A : Type 0} (P : A → Type 0) (b : Bool) {x y : A} → (b ≡ true → P x) → (b ≡ false → P y) → P (if b then x else y)
-unfolding if◌then◌else◌
+pub if_either : {A : Type 0} (P : A → Type 0) (b : Bool) {x y : A} → (b ≡ true → P x) → (b ≡ false → P y) → P (when b then x else y)
+unfolding when◌then◌else◌
 if_either P true f g = f refl
 if_either P false f g = g refl
 
-pub if_then : {A : Type 0} {b : Bool} (x y : A) → b ≡ true → (if b then x else y) ≡ x
-unfolding if◌then◌else◌
+pub if_then : {A : Type 0} {b : Bool} (x y : A) → b ≡ true → (when b then x else y) ≡ x
+unfolding when◌then◌else◌
 if_then x y e = rw e
 
-pub if_else : {A : Type 0} {b : Bool} (x y : A) → b ≡ false → (if b then x else y) ≡ y
-unfolding if◌then◌else◌
+pub if_else : {A : Type 0} {b : Bool} (x y : A) → b ≡ false → (when b then x else y) ≡ y
+unfolding when◌then◌else◌
 if_else x y e = rw e
 
 pub all_first : {A : Type 0} (test : A → Bool) (x : A) (xs : List A) → all test (x ∷ xs) ≡ true → test x ≡ true

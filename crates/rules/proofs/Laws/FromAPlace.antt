@@ -28,7 +28,7 @@ use Rattle.rules.specs.declared.Repr.TheVariants.{Typed, Spoken}
 use Rattle.rules.specs.declared.Part.{Part}
 use Rattle.rules.specs.declared.Reading.{Reading}
 use Rattle.rules.specs.declared.Refusal.TheVariants.{Nothing, SignEnds, DelimiterEnds, FractionOff, FractionEmpty, ExponentOff, ExponentByte, ExponentEnds, ExponentAbove, ExponentBelow, InfinityByte, InfinityEnds, ConjunctionEnds, ConjunctionGoesOn, NoNumber, NoUnit, OutOfRange}
-use Rattle.rules.specs.Common.{if◌then◌else◌, ascii, ends, sees, run}
+use Rattle.rules.specs.Common.{when◌then◌else◌, ascii, ends, sees, run}
 use Rattle.rules.specs.NumbersHandedBack.{got, ◌>>=◌, ◌>>◌, unless}
 use Rattle.rules.specs.SettingsAndUnitTable.{DIGIT, SIGN, POINT, is, holds, is_next_duration, letters_of, conjunctions_of, times, in_range, Card, lookup, find_row, row, row_multiplier, product}
 use Rattle.rules.specs.ReadingOnePart.{same_letter, says, delimiters, gap, sign_step, fraction_step, number_step, exponent_passed, exponent_digits, exponent_number, exponent_step, in_stretch, closes_unit, ago_step, find_unit, unit_found, unit_step, numeral_end, numeral_found, numeral_step, spoken_unit_found, spoken_unit_step, conjunction_size, after_conjunction, conjunction_step, connection, closes_infinity, letters_step, infinity_closed, infinity_step, infinite_part, finite_part, spoken_part, unsigned_part, part}
@@ -83,15 +83,15 @@ abbrev pub move_reading : ℕ → Reading → Reading
 move_reading k r = record { length = r.length; next = k + r.next }
 
 passed_later : (negative : Bool) (k p q : ℕ) → q ≡ k + p → exponent_passed negative q ≡ later k (exponent_passed negative p)
-unfolding exponent_passed later if◌then◌else◌
+unfolding exponent_passed later when◌then◌else◌
 passed_later true k p q e = ap ExponentBelow e
 passed_later false k p q e = ap ExponentAbove e
 
-behind_a_sign : (k p q : ℕ) → q ≡ k + p → {b b' : Bool} → b ≡ b' → (if b' then q + 2 else q + 1) ≡ k + (if b then p + 2 else p + 1)
-unfolding if◌then◌else◌
+behind_a_sign : (k p q : ℕ) → q ≡ k + p → {b b' : Bool} → b ≡ b' → (when b' then q + 2 else q + 1) ≡ k + (when b then p + 2 else p + 1)
+unfolding when◌then◌else◌
 behind_a_sign k p q e {b} f = rw (← f) (go b)
   where
-    go : (c : Bool) → (if c then q + 2 else q + 1) ≡ k + (if c then p + 2 else p + 1)
+    go : (c : Bool) → (when c then q + 2 else q + 1) ≡ k + (when c then p + 2 else p + 1)
     go true = omega arith
     go false = omega arith
 

@@ -8,7 +8,7 @@ use Rattle.std.proofs.Math.ListN.{length}
 use Rattle.std.proofs.Math.Seq.{slice, drop-append_seam, take-append_seam}
 use borrow.Author.Tests.{lt-leb, eqb-true}
 use Rattle.rules.specs.declared.Settings.{Settings}
-use Rattle.rules.specs.Common.{if◌then◌else◌, all, ends, starts, sees, front, run}
+use Rattle.rules.specs.Common.{when◌then◌else◌, all, ends, starts, sees, front, run}
 use Rattle.rules.specs.NumbersHandedBack.{got}
 use Rattle.rules.specs.SettingsAndUnitTable.{holds}
 use Rattle.rules.specs.ReadingOnePart.{same_letter, delimiters, gap, exponent_step, connection}
@@ -18,13 +18,13 @@ use Rattle.rules.proofs.Laws.Texts.{run_stop, drop_shift, slice_shift}
 
 -- a test that fails at the byte after them ends the run of bytes that pass it
 front_over : (test : ℕ → Bool) (mid post : List ℕ) → all test mid ≡ true → starts test post ≡ false → front test (mid ++ post) ≡ length mid
-unfolding front starts if◌then◌else◌
+unfolding front starts when◌then◌else◌
 front_over test [] [] passes stops = refl
 front_over test [] (b ∷ post) passes stops = rw stops
 front_over test (b ∷ mid) post passes stops = rw (all_first test b mid passes) (ap suc (front_over test mid post (all_others test b mid passes) stops))
 
 front_first : (test : ℕ → Bool) (mid post : List ℕ) → starts test post ≡ false → front test (mid ++ post) ≡ front test mid
-unfolding front starts if◌then◌else◌
+unfolding front starts when◌then◌else◌
 front_first test [] [] stops = refl
 front_first test [] (b ∷ post) stops = rw stops
 front_first test (b ∷ mid) post stops = rw (front_first test mid post stops)
@@ -36,14 +36,14 @@ front_most test (b ∷ mid) = let more = front_most test mid in if_either (λ n.
 
 -- zeros in front spell nothing
 front_zeros : (digits : List ℕ) → spelled 0 (drop (front (eqb 48) digits) digits) ≡ spelled 0 digits
-unfolding front if◌then◌else◌ spelled
+unfolding front when◌then◌else◌ spelled
 front_zeros [] = refl
 front_zeros (d ∷ digits) = go (eqb 48 d) refl (front_zeros digits)
   where
     go :
         (b : Bool) → eqb 48 d ≡ b
         → spelled 0 (drop (front (eqb 48) digits) digits) ≡ spelled 0 digits
-        → spelled 0 (drop (if b then suc (front (eqb 48) digits) else 0) (d ∷ digits)) ≡ spelled 0 (d ∷ digits)
+        → spelled 0 (drop (when b then suc (front (eqb 48) digits) else 0) (d ∷ digits)) ≡ spelled 0 (d ∷ digits)
     go true z more = more ∙ rw (← (eqb-true 48 d z))
     go false z more = refl
 
@@ -85,14 +85,14 @@ module _ (text : List ℕ) (place : ℕ) where
 module _ (s : Settings) (text : List ℕ) (place : ℕ) where
   -- no inner delimiter at the place: nothing is skipped
   pub gap_none : (on : Bool) → sees (holds s.inner) text place ≡ false → gap on s text place ≡ got place
-  unfolding gap delimiters if◌then◌else◌
+  unfolding gap delimiters when◌then◌else◌
   gap_none true none = rw (none, run_stop (holds s.inner) text place none)
   gap_none false none = refl
 
   pub exponent_none : sees (same_letter 101) text place ≡ false → exponent_step s text place ≡ got (record { exponent = record { negative = false; power = 0 }; next = place })
-  unfolding exponent_step if◌then◌else◌
+  unfolding exponent_step when◌then◌else◌
   exponent_none none = rw none
 
   pub connection_none : sees (holds s.outer) text place ≡ false → connection s text place ≡ got place
-  unfolding connection if◌then◌else◌
+  unfolding connection when◌then◌else◌
   connection_none none = rw none

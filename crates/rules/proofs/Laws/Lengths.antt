@@ -5,7 +5,7 @@ use Rattle.rules.specs.declared.Length.{Length}
 use Rattle.rules.specs.declared.DurationRepr.{DurationRepr}
 use Rattle.rules.specs.declared.Repr.{Repr}
 use Rattle.rules.specs.declared.Repr.TheVariants.{Typed, Spoken}
-use Rattle.rules.specs.Common.{if◌then◌else◌}
+use Rattle.rules.specs.Common.{when◌then◌else◌}
 use Rattle.rules.specs.ThePartOfTheCrateWeTake.{nanoseconds_per_second, seconds_limit, zero_length, largest, size, well_formed}
 use Rattle.rules.specs.Evaluation.{length_of, evaluate, spoken_multiplier, worth, evaluate_spoken, evaluated, sum}
 use Rattle.rules.proofs.Laws.Choices.{if_either}
@@ -27,7 +27,7 @@ size_of negative r h =
     too_large g = omega arith
 
 pub size_clamped : (negative : Bool) (r : ℕ) → limit ≤ r → length_of negative r ≡ largest negative
-unfolding length_of if◌then◌else◌
+unfolding length_of when◌then◌else◌
 size_clamped negative r h = rw (ne_eqb r 0 (λ e. above e), le-leb limit r h)
   where
     above : r ≡ 0 → ⊥

@@ -6,7 +6,7 @@ use Rattle.std.proofs.Math.Bool.{true, false}
 use Rattle.std.proofs.lemmas.Bool.{false≢true}
 use Rattle.rules.specs.declared.Refusal.{Refusal}
 use Rattle.rules.specs.declared.Refusal.TheVariants.{Nothing, SignEnds, DelimiterEnds, FractionOff, FractionEmpty, ExponentOff, ExponentByte, ExponentEnds, ExponentAbove, ExponentBelow, InfinityByte, InfinityEnds, InfinityGoesOn, ConjunctionEnds, ConjunctionGoesOn, NegativeForbidden, NoNumber, NoUnit, OutOfRange, Delimiters, Conjunctions, DefaultKind, TableSize, BadRow, LineSize, BadLineRow, NumeralsSize, BadNumeral, WrongIndex, WrongLineIndex, TextTooLong, NoRoom, Beyond, Malformed, NotIso, YearOrMonth, TooLarge, NoStoredRow, NameTooLong}
-use Rattle.rules.specs.Common.{if◌then◌else◌}
+use Rattle.rules.specs.Common.{when◌then◌else◌}
 use Rattle.rules.specs.NumbersHandedBack.{Outcome, got, refused, ◌>>=◌, ◌>>◌, unless}
 
 -- ---- what holds of whatever is got
@@ -23,11 +23,11 @@ module _ {A : Type 0} {P : A → Type 0} where
   pub all_of : {m : Outcome A} {a : A} → All P m → m ≡ got a → P a
   all_of h e = of_got (rw e at h)
 
-  pub all_if : {b : Bool} {x y : Outcome A} → (b ≡ true → All P x) → (b ≡ false → All P y) → All P (if b then x else y)
-  unfolding if◌then◌else◌
+  pub all_if : {b : Bool} {x y : Outcome A} → (b ≡ true → All P x) → (b ≡ false → All P y) → All P (when b then x else y)
+  unfolding when◌then◌else◌
   all_if {b} {x} {y} f g = go b f g
     where
-      go : (c : Bool) → (c ≡ true → All P x) → (c ≡ false → All P y) → All P (if c then x else y)
+      go : (c : Bool) → (c ≡ true → All P x) → (c ≡ false → All P y) → All P (when c then x else y)
       go true f g = f refl
       go false f g = g refl
 
@@ -130,11 +130,11 @@ module _ {A : Type 0} {P : Refusal → Type 0} where
   refused_map not_refused f = not_refused
   refused_map (refused_by {cause = cause} p) f = refused_by (f cause p)
 
-  pub refused_if : {b : Bool} {x y : Outcome A} → (b ≡ true → Refused P x) → (b ≡ false → Refused P y) → Refused P (if b then x else y)
-  unfolding if◌then◌else◌
+  pub refused_if : {b : Bool} {x y : Outcome A} → (b ≡ true → Refused P x) → (b ≡ false → Refused P y) → Refused P (when b then x else y)
+  unfolding when◌then◌else◌
   refused_if {b} {x} {y} f g = go b f g
     where
-      go : (c : Bool) → (c ≡ true → Refused P x) → (c ≡ false → Refused P y) → Refused P (if c then x else y)
+      go : (c : Bool) → (c ≡ true → Refused P x) → (c ≡ false → Refused P y) → Refused P (when c then x else y)
       go true f g = f refl
       go false f g = g refl
 
@@ -234,11 +234,11 @@ module _ {A : Type 0} {move : ℕ → A → A} {k : ℕ} where
   pub moved_cause : {c c' : Refusal} → c' ≡ later k c → Moved move k (refused c) (refused c')
   moved_cause e = rw e moved_refused
 
-  pub moved_if : {b b' : Bool} {x y x' y' : Outcome A} → b ≡ b' → Moved move k x x' → Moved move k y y' → Moved move k (if b then x else y) (if b' then x' else y')
-  unfolding if◌then◌else◌
+  pub moved_if : {b b' : Bool} {x y x' y' : Outcome A} → b ≡ b' → Moved move k x x' → Moved move k y y' → Moved move k (when b then x else y) (when b' then x' else y')
+  unfolding when◌then◌else◌
   moved_if {b} {b'} {x} {y} {x'} {y'} e f g = rw (← e) (go b)
     where
-      go : (c : Bool) → Moved move k (if c then x else y) (if c then x' else y')
+      go : (c : Bool) → Moved move k (when c then x else y) (when c then x' else y')
       go true = f
       go false = g
 

@@ -15,7 +15,7 @@ use Rattle.rules.specs.declared.Refusal.TheVariants.{Delimiters, Conjunctions, D
 use Rattle.rules.specs.declared.Repr.{Repr}
 use Rattle.rules.specs.declared.Repr.TheVariants.{Typed, Spoken}
 use Rattle.rules.specs.declared.Settings.{Settings}
-use Rattle.rules.specs.Common.{if◌then◌else◌, ascii, all}
+use Rattle.rules.specs.Common.{when◌then◌else◌, ascii, all}
 use Rattle.rules.specs.NumbersHandedBack.{Outcome, ◌>>◌, number, unless}
 use Rattle.rules.specs.SettingsAndUnitTable.{row, lookup, Card, settings_check, rows_check, units_check_in, table_check, line_check, numerals_check_in, card_check}
 use Rattle.rules.specs.ReadingOnePart.{delimiters, gap, sign_step, fraction_step, number_step, exponent_passed, exponent_digits, exponent_number, exponent_step, ago_step, find_unit, unit_found, unit_step, numeral_end, numeral_found, numeral_step, spoken_unit_found, spoken_unit_step, after_conjunction, conjunction_step, connection, letters_step, infinity_closed, infinity_step}
@@ -62,7 +62,7 @@ by_one {n = n} by = refused_map (by_passing (λ k. eqb k n) (rw (eq-eqb n n refl
 -- ---- the steps
 
 passed_by : (negative : Bool) (place : ℕ) → Among (3 ∷ 4 ∷ []) (number (exponent_passed negative place))
-unfolding among number exponent_passed if◌then◌else◌
+unfolding among number exponent_passed when◌then◌else◌
 passed_by true place = one_of refl
 passed_by false place = one_of refl
 

@@ -2,13 +2,13 @@
 use Rattle.std.specs.Prelude.{◌≡◌, refl, Bool, true, false, ℕ, zero, suc, ◌+◌, ◌<◌}
 use Rattle.std.proofs.Common.{add-zero, zero-add, suc-add, add-suc, le_of_suc-le-suc, arith}
 use Rattle.rules.specs.declared.Refusal.{Refusal}
-use Rattle.rules.specs.Common.{if◌then◌else◌}
+use Rattle.rules.specs.Common.{when◌then◌else◌}
 use Rattle.rules.specs.NumbersHandedBack.{Outcome, got, refused}
 use Rattle.rules.specs.SettingsAndUnitTable.{rows_check}
 use Rattle.rules.proofs.Laws.Outcomes.{not_got}
 
-chosen : (bad : Refusal) (test : Bool) (more : Outcome (Unit {0})) → (if test then more else refused bad) ≡ got tt → (test ≡ true) × (more ≡ got tt)
-unfolding if◌then◌else◌
+chosen : (bad : Refusal) (test : Bool) (more : Outcome (Unit {0})) → (when test then more else refused bad) ≡ got tt → (test ≡ true) × (more ≡ got tt)
+unfolding when◌then◌else◌
 chosen bad true more e = (refl, e)
 chosen bad false more e = absurd (not_got bad e)
 
@@ -24,7 +24,7 @@ pub rows_good : (test : ℕ → Bool) (bad : ℕ → Refusal) (n k : ℕ) → ro
 rows_good test bad n k e below = rw zero-add at (good_from test bad n 0 k e below)
 
 all_from : (test : ℕ → Bool) (bad : ℕ → Refusal) (n i : ℕ) → ((k : ℕ) → k < n → test (i + k) ≡ true) → rows_check test bad i n ≡ got tt
-unfolding rows_check if◌then◌else◌
+unfolding rows_check when◌then◌else◌
 all_from test bad zero i each = refl
 all_from test bad (suc n) i each =
     let here : test i ≡ true = rw (← (add-zero i)) (each 0 (omega arith)) in

@@ -3,7 +3,7 @@ use Rattle.std.specs.Prelude.{◌≡◌, refl, Bool, true, false, List, ℕ, ◌
 use Rattle.std.proofs.Common.{arith}
 use borrow.Author.Tests.{le-leb, lt-leb}
 use Rattle.rules.specs.declared.Settings.{Settings}
-use Rattle.rules.specs.Common.{if◌then◌else◌, between}
+use Rattle.rules.specs.Common.{when◌then◌else◌, between}
 use Rattle.rules.specs.SettingsAndUnitTable.{most_conjunctions, most_letters, last_kind, conjunction_accepted, conjunctions_accepted}
 use Rattle.rules.specs.SettingsAsWords.{word, on, held_to, most_of_a_byte, bit, set_of, conjunction_of, settings_of, settings_words}
 use Rattle.rules.proofs.Laws.Choices.{if_either}
@@ -13,11 +13,11 @@ use Rattle.rules.proofs.Laws.Tests.{and_false}
 
 module _ (most w : ℕ) where
   pub held_fits : w ≤ most → w ≡ held_to most w
-  unfolding held_to if◌then◌else◌
+  unfolding held_to when◌then◌else◌
   held_fits h = rw (le-leb w most h)
 
   pub held_over : most < w → most ≡ held_to most w
-  unfolding held_to if◌then◌else◌
+  unfolding held_to when◌then◌else◌
   held_over h = rw (lt-leb w most h)
 
   -- what reaches a limit that its field can hold reaches it when held
@@ -43,7 +43,7 @@ size_refused size letters h = rw (lt-leb (held_to most_of_a_byte size) most_lett
 -- ---- all settings can be said
 
 pub bit_back : (b : Bool) → on (bit b) ≡ b
-unfolding on if◌then◌else◌
+unfolding on when◌then◌else◌
 bit_back true = refl
 bit_back false = refl
 

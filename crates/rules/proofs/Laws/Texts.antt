@@ -4,7 +4,7 @@ use Rattle.std.proofs.Common.{ap, sym, ◌∙◌, zero-le, suc-le-suc, add_assoc
 use Rattle.std.proofs.lemmas.Bool.{false≢true, lt-leb}
 use Rattle.std.proofs.Math.ListN.{length-drop}
 use Rattle.std.proofs.Math.Seq.{take-nil, slice}
-use Rattle.rules.specs.Common.{if◌then◌else◌, ends, starts, sees, front, run}
+use Rattle.rules.specs.Common.{when◌then◌else◌, ends, starts, sees, front, run}
 
 -- ---- a byte at a place
 
@@ -42,11 +42,11 @@ sees_or f g text place = go (drop place text)
 -- ---- a run: the answer from here is the answer from the next place, where the byte passes
 
 pub front_pass : (test : ℕ → Bool) (b : ℕ) (rest : List ℕ) → test b ≡ true → front test (b ∷ rest) ≡ suc (front test rest)
-unfolding front if◌then◌else◌
+unfolding front when◌then◌else◌
 front_pass test b rest e = rw e
 
 front_stop : (test : ℕ → Bool) (rest : List ℕ) → starts test rest ≡ false → front test rest ≡ 0
-unfolding front starts if◌then◌else◌
+unfolding front starts when◌then◌else◌
 front_stop test [] e = refl
 front_stop test (b ∷ rest) e = rw e
 
@@ -61,11 +61,11 @@ unfolding run sees
 run_stop test text place e = rw (front_stop test (drop place text) e, add-zero)
 
 front_within : (test : ℕ → Bool) (rest : List ℕ) → front test rest ≤ length rest
-unfolding front if◌then◌else◌
+unfolding front when◌then◌else◌
 front_within test [] = zero-le
 front_within test (b ∷ rest) = go (test b) (front_within test rest)
   where
-    go : (c : Bool) → front test rest ≤ length rest → (if c then suc (front test rest) else 0) ≤ suc (length rest)
+    go : (c : Bool) → front test rest ≤ length rest → (when c then suc (front test rest) else 0) ≤ suc (length rest)
     go true h = suc-le-suc h
     go false h = zero-le
 
@@ -81,11 +81,11 @@ pub run_past : (test : ℕ → Bool) (text : List ℕ) (place : ℕ) → sees te
 run_past test text place e = rw (run_more test text place e) (omega (arith, run_from test text (place + 1)))
 
 front_ends : (test : ℕ → Bool) (rest : List ℕ) → starts test (drop (front test rest) rest) ≡ false
-unfolding front starts if◌then◌else◌
+unfolding front starts when◌then◌else◌
 front_ends test [] = refl
 front_ends test (b ∷ rest) = go (test b) refl (front_ends test rest)
   where
-    go : (c : Bool) → test b ≡ c → starts test (drop (front test rest) rest) ≡ false → starts test (drop (if c then suc (front test rest) else 0) (b ∷ rest)) ≡ false
+    go : (c : Bool) → test b ≡ c → starts test (drop (front test rest) rest) ≡ false → starts test (drop (when c then suc (front test rest) else 0) (b ∷ rest)) ≡ false
     go true e more = more
     go false e more = e
 

@@ -5,7 +5,7 @@ use Rattle.std.proofs.Common.{◌∙◌, arith, le-leb}
 use Prim.Native.Nat.{ℕ, zero, suc, ◌+◌, ◌≤◌, ◌<◌}
 use Rattle.rules.specs.declared.Length.{Length}
 use Rattle.rules.specs.declared.Refusal.TheVariants.{Nothing}
-use Rattle.rules.specs.Common.{if◌then◌else◌, ends}
+use Rattle.rules.specs.Common.{when◌then◌else◌, ends}
 use Rattle.rules.specs.ThePartOfTheCrateWeTake.{zero_length, well_formed}
 use Rattle.rules.specs.NumbersHandedBack.{Outcome, got, refused, ◌>>=◌}
 use Rattle.rules.specs.SettingsAndUnitTable.{Card}
@@ -17,9 +17,9 @@ use Rattle.rules.proofs.Laws.Lengths.{zero_well_formed, evaluated_well_formed, s
 
 -- the first length added, then the others
 one_more : (so_far l : Length) (last : Bool) {others others' : Outcome (List Length)} → others ≡ others'
-    → ((if last then got (l ∷ []) else (others >>= λ more. got (l ∷ more))) >>= λ lengths. got (sum_all so_far lengths))
-    ≡ (if last then got (sum so_far l) else (others' >>= λ lengths. got (sum_all (sum so_far l) lengths)))
-unfolding if◌then◌else◌ ◌>>=◌ sum_all
+    → ((when last then got (l ∷ []) else (others >>= λ more. got (l ∷ more))) >>= λ lengths. got (sum_all so_far lengths))
+    ≡ (when last then got (sum so_far l) else (others' >>= λ lengths. got (sum_all (sum so_far l) lengths)))
+unfolding when◌then◌else◌ ◌>>=◌ sum_all
 one_more so_far l true e = refl
 one_more so_far l false {others} e = rw (← e) (go others)
   where
@@ -51,7 +51,7 @@ module _ (card : Card) (text : List ℕ) where
 
   -- at the end there is nothing
   pub reading_ends : (place : ℕ) → length text ≤ place → part_reading card text place ≡ refused (Nothing place)
-  unfolding part_reading part ends if◌then◌else◌ ◌>>=◌
+  unfolding part_reading part ends when◌then◌else◌ ◌>>=◌
   reading_ends place h = rw (le-leb (length text) place h)
 
   -- as many steps as there are bytes left suffice
@@ -62,7 +62,7 @@ module _ (card : Card) (text : List ℕ) where
   parts_enough (suc n) zero place hn hm = rw (reading_ends place (omega arith))
   parts_enough (suc n) (suc m) place hn hm =
       bind_same (reading_beyond place)
-      (λ r b. ap (λ others. if ends text r.next then got (r.length ∷ []) else (others >>= λ more. got (r.length ∷ more))) (parts_enough n m r.next (omega arith) (omega arith)))
+      (λ r b. ap (λ others. when ends text r.next then got (r.length ∷ []) else (others >>= λ more. got (r.length ∷ more))) (parts_enough n m r.next (omega arith) (omega arith)))
 
   -- all parts from a place on, summed up after `so_far`
   unfoldable pub total_from : Length → ℕ → Outcome Length
@@ -73,6 +73,6 @@ module _ (card : Card) (text : List ℕ) where
   total_is = refl
 
   -- one part, and the total goes on from where it ends
-  pub total_step : (so_far : Length) (place : ℕ) → total_from so_far place ≡ (part_reading card text place >>= λ r. if ends text r.next then got (sum so_far r.length) else total_from (sum so_far r.length) r.next)
+  pub total_step : (so_far : Length) (place : ℕ) → total_from so_far place ≡ (part_reading card text place >>= λ r. when ends text r.next then got (sum so_far r.length) else total_from (sum so_far r.length) r.next)
   unfolding total_from parts
   total_step so_far place = bind_assoc (part_reading card text place) _ _ ∙ bind_same (reading_beyond place) (λ r b. one_more so_far r.length (ends text r.next) (parts_enough (length text) (suc (length text)) r.next (omega arith) (omega arith)))

@@ -2,13 +2,13 @@
 use Rattle.std.specs.Prelude.{◌≡◌, refl, Bool, true, false, ◌||◌, List, [], ◌∷◌, ◌++◌, ℕ, zero, suc, ◌+◌, ◌/◌, ◌%◌, ◌^◌, ◌≤◌, ◌<◌, eqb}
 use Rattle.std.proofs.Common.{sym, ◌∙◌, ap, append-nil, mod-lt, arith, lit<, lit≤, le-leb, eqb-true}
 use Rattle.rules.specs.declared.Length.{Length}
-use Rattle.rules.specs.Common.{if◌then◌else◌, between, all}
+use Rattle.rules.specs.Common.{when◌then◌else◌, between, all}
 use Rattle.rules.specs.SettingsAndUnitTable.{DIGIT, SIGN, POINT, class, is}
 use Rattle.rules.proofs.Laws.Choices.{and_both, if_either, all_first, all_others, all_append, all_weaken}
 use Rattle.rules.specs.WriterAndShiftTotal.{decimals, no_leading_zeros, before_zeros, no_trailing_zeros, second_digits, nanosecond_digits, sign_byte, whole_digits, fraction_digits, written_fraction}
 
 pub digit_is : (d : ℕ) → d < 10 → is DIGIT (48 + d) ≡ true
-unfolding is class between if◌then◌else◌
+unfolding is class between when◌then◌else◌
 digit_is d h = rw (le-leb 48 (48 + d) (omega arith), le-leb (48 + d) 57 (omega arith))
 
 abbrev pub Digits : List ℕ → Type 0
@@ -40,7 +40,7 @@ trailing_digits (d ∷ digits) h =
 -- ---- a sign, digits, and perhaps a point and digits
 
 pub written_sign : (negative : Bool) → is SIGN (sign_byte negative) ≡ true
-unfolding sign_byte is class between if◌then◌else◌
+unfolding sign_byte is class between when◌then◌else◌
 written_sign true = refl
 written_sign false = refl
 
@@ -55,14 +55,14 @@ fraction_digits_only nanoseconds = trailing_digits (decimals nanosecond_digits n
 -- how many points stand in a text
 unfoldable pub points : List ℕ → ℕ
 points [] = 0
-points (b ∷ rest) = if is POINT b then suc (points rest) else points rest
+points (b ∷ rest) = when is POINT b then suc (points rest) else points rest
 
 digit_no_point : (b : ℕ) → is DIGIT b ≡ true → is POINT b ≡ false
 unfolding is
 digit_no_point b e = rw (eqb-true (class b) DIGIT e)
 
 points_after : (digits rest : List ℕ) → Digits digits → points (digits ++ rest) ≡ points rest
-unfolding points if◌then◌else◌
+unfolding points when◌then◌else◌
 points_after [] rest h = refl
 points_after (d ∷ digits) rest h =
     rw (digit_no_point d (all_first (is DIGIT) d digits h)) (points_after digits rest (all_others (is DIGIT) d digits h))
@@ -72,7 +72,7 @@ unfolding points
 points_none digits h = sym (ap points (append-nil digits)) ∙ points_after digits [] h
 
 points_one : (rest : List ℕ) → points (46 ∷ rest) ≡ suc (points rest)
-unfolding points is class between if◌then◌else◌
+unfolding points is class between when◌then◌else◌
 points_one rest = refl
 
 abbrev Decimal : List ℕ → Type 0
@@ -86,7 +86,7 @@ unfolding all
 decimal_none = refl
 
 decimal_point : (rest : List ℕ) → Decimal rest → Decimal (46 ∷ rest)
-unfolding all is class between if◌then◌else◌
+unfolding all is class between when◌then◌else◌
 decimal_point rest h = h
 
 -- after the sign: only digits and points, one point at most

@@ -14,7 +14,7 @@ use Rattle.std.proofs.lemmas.Nat.{or_shr, or_mod, mod-pow-add}
 use Rattle.std.proofs.Math.Pow.{shr-shr}
 use borrow.Author.Tests.{ne_eqb, not-true, eqb-true}
 use Rattle.rules.specs.declared.ByteSet.{ByteSet}
-use Rattle.rules.specs.Common.{if◌then◌else◌, between}
+use Rattle.rules.specs.Common.{when◌then◌else◌, between}
 unfoldable pub use Rattle.rules.specs.Common.{runs}
 use Rattle.rules.specs.SettingsAndUnitTable.{LETTER, class, is, word, holds, may_delimit, delimits, empty}
 use Rattle.rules.proofs.Laws.Choices.{and_left, and_right}
@@ -99,7 +99,7 @@ module _ (set : ByteSet) where
   none_then b m n h e = rw (runs_add right b m n, delimits_none b m e, none_bits b m h)
 
   pub delimits_runs : set.word2 < 2 ^ 64 → set.word3 < 2 ^ 64 → delimits set 0 256 ≡ runs_free set
-  unfolding runs may_delimit is class between if◌then◌else◌ word
+  unfolding runs may_delimit is class between when◌then◌else◌ word
   delimits_runs fits₂ fits₃ =
       rw (
         any_then 0 43 213 refl,
@@ -198,7 +198,7 @@ agree f g from n e b low high =
     alike (f b) (g b) (rw here at (runs_at (λ b. beq (f b) (g b)) n from (b - from) e (omega arith)))
 
 pub letter_byte : (b : ℕ) → b < 256 → is LETTER b ≡ (between 65 90 b || between 97 122 b)
-unfolding runs is class between if◌then◌else◌
+unfolding runs is class between when◌then◌else◌
 letter_byte b h = agree (is LETTER) (λ b. between 65 90 b || between 97 122 b) 0 256 refl b (omega arith) h
 
 -- ---- two sets as one

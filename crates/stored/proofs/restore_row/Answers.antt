@@ -4,7 +4,7 @@ use mathlib.Core.Path.{◌≡◌, sym, ◌∙◌}
 use native.Mathlib.Omega.{arith}
 use lib.ListN.{length}
 use borrow.Author.Tests.{le-leb, lt-leb, not-true, not-false}
-use Rattle.rules.specs.Common.{if◌then◌else◌}
+use Rattle.rules.specs.Common.{when◌then◌else◌}
 use Rattle.rules.specs.SettingsAndUnitTable.{name_room, row_size}
 use Rattle.rules.proofs.Laws.Tests.{and_false}
 use Rattle.stored.specs.Lines.{line_accepted, restores, row_after, restored_in}
@@ -31,7 +31,7 @@ put_bytes-requires c =
     record { digits_size_in_bounds = (omega (arith, line_long name_room _ good), omega arith); line_value = line_spelled name_room _ good }
 
 pub returns : goal.returns
-unfolding restores restored_in row_after if◌then◌else◌
+unfolding restores restored_in row_after when◌then◌else◌
 returns c =
     let args = c.args in
     let both : restores args.line.now args.row.now ≡ true = rw (le-leb row_size (length args.row.now) (omega arith), accepted (goal.at.returns c).Else-not-line_accepted) in

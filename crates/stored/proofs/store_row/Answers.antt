@@ -5,7 +5,7 @@ use native.Mathlib.Omega.{arith}
 use lib.ListN.{length, set}
 use borrow.Author.Tests.{eq-eqb, ne_eqb, le-leb, lt-leb}
 use Rattle.rules.specs.SettingsAndUnitTable.{stored, two_digits}
-use Rattle.rules.specs.Common.{if◌then◌else◌}
+use Rattle.rules.specs.Common.{when◌then◌else◌}
 use Rattle.stored.specs.Laws.{line_kept, put_one, length_two_digits}
 use Rattle.rules.proofs.Laws.Tests.{and_false}
 use Rattle.stored.specs.Lines.{stores, line_after}
@@ -20,7 +20,7 @@ unfolding stores
 returns-then-line-lt-LINE_SIZE c = let both = line_kept _ _ (rw (lt-leb _ _ c.if-line-lt-LINE_SIZE.true, and_false)) in record { value = both.0; line_after = both.1 }
 
 pub returns : goal.returns
-unfolding stores line_after if◌then◌else◌ stored
+unfolding stores line_after when◌then◌else◌ stored
 returns c =
     let row = c.args.row.now in
     let line = c.args.line.now in

@@ -8,7 +8,7 @@ use native.Mathlib.Omega.{arith}
 use lib.Dec.{eqb, lit<}
 use lib.ListN.{get_or}
 use borrow.Author.Tests.{ne_eqb}
-use Rattle.rules.specs.Common.{if◌then◌else◌, between, runs}
+use Rattle.rules.specs.Common.{when◌then◌else◌, between, runs}
 use Rattle.rules.specs.SettingsAndUnitTable.{class}
 use Rattle.rules.proofs.Laws.Tables.{listed, entry}
 use Rattle.tables.specs.Arms.{alike_but, alike}
@@ -18,22 +18,22 @@ use Rattle.tables.proofs.class_of.Goals.{then-b-lt91, else-b-lt91+else-b-lt97+th
 
 -- one test over all entries gives each byte's class
 class_at : (b : ℕ) → b < 256 → get_or CLASSES b 0 ≡ class b
-unfolding listed class between if◌then◌else◌
+unfolding listed class between when◌then◌else◌
 class_at = entry class 256 CLASSES refl
 
 pub returns-in-43 : goal.returns-in-43
-unfolding class between if◌then◌else◌
+unfolding class between when◌then◌else◌
 returns-in-43 c = class_at 43 (lit< tt) ∙ ⊎_elim (λ e. rw e) (λ e. rw e) c.in-43.is
 
 pub returns-in-46 : goal.returns-in-46
 returns-in-46 c = class_at 46 (lit< tt) ∙ rw c.in-46.is
 
 pub returns-in-48-to-57 : goal.returns-in-48-to-57
-unfolding runs class between if◌then◌else◌
+unfolding runs class between when◌then◌else◌
 returns-in-48-to-57 c = class_at 48 (lit< tt) ∙ alike class 48 48 10 {x = c.args.b} refl (omega arith) (omega arith)
 
 pub returns-in-65-to-90 : goal.returns-in-65-to-90
-unfolding runs class between if◌then◌else◌
+unfolding runs class between when◌then◌else◌
 returns-in-65-to-90 c =
     class_at 65 (lit< tt)
     ∙ elim c.in-65-to-90-1.branch [
@@ -43,7 +43,7 @@ returns-in-65-to-90 c =
 
 -- below the digits stand the signs and the point, which have arms of their own
 pub returns-in_default : goal.returns-in_default
-unfolding runs class between if◌then◌else◌
+unfolding runs class between when◌then◌else◌
 returns-in_default c =
     class_at 0 (lit< tt)
     ∙ elim c.in_default.branch [

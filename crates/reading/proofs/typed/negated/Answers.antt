@@ -2,13 +2,13 @@
 use mathlib.Core.Path.{◌≡◌, refl, ap}
 use mathlib.Core.Bool.{Bool, true, false, not, beq}
 use Rattle.rules.specs.declared.Multiplier.{Multiplier}
-use Rattle.rules.specs.Common.{if◌then◌else◌}
+use Rattle.rules.specs.Common.{when◌then◌else◌}
 use Rattle.rules.specs.ReadingOnePart.{negated}
 use Rattle.steps.specs.Units.{negated_if}
 use Rattle.reading.proofs.typed.negated.Goals as goal
 
 turned : (m : Multiplier) (negate : Bool) → record { negative = not (beq m.negative negate); coefficient = m.coefficient; up = m.up; down = m.down } ≡ negated_if negate m
-unfolding negated if◌then◌else◌
+unfolding negated when◌then◌else◌
 turned m true = ap (λ sign. record { negative = sign; coefficient = m.coefficient; up = m.up; down = m.down }) (other m.negative)
   where
     other : (b : Bool) → not (beq b true) ≡ not b

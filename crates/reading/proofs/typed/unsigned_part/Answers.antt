@@ -4,7 +4,7 @@
 use mathlib.Core.Path.{◌≡◌, refl, sym, ap, ◌∙◌}
 use mathlib.Core.Bool.{true}
 use mathlib.Core.Logic.{inl, inr}
-use Rattle.rules.specs.Common.{ascii, all, between, if◌then◌else◌}
+use Rattle.rules.specs.Common.{ascii, all, between, when◌then◌else◌}
 use Rattle.rules.specs.NumbersHandedBack.{got}
 use Rattle.rules.specs.SettingsAsWords.{settings_of, card_of}
 use Rattle.rules.specs.SettingsAndUnitTable.{Card, is, class}
@@ -78,7 +78,7 @@ returns-in-Refused c =
     ∙ bind_refused _ (sym c.typed_count.ensures ∙ ap count c.in-Refused.is))
 
 pub next_is_ignore_ascii_case-requires : goal.next_is_ignore_ascii_case-requires
-unfolding all is class between if◌then◌else◌
+unfolding all is class between when◌then◌else◌
 next_is_ignore_ascii_case-requires c = refl
 
 -- `inf` stands there

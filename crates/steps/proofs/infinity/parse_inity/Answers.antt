@@ -4,14 +4,14 @@ use Prim.Native.Nat.{◌+◌}
 use native.Mathlib.Omega.{arith}
 use borrow.Author.Rules.{rules}
 use lib.ListN.{drop}
-use Rattle.rules.specs.Common.{ascii, all, between, if◌then◌else◌}
+use Rattle.rules.specs.Common.{ascii, all, between, when◌then◌else◌}
 use Rattle.rules.specs.SettingsAsWords.{settings_of}
 use Rattle.rules.specs.SettingsAndUnitTable.{is, class}
 use Rattle.steps.specs.Infinity.{five_most, long_ends, long_byte, long_closed, long_goes_on}
 use Rattle.steps.proofs.infinity.parse_inity.Goals as goal
 
 pub letters_matching-letters-requires : goal.letters_matching-letters-requires
-unfolding all is class between if◌then◌else◌
+unfolding all is class between when◌then◌else◌
 letters_matching-letters-requires c = refl
 
 pub overflow_add-end : goal.overflow_add-end

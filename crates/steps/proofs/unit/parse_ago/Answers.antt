@@ -4,7 +4,7 @@ use mathlib.Core.Path.{◌≡◌, refl, sym, ap, ◌∙◌}
 use mathlib.Core.Bool.{true}
 use native.Mathlib.Omega.{arith}
 use borrow.Author.Tests.{not-true, not-false}
-use Rattle.rules.specs.Common.{ascii, sees, all, between, if◌then◌else◌}
+use Rattle.rules.specs.Common.{ascii, sees, all, between, when◌then◌else◌}
 use Rattle.rules.specs.SettingsAsWords.{settings_of}
 use Rattle.rules.specs.NumbersHandedBack.{got}
 use Rattle.rules.specs.SettingsAndUnitTable.{is, class, holds}
@@ -47,7 +47,7 @@ returns-then-not-is_delimiter c =
     (sym c.is_delimiter.ensures ∙ not-true _ (ap not c.if-not-is_delimiter.true))
 
 pub next_is_ignore_ascii_case-requires : goal.next_is_ignore_ascii_case-requires
-unfolding all is class between if◌then◌else◌
+unfolding all is class between when◌then◌else◌
 next_is_ignore_ascii_case-requires c = refl
 
 pub returns-then-not-next_is_ignore_ascii_case : goal.returns-then-not-next_is_ignore_ascii_case

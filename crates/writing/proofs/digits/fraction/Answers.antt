@@ -3,13 +3,13 @@ use mathlib.Core.Path.{◌≡◌, ap, ◌∙◌}
 use Prim.Native.Nat.{◌/◌, ◌%◌}
 use native.Mathlib.Omega.{arith}
 use borrow.Author.Rules.{rules}
-use Rattle.rules.specs.Common.{if◌then◌else◌}
+use Rattle.rules.specs.Common.{when◌then◌else◌}
 use Rattle.rules.specs.WriterAndShiftTotal.{decimals, no_trailing_zeros, before_zeros, fraction_digits}
 use Rattle.writing.specs.Digits.{three_dropped}
 use Rattle.writing.proofs.digits.fraction.Goals as goal
 
 pub returns-then-nanoseconds-eq0 : goal.returns-then-nanoseconds-eq0
-unfolding fraction_digits decimals no_trailing_zeros before_zeros if◌then◌else◌
+unfolding fraction_digits decimals no_trailing_zeros before_zeros when◌then◌else◌
 returns-then-nanoseconds-eq0 c = search rules
 
 pub returns-then-nanoseconds-ne0 : goal.returns-then-nanoseconds-ne0
