@@ -5,7 +5,7 @@ ghost use Rattle.rules.specs.NumbersHandedBack.{got};
 ghost use Rattle.rules.specs.SettingsAsWords.{settings_of, card_of};
 ghost use Rattle.rules.specs.SettingsAndUnitTable.{settings_check, rows, row, name, named, e_may_lead, most_rows, row_accepted, numeral_accepted, table_check, line_check, numerals_check, card_check};
 ghost use Rattle.settings.specs.Outcomes.{outcome};
-ghost use Rattle.rules.proofs.Laws.Lists.{Bytes};
+ghost use Rattle.rules.specs.Laws.Lists.{Bytes};
 ghost use Rattle.settings.specs.Sets.{bytes_of};
 ghost use Rattle.rows.specs.Named.{padded};
 ghost use Rattle.card.specs.Fields.{Letterless, unnameable, asked_further, Simple, Each, ruled, tested, said, tabled};

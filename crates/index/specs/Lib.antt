@@ -2,3 +2,4 @@
 pub mod TheSortedIndex
 pub mod Computing
 pub mod Examples
+pub mod Laws

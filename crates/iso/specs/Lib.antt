@@ -2,3 +2,4 @@
 pub mod IsoTimings
 pub mod Computing
 pub mod Examples
+pub mod Laws

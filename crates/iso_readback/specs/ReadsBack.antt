@@ -27,7 +27,8 @@ use Rattle.readback.specs.Spelled.{spelled_whole, spelled_fraction, fraction_few
 use Rattle.iso.specs.IsoTimings.{Component, SECONDS, MINUTES, HOURS, none, digits, is_mark, right_fraction, right_number, closes, right_after, right, decimals, seconds_of, nanoseconds_of, read_iso, component, components_of, iso_written, writing_iso, iso_buffer_after, iso_written_buffer}
 use Rattle.iso.proofs.Laws.Right.{reads_exactly}
 use Rattle.iso.proofs.Laws.Sound.{never}
-use Rattle.iso.proofs.Laws.Worth.{whole_worth, fraction_worth, worth_none, worth_first}
+use Rattle.iso.specs.Laws.Worth.{whole_worth, fraction_worth}
+use Rattle.iso.proofs.Laws.Worth.{worth_none, worth_first}
 use Rattle.iso_writer.specs.Components.{shown, left_out, if_shown, chosen, hours_shown, minutes_shown, seconds_shown, one_shown, components_shown}
 use Rattle.iso_writer.specs.Forms.{written_part, in_parts}
 

@@ -24,7 +24,8 @@ use Rattle.iso.proofs.Laws.Runs.{goes_on}
 use Rattle.iso.proofs.Laws.Letters.{came_date, came_below}
 use Rattle.iso.proofs.Laws.OneComponent.{open_kind}
 use Rattle.iso.proofs.Laws.Stands.{or_false_right}
-use Rattle.iso.proofs.Laws.Worth.{whole_worth, fraction_worth, worth_first, worth_none}
+use Rattle.iso.specs.Laws.Worth.{whole_worth, fraction_worth}
+use Rattle.iso.proofs.Laws.Worth.{worth_first, worth_none}
 use Rattle.iso_reader.specs.declared.components.Counted.{Counted}
 use Rattle.iso_reader.specs.Steps.{Within, Lettered, component_of, component_outcome, found}
 use Rattle.iso_reader.specs.Due.{due, worth}

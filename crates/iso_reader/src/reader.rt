@@ -2,7 +2,7 @@
 ghost use Rattle.std.specs.Prelude.{◌≡◌, List, ℕ, ◌+◌, ◌≤◌, drop};
 ghost use Rattle.answers.specs.Outcomes as outcomes;
 ghost use Rattle.iso.specs.IsoTimings.{wanted, closed, closes, read_from, components, iso_answer};
-ghost use Rattle.iso.proofs.Laws.Worth.{whole_worth, fraction_worth};
+ghost use Rattle.iso.specs.Laws.Worth.{whole_worth, fraction_worth};
 ghost use Rattle.iso_reader.specs.Steps.{Lettered, component_of, component_outcome, found};
 ghost use Rattle.iso_reader.specs.Due.{due};
 ghost use Rattle.iso_reader.specs.Sums.{Sized, summed, due_then, valued};

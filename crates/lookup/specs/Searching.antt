@@ -4,7 +4,7 @@ use Rattle.rows.specs.Named.{Padded}
 use Rattle.index.specs.declared.Searched.{Searched}
 use Rattle.index.specs.declared.LookedUp.{LookedUp}
 use Rattle.index.specs.TheSortedIndex.{row_search, index_search}
-use Rattle.index.proofs.Laws.Right.{Right}
+use Rattle.index.specs.Laws.Right.{Right}
 
 -- the index beside a table: empty, or right
 abbrev pub Beside : List ℕ → List ℕ → Type 0

@@ -1,7 +1,7 @@
 // The search through an index: half of what is left goes with each name that is compared.
 ghost use Rattle.std.specs.Prelude.{◌≡◌};
 ghost use Rattle.index.specs.TheSortedIndex.{index_search};
-ghost use Rattle.index.proofs.Laws.Right.{Right};
+ghost use Rattle.index.specs.Laws.Right.{Right};
 
 use crate::names::order;
 use index::{Order, Searched};

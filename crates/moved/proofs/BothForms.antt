@@ -9,10 +9,10 @@ use Rattle.rules.specs.ThePartOfTheCrateWeTake.{zero_length}
 use Rattle.rules.specs.Common.{all}
 use Rattle.rules.specs.NumbersHandedBack.{got, done}
 use Rattle.rules.specs.SettingsAndUnitTable.{old_room, name_room, rows_in, row_in, row, product_in, product, units_check_in, units_check, numerals_check_in, numerals_check, lookup_in, lookup}
-use Rattle.rules.proofs.Laws.Lists.{Bytes}
+use Rattle.rules.specs.Laws.Lists.{Bytes}
 use Rattle.stored.specs.Lines.{line_size_in}
 use Rattle.moves.specs.NamesLongerThanSixteenBytes.{lines, line_stands, moving, to_new_answer, new_target, to_old_answer, old_target}
-use Rattle.moves.specs.LinesThatMove.{line_moves}
+use Rattle.moves.specs.Laws.Moves.{line_moves}
 use Rattle.moved.specs.MovedLines.{moved_lines, larger_moves}
 use Rattle.moved.specs.Accepted.{moving_got}
 use Rattle.moved.proofs.ThereAndBack.{there_and_back}
@@ -27,27 +27,27 @@ use Rattle.moved.proofs.HandedBack.{there_and_back_written}
 
 -- ---- there and back
 
-module _ (source target back_Target : List ℕ) (room : length source ≤ length back_Target) where
-  pub to_new_and_back : {there : List ℕ} → moving old_room name_room source target ≡ got there → moving name_room old_room there back_Target ≡ got source
-  to_new_and_back e = there_and_back old_room name_room source target back_Target e room
+module _ (source target back_target : List ℕ) (room : length source ≤ length back_target) where
+  pub to_new_and_back : {there : List ℕ} → moving old_room name_room source target ≡ got there → moving name_room old_room there back_target ≡ got source
+  to_new_and_back e = there_and_back old_room name_room source target back_target e room
 
-  pub to_old_and_back : {there : List ℕ} → moving name_room old_room source target ≡ got there → moving old_room name_room there back_Target ≡ got source
-  to_old_and_back e = there_and_back name_room old_room source target back_Target e room
+  pub to_old_and_back : {there : List ℕ} → moving name_room old_room source target ≡ got there → moving old_room name_room there back_target ≡ got source
+  to_old_and_back e = there_and_back name_room old_room source target back_target e room
 
   -- as the entries hand it back
   pub to_new_and_back_written :
       (to_new_answer source target).number ≡ 0
       → let there = written (to_new_answer source target) (new_target source target) in
-      (to_old_answer there back_Target ≡ done (length source) zero_length) × (written (to_old_answer there back_Target) (old_target there back_Target) ≡ source)
+      (to_old_answer there back_target ≡ done (length source) zero_length) × (written (to_old_answer there back_target) (old_target there back_target) ≡ source)
   unfolding to_new_answer new_target to_old_answer old_target
-  to_new_and_back_written e = there_and_back_written old_room name_room source target back_Target e room
+  to_new_and_back_written e = there_and_back_written old_room name_room source target back_target e room
 
   pub to_old_and_back_written :
       (to_old_answer source target).number ≡ 0
       → let there = written (to_old_answer source target) (old_target source target) in
-      (to_new_answer there back_Target ≡ done (length source) zero_length) × (written (to_new_answer there back_Target) (new_target there back_Target) ≡ source)
+      (to_new_answer there back_target ≡ done (length source) zero_length) × (written (to_new_answer there back_target) (new_target there back_target) ≡ source)
   unfolding to_new_answer new_target to_old_answer old_target
-  to_old_and_back_written e = there_and_back_written name_room old_room source target back_Target e room
+  to_old_and_back_written e = there_and_back_written name_room old_room source target back_target e room
 
 -- ---- none that is right is refused
 

@@ -30,10 +30,10 @@ module _ (from to : ℕ) (source target : List ℕ) where
       go (refused cause) e n = absurd (refusal_number cause n)
 
 pub there_and_back_written :
-    (from to : ℕ) (source target back_Target : List ℕ) → (move_answer from to source target).number ≡ 0 → length source ≤ length back_Target
+    (from to : ℕ) (source target back_target : List ℕ) → (move_answer from to source target).number ≡ 0 → length source ≤ length back_target
     → let there = written (move_answer from to source target) (moved_target from to source target) in
-    (move_answer to from there back_Target ≡ done (length source) zero_length) × (written (move_answer to from there back_Target) (moved_target to from there back_Target) ≡ source)
-there_and_back_written from to source target back_Target zero_number room =
+    (move_answer to from there back_target ≡ done (length source) zero_length) × (written (move_answer to from there back_target) (moved_target to from there back_target) ≡ source)
+there_and_back_written from to source target back_target zero_number room =
     let (there, e) = moved_for_zero from to source target zero_number in
-    let back : moving to from there back_Target ≡ got source = there_and_back from to source target back_Target e room in
-    rw (written_got from to source target e) (answer_got to from there back_Target back, written_got to from there back_Target back)
+    let back : moving to from there back_target ≡ got source = there_and_back from to source target back_target e room in
+    rw (written_got from to source target e) (answer_got to from there back_target back, written_got to from there back_target back)

@@ -8,7 +8,7 @@ use Rattle.rules.proofs.Laws.Choices.{and_left, and_right}
 use Rattle.stored.specs.Lines.{restored_in}
 use Rattle.stored.specs.Laws.{length_restored}
 use Rattle.moves.specs.NamesLongerThanSixteenBytes.{line_stands}
-use Rattle.moves.specs.LinesThatMove.{line_moves}
+use Rattle.moves.specs.Laws.Moves.{line_moves}
 use Rattle.moved.specs.Rows.{Movable}
 use Rattle.moved.specs.MovedLines.{moves_accepted}
 

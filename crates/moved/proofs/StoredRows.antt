@@ -5,13 +5,13 @@ use Rattle.std.proofs.Math.ListN.{replicate}
 use Rattle.std.proofs.Math.Seq.{get_or-drop}
 use Rattle.rules.specs.SettingsAndUnitTable.{name_size, name, kind_at_in, stored}
 use Rattle.rules.proofs.Laws.Choices.{and_both}
-use Rattle.rules.proofs.Laws.Lists.{Bytes}
+use Rattle.rules.specs.Laws.Lists.{Bytes}
 use Rattle.words.specs.LowFirst.{bytes_part}
 use Rattle.stored.specs.Lines.{restored_in}
 use Rattle.stored.specs.Laws.{stored_accepted, restored_stored}
 use Rattle.moves.specs.NamesLongerThanSixteenBytes.{line_stands, moved_row}
 use Rattle.moved.specs.Rows.{Movable}
-use Rattle.moves.specs.LinesThatMove.{line_moves, moved_line}
+use Rattle.moves.specs.Laws.Moves.{line_moves, moved_line}
 
 -- ---- bytes
 

@@ -5,7 +5,7 @@ use Rattle.std.proofs.Common.{sym, ◌∙◌}
 use Prim.Native.Nat.{ℕ, zero, suc, ◌*◌, ◌≤◌, ◌<◌, zero-le, suc-le-suc}
 use Rattle.rules.specs.NumbersHandedBack.{got, ◌>>=◌}
 use Rattle.rules.specs.SettingsAndUnitTable.{row_size_in, rows_in, row_in, stored}
-use Rattle.rules.proofs.Laws.Lists.{Bytes}
+use Rattle.rules.specs.Laws.Lists.{Bytes}
 use Rattle.words.specs.LowFirst.{bytes_part}
 use Rattle.stored.specs.Lines.{line_size_in}
 use Rattle.moves.specs.NamesLongerThanSixteenBytes.{lines, moved_row, move_lines, moving}

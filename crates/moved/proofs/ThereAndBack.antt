@@ -9,14 +9,14 @@ use Rattle.rules.specs.Common.{all}
 use Rattle.rules.specs.NumbersHandedBack.{got}
 use Rattle.rules.specs.SettingsAndUnitTable.{stored}
 use Rattle.rules.proofs.Laws.Choices.{and_both, all_first, all_others}
-use Rattle.rules.proofs.Laws.Lists.{Bytes}
+use Rattle.rules.specs.Laws.Lists.{Bytes}
 use Rattle.stored.specs.Lines.{line_size_in, restored_in}
 use Rattle.stored.specs.Laws.{stored_restored, bytes_restored}
 use Rattle.moves.specs.NamesLongerThanSixteenBytes.{lines, moved_row, moving}
 use Rattle.moved.specs.Rows.{Movable}
 use Rattle.moved.proofs.Rows.{moved_movable, moved_back}
 use Rattle.moved.specs.Lines.{lines_appended, lines_stored}
-use Rattle.moves.specs.LinesThatMove.{line_moves, moved_line}
+use Rattle.moves.specs.Laws.Moves.{line_moves, moved_line}
 use Rattle.moved.specs.MovedLines.{moved_lines, moves_accepted, length_moved_lines}
 use Rattle.moved.proofs.MovedLines.{moves_movable}
 use Rattle.moved.specs.Accepted.{moving_got, moving_right, moving_gives}
@@ -57,17 +57,17 @@ module _ (from to : ℕ) where
       rw (line_back line (all_first (line_moves from to) line more e), lines_back more (all_others (line_moves from to) line more e))
 
   pub there_and_back :
-      (source target back_Target : List ℕ) {there : List ℕ}
+      (source target back_target : List ℕ) {there : List ℕ}
       → moving from to source target ≡ got there
-      → length source ≤ length back_Target
-      → moving to from there back_Target ≡ got source
+      → length source ≤ length back_target
+      → moving to from there back_target ≡ got source
   unfolding moved_lines
-  there_and_back source target back_Target {there = there} e room =
+  there_and_back source target back_target {there = there} e room =
       let right = moving_right from to source target e in
       let read : lines there ≡ map (moved_line from to) (lines source) = ap lines (moving_gives from to source target e) ∙ lines_moved (lines source) in
       let rights : all (line_moves to from) (lines there) ≡ true = rw read (lines_move_back (lines source) right) in
       let same : moved_lines to from (lines there) ≡ source =
       ap (moved_lines to from) read ∙ ap flatten (lines_back (lines source) right) ∙ lines_appended source
       in
-      let long : length (lines there) * line_size_in from ≤ length back_Target = omega (arith, length_moved_lines to from (lines there) rights, ap length same) in
-      moving_got to from there back_Target rights long ∙ ap got same
+      let long : length (lines there) * line_size_in from ≤ length back_target = omega (arith, length_moved_lines to from (lines there) rights, ap length same) in
+      moving_got to from there back_target rights long ∙ ap got same

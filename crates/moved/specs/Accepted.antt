@@ -13,7 +13,7 @@ use Rattle.rules.proofs.Laws.Choices.{and_both, all_first, all_others}
 use Rattle.rules.proofs.Laws.Outcomes.{not_got}
 use Rattle.stored.specs.Lines.{line_size_in, restored_in}
 use Rattle.moves.specs.NamesLongerThanSixteenBytes.{lines, line_stands, move_line, move_lines, moving}
-use Rattle.moves.specs.LinesThatMove.{line_moves, moved_line}
+use Rattle.moves.specs.Laws.Moves.{line_moves, moved_line}
 use Rattle.moves.proofs.Laws.Moves.{line_got, enough}
 use Rattle.moved.specs.MovedLines.{moved_lines, length_moved_lines}
 

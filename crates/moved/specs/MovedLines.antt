@@ -13,7 +13,7 @@ use Rattle.stored.specs.Lines.{line_size_in, line_accepted_in, restored_in}
 use Rattle.stored.specs.Laws.{length_two_digits}
 use Rattle.moves.specs.NamesLongerThanSixteenBytes.{row_stands, line_stands}
 use Rattle.moves.proofs.Laws.Digits.{moved_long}
-use Rattle.moves.specs.LinesThatMove.{line_moves, moved_line}
+use Rattle.moves.specs.Laws.Moves.{line_moves, moved_line}
 use Rattle.moves.proofs.Laws.Moves.{stands_accepted, moves_stand, moves_small, moves_fit}
 use Rattle.moved.specs.Standing.{name_within}
 

@@ -7,7 +7,8 @@ use Rattle.rules.specs.NumbersHandedBack.{got, refused, done, refusal}
 use Rattle.stored.specs.Lines.{line_size_in}
 use Rattle.writing.specs.Laid.{laid}
 use Rattle.moves.specs.NamesLongerThanSixteenBytes.{lines, move_lines, move_answer, moved_target}
-use Rattle.moves.proofs.Laws.Moves.{AllMove, moved_pieces, moved_pieces_long, all_moved, no_room, enough, not_moved, is_moved}
+use Rattle.moves.specs.Laws.Moves.{AllMove, moved_pieces}
+use Rattle.moves.proofs.Laws.Moves.{moved_pieces_long, all_moved, no_room, enough, not_moved, is_moved}
 use Rattle.mover.specs.declared.checked.Lines.{Lines}
 use Rattle.mover.specs.declared.checked.Lines.TheVariants.{Right, Wrong}
 

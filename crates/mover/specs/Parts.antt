@@ -10,8 +10,9 @@ use Rattle.stored.specs.Lines.{line_size_in, line_accepted_in}
 use Rattle.stored.specs.Laws.{line_long}
 use Rattle.writing.specs.Laid.{laid, laid_then, laid_byte}
 use Rattle.moves.specs.NamesLongerThanSixteenBytes.{line_stands}
-use Rattle.moves.proofs.Laws.Digits.{zero_digit, told, stands_by_zeros, moved_digits}
-use Rattle.moves.specs.LinesThatMove.{line_moves, moved_line}
+use Rattle.moves.specs.Laws.Digits.{zero_digit, told}
+use Rattle.moves.proofs.Laws.Digits.{stands_by_zeros, moved_digits}
+use Rattle.moves.specs.Laws.Moves.{line_moves, moved_line}
 use Rattle.moves.proofs.Laws.Moves.{moves_stand, moves_fit, stands_accepted, stands_small}
 
 -- ---- zeros

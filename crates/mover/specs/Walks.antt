@@ -7,9 +7,10 @@ use Rattle.stored.specs.Lines.{line_size_in}
 use Rattle.stored.specs.Laws.{line_long}
 use Rattle.writing.specs.Laid.{laid, laid_then}
 use Rattle.moves.specs.NamesLongerThanSixteenBytes.{lines, line_stands, move_lines}
-use Rattle.moves.proofs.Laws.Digits.{told}
-use Rattle.moves.specs.LinesThatMove.{line_moves, moved_line}
-use Rattle.moves.proofs.Laws.Moves.{piece, moved_pieces, AllMove, stands_accepted, stands_moves, not_stored, too_long, refused_at, moved_pieces_long}
+use Rattle.moves.specs.Laws.Digits.{told}
+use Rattle.moves.specs.Laws.Moves.{line_moves, moved_line}
+use Rattle.moves.specs.Laws.Moves.{piece, moved_pieces, AllMove}
+use Rattle.moves.proofs.Laws.Moves.{stands_accepted, stands_moves, not_stored, too_long, refused_at, moved_pieces_long}
 
 -- the place behind a line more
 pub next_place : (k at size long : ℕ) → at ≡ k * long → size ≡ long → at + size ≡ (k + 1) * long

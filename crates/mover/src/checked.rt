@@ -3,7 +3,7 @@ ghost use Rattle.std.specs.Prelude.{◌≡◌, ◌≤◌, eqb};
 ghost use Rattle.rules.specs.Common.{all};
 ghost use Rattle.rules.specs.SettingsAndUnitTable.{name_room};
 ghost use Rattle.moves.specs.NamesLongerThanSixteenBytes.{line_stands};
-ghost use Rattle.moves.proofs.Laws.Digits.{zero_digit};
+ghost use Rattle.moves.specs.Laws.Digits.{zero_digit};
 ghost use Rattle.mover.specs.Checked.{CheckedSo};
 
 use crate::form::{ZERO_DIGIT, digits_up_to, line_at, name_size};

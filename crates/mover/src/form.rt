@@ -1,7 +1,7 @@
 // A stored line by its digits: two for the name's length, two for each byte of the room that the name has, those of what stands behind it, and a newline.
 ghost use Rattle.std.specs.Prelude.{◌≡◌, ◌+◌, ◌*◌, ◌≤◌, ◌<◌, length, take, drop};
 ghost use Rattle.rules.specs.SettingsAndUnitTable.{name_room};
-ghost use Rattle.moves.proofs.Laws.Digits.{told};
+ghost use Rattle.moves.specs.Laws.Digits.{told};
 
 use stored::digit_value;
 

@@ -3,9 +3,9 @@ ghost use Rattle.std.specs.Prelude.{◌≡◌, true, ◌+◌, ◌*◌, ◌≤◌
 ghost use Rattle.rules.specs.SettingsAndUnitTable.{name_room};
 ghost use Rattle.stored.specs.Lines.{line_size_in};
 ghost use Rattle.writing.specs.Laid.{laid};
-ghost use Rattle.moves.proofs.Laws.Digits.{zero_digit};
-ghost use Rattle.moves.specs.LinesThatMove.{line_moves, moved_line};
-ghost use Rattle.moves.proofs.Laws.Moves.{moved_pieces, AllMove};
+ghost use Rattle.moves.specs.Laws.Digits.{zero_digit};
+ghost use Rattle.moves.specs.Laws.Moves.{line_moves, moved_line};
+ghost use Rattle.moves.specs.Laws.Moves.{moved_pieces, AllMove};
 
 use crate::form::{ZERO_DIGIT, digits_up_to, line_at, name_size};
 use stored::line_size;

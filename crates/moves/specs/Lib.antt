@@ -1,5 +1,5 @@
 -- Names longer than sixteen bytes: the definitions of request eight, and their laws.
 pub mod NamesLongerThanSixteenBytes
-pub mod LinesThatMove
 pub mod Computing
 pub mod Examples
+pub mod Laws

@@ -14,7 +14,7 @@ use Rattle.rules.specs.SettingsAndUnitTable.{Card}
 use Rattle.rules.specs.ReadingOnePart.{part}
 use Rattle.rules.specs.Evaluation.{digits_of, spoken_multiplier, evaluate_spoken, evaluated, allowed, part_reading}
 use Rattle.rules.proofs.Laws.Outcomes.{all_of, bind_got, bind_refused, the_cause}
-use Rattle.rules.proofs.Laws.Powers.{net}
+use Rattle.rules.specs.Laws.Powers.{net}
 use Rattle.value.specs.Numbers.{Spans, Counts, typed, spoken, evaluate_counted}
 use Rattle.value.specs.Sums.{digits_none}
 use Rattle.value.specs.Evaluating.{one, no_digits, evaluate_summed, evaluate_one}

@@ -7,7 +7,6 @@ pub mod RowsCheck
 pub mod SettingsAsWords
 pub mod Answers
 pub mod Tables
-pub mod Powers
 pub mod Texts
 pub mod Layout
 pub mod Ahead

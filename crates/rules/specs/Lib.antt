@@ -16,3 +16,4 @@ pub mod WhichExponentDigitIsWrong
 pub mod SpokenNumbers
 pub mod TheLinesOwnUnitNames
 pub mod SixSlipsUnderOneNumber
+pub mod Laws

@@ -10,7 +10,8 @@ use Rattle.rules.proofs.Laws.Choices.{and_left, and_right}
 use Rattle.rules.proofs.Laws.Outcomes.{passed, passed_both, unless_got}
 use Rattle.card.specs.Laws.Accepted.{units_good}
 use Rattle.index.specs.TheSortedIndex.{table_right, making, checking, with_row, may_replace, replacing}
-use Rattle.index.proofs.Laws.Right.{Own, Right, index_accepts}
+use Rattle.index.specs.Laws.Right.{Own, Right}
+use Rattle.index.proofs.Laws.Right.{index_accepts}
 use Rattle.sorted.specs.Replacing.{passes_got, units_own}
 
 -- the names of an accepted table are different

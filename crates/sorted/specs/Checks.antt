@@ -11,7 +11,8 @@ use Rattle.rules.specs.SettingsAsWords.{settings_of, card_of}
 use Rattle.rules.proofs.Laws.Outcomes.{passed_both}
 use Rattle.card.specs.Laws.Accepted.{UnitsGood, units_good, units_accepted, card_hall, card_line}
 use Rattle.index.specs.TheSortedIndex.{index_check, table_right, checking, Indexed, indexed_check}
-use Rattle.index.proofs.Laws.Right.{Right, index_accepts}
+use Rattle.index.specs.Laws.Right.{Right}
+use Rattle.index.proofs.Laws.Right.{index_accepts}
 
 -- ---- a card without some of its tables
 

@@ -17,7 +17,8 @@ use Rattle.card.specs.Laws.Table.{ruled_alone}
 use Rattle.card.specs.Laws.Accepted.{UnitsGood}
 use Rattle.index.specs.TheSortedIndex.{before}
 use Rattle.index.proofs.Laws.Order.{before_trans}
-use Rattle.index.proofs.Laws.Right.{entry, entry_name, Right, Rising, Own, rising_own, rising_right, different}
+use Rattle.index.specs.Laws.Right.{entry, entry_name, Right, Rising, Own}
+use Rattle.index.proofs.Laws.Right.{rising_own, rising_right, different}
 
 -- the first k entries: numbers of rows, and names that rise
 pub record Climbing (table index : List ℕ) (k : ℕ) : Type 0 where

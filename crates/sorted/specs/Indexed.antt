@@ -6,7 +6,8 @@ use Rattle.rules.specs.NumbersHandedBack.{got}
 use Rattle.rules.specs.SettingsAndUnitTable.{card_check}
 use Rattle.rules.proofs.Laws.Outcomes.{passed_both}
 use Rattle.index.specs.TheSortedIndex.{index_check, Indexed, indexed_check}
-use Rattle.index.proofs.Laws.Right.{Right, index_accepts}
+use Rattle.index.specs.Laws.Right.{Right}
+use Rattle.index.proofs.Laws.Right.{index_accepts}
 use Rattle.lookup.specs.Searching.{Beside}
 
 module _ (c : Indexed) (good : indexed_check c ≡ got tt) where

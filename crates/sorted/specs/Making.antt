@@ -5,7 +5,8 @@ use Rattle.std.proofs.lemmas.List.{take-append-le}
 use Rattle.std.proofs.lemmas.Bool.{eqb-false}
 use Rattle.rules.specs.SettingsAndUnitTable.{rows}
 use Rattle.index.specs.TheSortedIndex.{index_of}
-use Rattle.index.proofs.Laws.Right.{entry, Rising, Own, rising_right, right_only}
+use Rattle.index.specs.Laws.Right.{entry, Rising, Own}
+use Rattle.index.proofs.Laws.Right.{rising_right, right_only}
 use Rattle.sorted.specs.Sifting.{Sifting, Sifted}
 
 pub record Making (table index : List ℕ) (i : ℕ) : Type 0 where

@@ -22,8 +22,9 @@ use Rattle.rules.proofs.Laws.Choices.{and_left}
 use Rattle.index.specs.TheSortedIndex.{with_row, passes, may_replace, index_of}
 use Rattle.index.proofs.Laws.Counts.{skip, skipped, skip_rises, skip_most}
 use Rattle.index.proofs.Laws.Order.{never_before}
-use Rattle.index.proofs.Laws.Right.{entry, entry_name, Right, Rising, Own, right_rising, stands_at, different, rising_right, right_only}
-use Rattle.rules.proofs.Laws.Lists.{Bytes}
+use Rattle.index.specs.Laws.Right.{entry, entry_name, Right, Rising, Own}
+use Rattle.index.proofs.Laws.Right.{right_rising, stands_at, different, rising_right, right_only}
+use Rattle.rules.specs.Laws.Lists.{Bytes}
 use Rattle.sorted.specs.Climbing.{unnamed_below}
 use Rattle.sorted.specs.Sifting.{Sifting, Sifted}
 

@@ -12,7 +12,8 @@ use borrow.Author.Tests.{ltb-true, ltb-false, eqb-true}
 use Rattle.rules.specs.Common.{all, between}
 use Rattle.rules.specs.SettingsAndUnitTable.{name_room, name_at, row_size, name_size, name, after_name_in, low_first}
 use Rattle.rules.proofs.Laws.Choices.{and_right}
-use Rattle.rules.proofs.Laws.Lists.{Bytes, all_index}
+use Rattle.rules.specs.Laws.Lists.{Bytes}
+use Rattle.rules.proofs.Laws.Lists.{all_index}
 use Rattle.words.specs.LowFirst.{bytes_part}
 use Rattle.rows.specs.Named.{padded}
 use Rattle.rows.specs.Laws.Rooms.{low_first_only, size_most, name_bytes}

@@ -9,7 +9,8 @@ use Rattle.index.specs.declared.Order.{Order}
 use Rattle.index.specs.declared.Order.TheVariants.{Before, Same, After}
 use Rattle.index.specs.TheSortedIndex.{order, is_before, before}
 use Rattle.index.proofs.Laws.Order.{Compared, comes_before, is_same, comes_after, compared, before_trans}
-use Rattle.index.proofs.Laws.Right.{entry, entry_name, Rising, Own, different}
+use Rattle.index.specs.Laws.Right.{entry, entry_name, Rising, Own}
+use Rattle.index.proofs.Laws.Right.{different}
 
 pub record Sifting (table index : List ℕ) (at : ℕ) : Type 0 where
   pub short : length index ≤ rows table

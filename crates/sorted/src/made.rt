@@ -2,7 +2,7 @@
 ghost use Rattle.std.specs.Prelude.{◌≡◌, ◌≤◌, length};
 ghost use Rattle.rules.specs.SettingsAndUnitTable.{most_rows, rows};
 ghost use Rattle.index.specs.TheSortedIndex.{index_of};
-ghost use Rattle.index.proofs.Laws.Right.{Own};
+ghost use Rattle.index.specs.Laws.Right.{Own};
 ghost use Rattle.sorted.specs.Sifting.{Sifting, Sifted};
 
 use lookup::names::before;

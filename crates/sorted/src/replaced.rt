@@ -5,7 +5,7 @@ ghost use Rattle.rules.specs.SettingsAsWords.{settings_of};
 ghost use Rattle.rules.specs.SettingsAndUnitTable.{settings_check, row_size, rows, row, table_check};
 ghost use Rattle.rows.specs.Named.{padded};
 ghost use Rattle.index.specs.TheSortedIndex.{with_row, may_replace, index_of};
-ghost use Rattle.index.proofs.Laws.Right.{Own, Right};
+ghost use Rattle.index.specs.Laws.Right.{Own, Right};
 ghost use Rattle.sorted.specs.Replacing.{Elsewhere, NotElsewhere, Stands, Moved};
 
 use crate::made::sift_down;

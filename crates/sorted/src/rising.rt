@@ -7,7 +7,7 @@ ghost use Rattle.rules.specs.SettingsAndUnitTable.{settings_check, row_size, kin
 ghost use Rattle.rows.specs.Named.{padded};
 ghost use Rattle.card.specs.Laws.Accepted.{UnitsGood};
 ghost use Rattle.index.specs.TheSortedIndex.{before};
-ghost use Rattle.index.proofs.Laws.Right.{Right, Rising};
+ghost use Rattle.index.specs.Laws.Right.{Right, Rising};
 ghost use Rattle.sorted.specs.Rooms.{Alike};
 
 use card::table::{MOST_ROWS, RowsFound, rows_found, unit_rule};

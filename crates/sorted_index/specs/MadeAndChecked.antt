@@ -10,7 +10,8 @@ use Rattle.rules.proofs.Laws.Choices.{and_right}
 use Rattle.rules.proofs.Laws.Outcomes.{passed, passed_both, unless_got}
 use Rattle.card.specs.Laws.Accepted.{units_good}
 use Rattle.index.specs.TheSortedIndex.{index_of, lent_after, table_right, making, made_index, checking, with_row, may_replace, replacing, replaced_table, replaced_index}
-use Rattle.index.proofs.Laws.Right.{Own, index_accepts, index_of_right, right_only}
+use Rattle.index.specs.Laws.Right.{Own}
+use Rattle.index.proofs.Laws.Right.{index_accepts, index_of_right, right_only}
 use Rattle.sorted.specs.Replacing.{passes_got, units_own}
 
 -- ---- of a table that is accepted under accepted settings

@@ -12,7 +12,7 @@ use Rattle.rules.specs.NumbersHandedBack.{Outcome, got, refused, ◌>>=◌, ◌>
 use Rattle.rules.specs.SettingsAndUnitTable.{times, in_range}
 use Rattle.rules.specs.Evaluation.{multiplied, spoken_multiplier}
 use Rattle.rules.proofs.Laws.Outcomes.{Refused, not_refused, refused_then, refused_bind, refused_unless}
-use Rattle.rules.proofs.Laws.Powers.{net}
+use Rattle.rules.specs.Laws.Powers.{net}
 use Rattle.rules.proofs.Laws.Tests.{same_test}
 use Rattle.spoken.specs.Products.{handed_on, no_product, product, spoken_product}
 

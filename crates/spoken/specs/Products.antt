@@ -4,7 +4,7 @@ use Rattle.rules.specs.declared.Multiplier.{Multiplier}
 use Rattle.rules.specs.declared.SpokenRepr.{SpokenRepr}
 use Rattle.rules.specs.NumbersHandedBack.{Outcome, got, refused}
 use Rattle.rules.specs.Evaluation.{spoken_multiplier}
-use Rattle.rules.proofs.Laws.Powers.{net}
+use Rattle.rules.specs.Laws.Powers.{net}
 use Rattle.spoken.specs.declared.Product.{Product}
 
 -- a product in range is handed on with its powers taken off each other

@@ -4,7 +4,7 @@
 ghost use Rattle.std.specs.Prelude.{◌≡◌, true, ◌+◌, ◌-◌, ◌≤◌};
 ghost use Rattle.rules.specs.SettingsAndUnitTable.{times, in_range};
 ghost use Rattle.rules.specs.Evaluation.{multiplied};
-ghost use Rattle.rules.proofs.Laws.Powers.{net};
+ghost use Rattle.rules.specs.Laws.Powers.{net};
 ghost use Rattle.spoken.specs.Products.{product, spoken_product};
 
 use rows::fields::within;

@@ -5,7 +5,7 @@ use Rattle.std.proofs.Math.Nat.{sub_self}
 use Rattle.std.proofs.Math.Seq.{slice}
 use Rattle.rules.specs.Common.{run}
 use Rattle.rules.specs.SettingsAndUnitTable.{low_first}
-use Rattle.rules.proofs.Laws.Lists.{Bytes}
+use Rattle.rules.specs.Laws.Lists.{Bytes}
 use Rattle.rules.proofs.Laws.Texts.{run_from, slice_shift}
 use Rattle.words.specs.LowFirst.{low_first_part, low_first_more}
 use Rattle.steps.specs.declared.unit.Stretch.{Stretch}

@@ -17,7 +17,7 @@ use Rattle.rules.specs.NumbersHandedBack.{Outcome, got, refused, ◌>>=◌}
 use Rattle.rules.specs.SettingsAndUnitTable.{settings_check, class, is, is_next_duration, holds, rows, row, kind, row_multiplier, product, in_range, lookup, line_first, stands, held_row, find_row}
 use Rattle.rules.specs.ReadingOnePart.{says, delimiters, in_stretch, closes_unit, negated, ago_step}
 use Rattle.rules.proofs.Laws.Ahead.{says_within}
-use Rattle.rules.proofs.Laws.Lists.{Bytes}
+use Rattle.rules.specs.Laws.Lists.{Bytes}
 use Rattle.rules.proofs.Laws.Tests.{or_false}
 use Rattle.rules.proofs.Laws.Texts.{sees_here, run_within}
 use Rattle.value.specs.Digits.{run_end}

@@ -12,7 +12,7 @@ use Rattle.rules.specs.SettingsAndUnitTable.{row_size_in, hexadecimal, two_digit
 use Rattle.rules.proofs.Laws.Choices.{if_either, and_left, and_right, all_first, all_others}
 use Rattle.rules.proofs.Laws.Tables.{listed, entry}
 use Rattle.stored.specs.Lines.{digits_size_in, line_size_in, digits_size, digit_value, spells, paired, line_accepted_in, restored_in, stores, line_after, restores, row_after}
-use Rattle.rules.proofs.Laws.Lists.{Bytes}
+use Rattle.rules.specs.Laws.Lists.{Bytes}
 use Rattle.rules.proofs.Laws.Tests.{between_from, between_to, between_in, between_above}
 use Rattle.rules.proofs.Laws.Lists.{all_index}
 

@@ -7,7 +7,7 @@ use Rattle.rules.specs.ThePartOfTheCrateWeTake.{zero_length}
 use Rattle.rules.specs.NumbersHandedBack.{Outcome, got, refused, done, refusal, answered}
 use Rattle.rules.specs.SettingsAndUnitTable.{most_rows, row_size, rows}
 use Rattle.index.specs.TheSortedIndex.{index_of, rows_answer, lent_after, checking, check_answer, making, make_answer, made_index, with_row, replacing, replace_answer, replaced_table, replaced_index}
-use Rattle.index.proofs.Laws.Right.{Own, Right}
+use Rattle.index.specs.Laws.Right.{Own, Right}
 use Rattle.sorted.specs.Checks.{table_few}
 use Rattle.sorted.specs.Replacing.{with_rows}
 use Rattle.sorted.specs.Allowed.{table_own, making_holds, replacing_holds}

@@ -6,7 +6,7 @@ use Rattle.rules.specs.NumbersHandedBack.{got, refused}
 use Rattle.rules.specs.SettingsAndUnitTable.{rows, Card, card_check}
 use Rattle.card.specs.Laws.Accepted.{card_hall, card_line, row_padded}
 use Rattle.index.specs.TheSortedIndex.{row_search, row_search_from, index_search, index_search_from, Indexed, indexed_check, looked_up, lookup_answer, indexed_lookup_answer}
-use Rattle.index.proofs.Laws.Right.{Right}
+use Rattle.index.specs.Laws.Right.{Right}
 use Rattle.lookup.specs.Searching.{Searchable, searched}
 use Rattle.sorted.specs.Indexed.{card_good, hall_right, line_right}
 

@@ -3,7 +3,7 @@ use Rattle.std.specs.Prelude.{◌≡◌, Bool, ◌+◌, ◌-◌, min}
 use Rattle.std.proofs.Common.{arith}
 use Rattle.rules.specs.declared.Multiplier.{Multiplier}
 use Rattle.rules.specs.Evaluation.{attos, worth}
-use Rattle.rules.proofs.Laws.Powers.{net}
+use Rattle.rules.specs.Laws.Powers.{net}
 use Rattle.value.specs.Places.{powers_both}
 
 -- powers that stand on both sides fall away

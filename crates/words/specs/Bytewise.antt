@@ -7,7 +7,7 @@ use Rattle.std.proofs.lemmas.Nat.Bits.{and_high}
 use Rattle.rules.specs.Common.{when◌then◌else◌, all, between}
 use Rattle.rules.specs.SettingsAndUnitTable.{LETTER, class, is, low_first}
 use Rattle.rules.proofs.Laws.Choices.{and_both}
-use Rattle.rules.proofs.Laws.Lists.{Bytes}
+use Rattle.rules.specs.Laws.Lists.{Bytes}
 use Rattle.rules.proofs.Laws.Tables.{listed, entry}
 
 -- so many bytes that are all the same, as a number

@@ -4,7 +4,7 @@ use Rattle.std.proofs.Common.{mul-add, mul_assoc, mul_comm, mul-le-mul, add_asso
 use Rattle.std.proofs.Math.Nat.{pow-succ'}
 use Rattle.std.proofs.Math.ListN.{get_or-eq_default}
 use Rattle.rules.specs.SettingsAndUnitTable.{low_first}
-use Rattle.rules.proofs.Laws.Lists.{Bytes}
+use Rattle.rules.specs.Laws.Lists.{Bytes}
 
 -- a number from the bytes of two parts
 low_first_append : (xs ys : List ℕ) → low_first (xs ++ ys) ≡ low_first xs + 256 ^ length xs * low_first ys

@@ -5,7 +5,8 @@ use Rattle.rules.specs.declared.ByteSet.{ByteSet}
 use Rattle.rules.specs.Common.{when◌then◌else◌, all, between}
 use Rattle.rules.specs.SettingsAndUnitTable.{LETTER, is, row_size, name_at, name_size, name, led_by_e, lower}
 use Rattle.rules.proofs.Laws.Choices.{and_both, all_first, all_others}
-use Rattle.rules.proofs.Laws.Lists.{Bytes, all_both, all_alike}
+use Rattle.rules.specs.Laws.Lists.{Bytes}
+use Rattle.rules.proofs.Laws.Lists.{all_both, all_alike}
 use Rattle.words.specs.LowFirst.{bytes_part}
 use Rattle.settings.specs.Sets.{passes}
 use Rattle.settings.specs.Laws.Sets.{runs, agree}

@@ -15,7 +15,7 @@ use Rattle.rules.specs.Common.{when◌then◌else◌, all, between, same}
 use Rattle.rules.specs.NumbersHandedBack.{got, refused, ◌>>◌, unless}
 use Rattle.rules.specs.SettingsAndUnitTable.{last_kind, second_kind, zeros_at, row_size, rows, rows_in, row, row_in, name, kind, name_size, may_name, named, named_in, product, in_range, led_by_e, e_may_lead, can_be_typed, row_formed, row_formed_in, row_right, row_right_in, row_accepted, row_accepted_in, numeral_accepted, numeral_accepted_in, whole_rows, whole_rows_in, rows_check}
 use Rattle.rules.proofs.Laws.Choices.{and_left, and_right}
-use Rattle.rules.proofs.Laws.Lists.{Bytes}
+use Rattle.rules.specs.Laws.Lists.{Bytes}
 use Rattle.rules.proofs.Laws.RowsCheck.{rows_alike}
 use Rattle.rules.proofs.Laws.Tests.{and_assoc, and_true, and_false, or_true, or_false, same_test, between_from, between_to, between_in}
 use Rattle.words.specs.LowFirst.{bytes_part}

@@ -18,7 +18,8 @@ use Rattle.index.specs.declared.Order.TheVariants.{Before, Same, After}
 use Rattle.index.specs.declared.Searched.{Searched}
 use Rattle.index.specs.TheSortedIndex.{order, before, no_more, here, and_then, row_search_from, row_search, by_order, index_search_from, index_search}
 use Rattle.index.proofs.Laws.Order.{says_before, says_same, says_after, never_before, before_trans}
-use Rattle.index.proofs.Laws.Right.{entry, entry_name, Right, Rising, right_rising, stands_at, rising_own}
+use Rattle.index.specs.Laws.Right.{entry, entry_name, Right, Rising}
+use Rattle.index.proofs.Laws.Right.{right_rising, stands_at, rising_own}
 
 -- what holds of each of the three ways holds of the one that is taken
 by_either : {A : Type 0} (P : A → Type 0) (o : Order) {a b c : A} → (o ≡ Before → P a) → (o ≡ Same → P b) → (o ≡ After → P c) → P (by_order o a b c)

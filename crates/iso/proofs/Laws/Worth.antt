@@ -7,17 +7,11 @@ use Rattle.rules.specs.ThePartOfTheCrateWeTake.{nanoseconds_per_second}
 use Rattle.rules.specs.Evaluation.{spelled}
 use Rattle.value.specs.Digits.{ten_pos, spelled_append, spelled_from}
 use Rattle.iso.specs.IsoTimings.{Component, decimals, most_decimals, seconds_of, exact, nanoseconds_of}
+use Rattle.iso.specs.Laws.Worth.{whole_worth, fraction_worth}
 
 -- what is whole comes out of a division
 pub whole_out : (a b n : ℕ) → (a * 10 ^ n + b) / 10 ^ n ≡ a + b / 10 ^ n
 whole_out a b n = ap (λ x. x / 10 ^ n) (add_comm (a * 10 ^ n) b) ∙ add-mul-div_right b a (ten_pos n) ∙ add_comm (b / 10 ^ n) a
-
--- digits before the mark and digits after it, so many nanoseconds each, in the decimals of all
-unfoldable pub whole_worth : Component → ℕ
-whole_worth c = spelled 0 c.whole * seconds_of c.kind * nanoseconds_per_second
-
-unfoldable pub fraction_worth : Component → ℕ
-fraction_worth c = spelled 0 (drop 1 c.fraction) * (seconds_of c.kind * nanoseconds_per_second) / 10 ^ decimals c
 
 pub worth_none : nanoseconds_of [] ≡ 0
 unfolding nanoseconds_of exact most_decimals

@@ -119,6 +119,6 @@ module _ (hall line wanted : List ℕ) (compared : ℕ) {it : LookedUp} (held : 
   led_nowhere = rw held (go (stands hall line wanted))
     where
       go : (h : Holder) → ((found_in h compared).table ≡ 2 → ⊥) → ((found_in h compared).table ≡ 1 → ⊥) → [] ≡ held_row hall line h
-      go (Line i) not_Line not_hall = absurd (not_Line refl)
-      go (Hall i) not_Line not_hall = absurd (not_hall refl)
-      go Neither not_Line not_hall = refl
+      go (Line i) not_line not_hall = absurd (not_line refl)
+      go (Hall i) not_line not_hall = absurd (not_hall refl)
+      go Neither not_line not_hall = refl

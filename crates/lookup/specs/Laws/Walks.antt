@@ -14,7 +14,7 @@ use Rattle.rows.specs.Laws.Rows.{length_row}
 use Rattle.index.specs.declared.Searched.{Searched}
 use Rattle.index.specs.declared.Order.TheVariants.{Before, Same, After}
 use Rattle.index.specs.TheSortedIndex.{order, row_search_from, row_search, by_order, index_search}
-use Rattle.index.proofs.Laws.Right.{entry, entry_name}
+use Rattle.index.specs.Laws.Right.{entry, entry_name}
 use Rattle.index.proofs.Laws.Searches.{row_search_finds, probes, probes_all, probes_none, probes_more}
 
 -- so many names were compared before

@@ -15,10 +15,7 @@ use Rattle.rules.proofs.Laws.Tests.{and_assoc, same_test, eqb_iff, between_to}
 use Rattle.stored.specs.Lines.{digits_size_in, line_size_in, digit_value, paired, line_accepted_in, restored_in}
 use Rattle.stored.specs.Laws.{two_digits_append, length_two_digits, line_long, stored_restored, length_restored}
 use Rattle.moves.specs.NamesLongerThanSixteenBytes.{newline, row_stands, line_stands, moved_row}
-
--- the digit `0`
-abbrev pub zero_digit : ℕ
-zero_digit = 48
+use Rattle.moves.specs.Laws.Digits.{zero_digit, told}
 
 -- ---- parts of a row, and the digits of zeros
 
@@ -61,9 +58,6 @@ zeros_told [] = refl
 zeros_told (b ∷ l) = rw (zero_byte_told b, zero_told (b / 16), zero_told (b % 16), and_assoc, zeros_told l)
 
 -- ---- the name's length
-
-abbrev pub told : List ℕ → ℕ
-told line = digit_value (get_or line 0 0) * 16 + digit_value (get_or line 1 0)
 
 told_first : (digits : List ℕ) → 1 < length digits → get_or (paired digits) 0 0 ≡ told digits
 unfolding paired

@@ -21,9 +21,10 @@ use Rattle.rules.proofs.Laws.Outcomes.{bind_assoc}
 use Rattle.stored.specs.Lines.{line_size_in, line_accepted_in, restored_in}
 use Rattle.stored.specs.Laws.{line_long}
 use Rattle.moves.specs.NamesLongerThanSixteenBytes.{lines, row_stands, line_stands, move_line, move_lines, moving, move_answer, written_over, moved_target}
-use Rattle.moves.specs.LinesThatMove.{line_moves, moved_line}
+use Rattle.moves.specs.Laws.Moves.{line_moves, moved_line, piece, moved_pieces, AllMove}
 use Rattle.moves.proofs.Laws.Lines.{first_line, not_a_line}
-use Rattle.moves.proofs.Laws.Digits.{told, size_told, moved_long}
+use Rattle.moves.specs.Laws.Digits.{told}
+use Rattle.moves.proofs.Laws.Digits.{size_told, moved_long}
 
 module _ (from to : ℕ) where
   -- ---- one line
@@ -97,31 +98,19 @@ module _ (from to i : ℕ) (rest : List ℕ) where
 
 -- ---- all of them
 
--- the k-th piece of a line's length
-abbrev pub piece : ℕ → List ℕ → ℕ → List ℕ
-piece room source k = take (line_size_in room) (drop (k * line_size_in room) source)
-
 unbound : {A : Type 0} (m : Outcome A) → (m >>= λ a. got a) ≡ m
 unfolding ◌>>=◌
 unbound (got a) = refl
 unbound (refused cause) = refl
 
 module _ (from to : ℕ) (source : List ℕ) where
-  -- the first k pieces, moved
-  unfoldable pub moved_pieces : ℕ → List ℕ
-  moved_pieces zero = []
-  moved_pieces (suc k) = moved_pieces k ++ moved_line from to (piece from source k)
-
-  abbrev pub AllMove : ℕ → Type 0
-  AllMove k = (j : ℕ) → j < k → line_moves from to (piece from source j) ≡ true
-
   -- where the first k may be moved, the others decide
-  others_decide : (k : ℕ) → AllMove k → move_lines from to 0 (lines source) ≡ (move_lines from to k (lines (drop (k * line_size_in from) source)) >>= λ others. got (moved_pieces k ++ others))
+  others_decide : (k : ℕ) → AllMove from to source k → move_lines from to 0 (lines source) ≡ (move_lines from to k (lines (drop (k * line_size_in from) source)) >>= λ others. got (moved_pieces from to source k ++ others))
   unfolding moved_pieces ◌>>=◌
   others_decide zero right = rw zero-mul (sym (unbound (move_lines from to 0 (lines source))))
   others_decide (suc k) right =
       let size : ℕ = line_size_in from in
-      let before : List ℕ = moved_pieces k in
+      let before : List ℕ = moved_pieces from to source k in
       let line : List ℕ = moved_line from to (piece from source k) in
       let behind : drop size (drop (k * size) source) ≡ drop (suc k * size) source = drop-drop size (k * size) source ∙ ap (λ n. drop n source) (sym (suc-mul k size)) in
       others_decide k (λ j below. right j (omega arith))
@@ -131,18 +120,18 @@ module _ (from to : ℕ) (source : List ℕ) where
       ∙ simp append_assoc
 
   -- the first that is refused
-  pub refused_at : (k : ℕ) {cause : Refusal} → AllMove k → move_lines from to k (lines (drop (k * line_size_in from) source)) ≡ refused cause → move_lines from to 0 (lines source) ≡ refused cause
+  pub refused_at : (k : ℕ) {cause : Refusal} → AllMove from to source k → move_lines from to k (lines (drop (k * line_size_in from) source)) ≡ refused cause → move_lines from to 0 (lines source) ≡ refused cause
   unfolding ◌>>=◌
   refused_at k right e = others_decide k right ∙ rw e
 
   -- and if none is left
-  pub all_moved : (k : ℕ) → AllMove k → length source ≡ k * line_size_in from → move_lines from to 0 (lines source) ≡ got (moved_pieces k)
+  pub all_moved : (k : ℕ) → AllMove from to source k → length source ≡ k * line_size_in from → move_lines from to 0 (lines source) ≡ got (moved_pieces from to source k)
   unfolding ◌>>=◌ move_lines lines
   all_moved k right long =
       let none : drop (k * line_size_in from) source ≡ [] = drop_of_length-le source {i = k * line_size_in from} (omega arith) in
       others_decide k right ∙ rw (none, append-nil)
 
-  pub moved_pieces_long : (k : ℕ) → AllMove k → length (moved_pieces k) ≡ k * line_size_in to
+  pub moved_pieces_long : (k : ℕ) → AllMove from to source k → length (moved_pieces from to source k) ≡ k * line_size_in to
   unfolding moved_pieces moved_line
   moved_pieces_long zero right = sym (zero-mul (line_size_in to))
   moved_pieces_long (suc k) right =
@@ -150,7 +139,7 @@ module _ (from to : ℕ) (source : List ℕ) where
       let may : line_moves from to line ≡ true = right k (omega arith) in
       let stands : line_stands from line ≡ true = moves_stand from to line may in
       let long : length (moved_line from to line) ≡ line_size_in to = moved_long from line (stands_accepted from line stands) to (stands_small from line stands) (moves_fit from to line may) in
-      length-append (moved_pieces k) (moved_line from to line)
+      length-append (moved_pieces from to source k) (moved_line from to line)
       ∙ rw (moved_pieces_long k (λ j below. right j (omega arith)), long, suc-mul k (line_size_in to))
 
 -- ---- what a move comes to

@@ -14,7 +14,8 @@ use Rattle.rules.specs.Common.{all, between, same, starts}
 use Rattle.rules.specs.SettingsAndUnitTable.{row_size, name_room, name_at, name_size, name, after_name, after_name_in, low_first}
 use Rattle.rules.proofs.Laws.Choices.{and_left, and_right, and_both}
 use Rattle.rules.proofs.Laws.Tests.{same_test, between_from, between_in}
-use Rattle.rules.proofs.Laws.Lists.{Bytes, all_both, zeros_only}
+use Rattle.rules.specs.Laws.Lists.{Bytes}
+use Rattle.rules.proofs.Laws.Lists.{all_both, zeros_only}
 use Rattle.rules.proofs.Laws.Texts.{drop_take}
 use Rattle.words.specs.LowFirst.{bytes_part}
 use Rattle.rows.specs.Named.{padded}

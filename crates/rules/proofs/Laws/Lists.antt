@@ -50,10 +50,6 @@ zeros_only (b ∷ l) e =
     let others = zeros_only l (all_others (eqb 0) b l e) in
     cc
 
--- a list of bytes
-abbrev pub Bytes : List ℕ → Type 0
-Bytes l = (k : ℕ) → get_or l k 0 < 256
-
 -- ---- each of the n bytes from b on
 
 module _ (test : ℕ → Bool) where

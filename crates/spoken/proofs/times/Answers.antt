@@ -2,7 +2,7 @@
 use mathlib.Core.Bool.{xor}
 use native.Mathlib.Omega.{arith}
 use Rattle.rules.specs.SettingsAndUnitTable.{times}
-use Rattle.rules.proofs.Laws.Powers.{net}
+use Rattle.rules.specs.Laws.Powers.{net}
 use Rattle.rows.specs.Laws.Rows.{in_range_bounds}
 use Rattle.spoken.proofs.times.Goals as goal
 

@@ -4,7 +4,7 @@ use mathlib.Core.Bool.{false≢true}
 use native.Mathlib.Omega.{arith}
 use lib.ListN.{length, take, drop, length-take, length-drop}
 use borrow.Author.Tests.{eqb-true}
-use Rattle.rules.proofs.Laws.Lists.{Bytes}
+use Rattle.rules.specs.Laws.Lists.{Bytes}
 use Rattle.words.specs.LowFirst.{bytes_part}
 use Rattle.words.specs.Bytewise.{eight_sixes_fit, eight_digits_only}
 use Rattle.words.proofs.eight_digits.Goals as goal

@@ -5,7 +5,7 @@ use lib.Bits.{bit_and}
 use lib.ListN.{length, take, drop, length-take, length-drop}
 use lib.Seq.{take-take}
 use Rattle.rules.specs.SettingsAndUnitTable.{low_first}
-use Rattle.rules.proofs.Laws.Lists.{Bytes}
+use Rattle.rules.specs.Laws.Lists.{Bytes}
 use Rattle.words.specs.LowFirst.{bytes_part}
 use Rattle.words.specs.Bytewise.{eight_small_fit, eight_marked, repeated, marked, marked_letters, marks_some}
 use Rattle.words.proofs.letter_marks.Goals as goal

@@ -4,7 +4,7 @@ use Prim.Native.Nat.{◌+◌, ◌*◌, ◌^◌}
 use native.Mathlib.Nat.{le_trans}
 use lib.Seq.{slice}
 use Rattle.rules.specs.Evaluation.{spelled}
-use Rattle.iso.proofs.Laws.Worth.{whole_worth}
+use Rattle.iso.specs.Laws.Worth.{whole_worth}
 use Rattle.iso_reader.specs.Due.{due}
 use Rattle.iso_reader.proofs.reader.with_whole.Goals as goal
 

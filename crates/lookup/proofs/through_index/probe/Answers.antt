@@ -6,7 +6,8 @@ use lib.ListN.{length, get_or}
 use Rattle.rules.specs.SettingsAndUnitTable.{rows, name}
 use Rattle.rows.specs.Laws.Rows.{length_row}
 use Rattle.index.specs.TheSortedIndex.{order}
-use Rattle.index.proofs.Laws.Right.{entry_name, right_within}
+use Rattle.index.specs.Laws.Right.{entry_name}
+use Rattle.index.proofs.Laws.Right.{right_within}
 use Rattle.lookup.specs.Laws.Walks.{probe_starts, probe_ends, middle_within, probe_fits, probe_finds, probe_below, probe_above}
 use Rattle.lookup.proofs.through_index.probe.Goals as goal
 use Rattle.lookup.proofs.through_index.probe.Goals.{After-order, After-shared_slice_known-in-loop-low-1}

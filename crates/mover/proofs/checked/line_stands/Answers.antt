@@ -11,7 +11,8 @@ use Rattle.rules.proofs.Laws.Tests.{between_in, between_below, between_above}
 use Rattle.stored.specs.Lines.{line_size_in, line_accepted_in}
 use Rattle.stored.specs.Laws.{line_long}
 use Rattle.moves.specs.NamesLongerThanSixteenBytes.{line_stands}
-use Rattle.moves.proofs.Laws.Digits.{zero_digit, told, stands_nowhere}
+use Rattle.moves.specs.Laws.Digits.{zero_digit, told}
+use Rattle.moves.proofs.Laws.Digits.{stands_nowhere}
 use Rattle.mover.specs.Parts.{zeros_decide}
 use Rattle.std.proofs.Common.{not}
 use Rattle.mover.proofs.checked.line_stands.Goals as goal

@@ -4,7 +4,7 @@ use mathlib.Core.Path.{◌≡◌}
 use Prim.Native.Nat.{◌*◌, ◌-◌, ◌≤◌}
 use lib.ListN.{length}
 use Rattle.stored.specs.Lines.{line_size_in}
-use Rattle.moves.proofs.Laws.Moves.{AllMove}
+use Rattle.moves.specs.Laws.Moves.{AllMove}
 use Rattle.mover.proofs.checked.lines_check.Given as goal
 
 abbrev pub invariant-loop-at : goal.invariant-loop-at

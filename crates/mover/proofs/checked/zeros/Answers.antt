@@ -4,7 +4,7 @@ use native.Mathlib.Omega.{arith}
 use lib.Dec.{eqb}
 use borrow.Author.Tests.{eq-eqb, ne_eqb}
 use Rattle.rules.proofs.Laws.Lists.{all_from, all_done}
-use Rattle.moves.proofs.Laws.Digits.{zero_digit}
+use Rattle.moves.specs.Laws.Digits.{zero_digit}
 use Rattle.mover.proofs.checked.zeros.Goals as goal
 
 pub loop-i-init : goal.loop-i-init

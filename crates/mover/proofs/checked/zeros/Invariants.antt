@@ -4,7 +4,7 @@ use Prim.Native.Nat.{◌≤◌, ◌-◌}
 use lib.Dec.{eqb}
 use lib.ListN.{length, drop}
 use Rattle.rules.specs.Common.{all}
-use Rattle.moves.proofs.Laws.Digits.{zero_digit}
+use Rattle.moves.specs.Laws.Digits.{zero_digit}
 use Rattle.mover.proofs.checked.zeros.Given as goal
 
 abbrev pub invariant-loop-i : goal.invariant-loop-i

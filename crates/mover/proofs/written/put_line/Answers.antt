@@ -4,7 +4,7 @@ use Prim.Native.Nat.{◌+◌, ◌*◌, ◌≤◌}
 use native.Mathlib.Omega.{arith}
 use lib.ListN.{length, length-take, length-drop}
 use Rattle.stored.specs.Lines.{line_size_in}
-use Rattle.moves.proofs.Laws.Digits.{told}
+use Rattle.moves.specs.Laws.Digits.{told}
 use Rattle.moves.proofs.Laws.Moves.{moves_long, moves_small, moves_fit}
 use Rattle.mover.specs.Parts.{laid_line}
 use Rattle.mover.proofs.written.put_line.Goals as goal

@@ -8,8 +8,8 @@ use lib.ListN.{length}
 use borrow.Author.Rules.{rules}
 use Rattle.stored.specs.Lines.{line_size_in}
 use Rattle.writing.specs.Laid.{laid_nothing}
-use Rattle.moves.specs.LinesThatMove.{line_moves}
-use Rattle.moves.proofs.Laws.Moves.{moved_pieces, piece}
+use Rattle.moves.specs.Laws.Moves.{line_moves}
+use Rattle.moves.specs.Laws.Moves.{moved_pieces, piece}
 use Rattle.mover.specs.Walks.{room_for_next, next_place, the_piece, pieces_turn}
 use Rattle.mover.proofs.written.put_lines.Goals as goal
 use Rattle.mover.proofs.written.put_lines.Goals.{After-line_at, In-loop-line}

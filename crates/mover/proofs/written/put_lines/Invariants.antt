@@ -5,7 +5,7 @@ use Prim.Native.Nat.{◌*◌, ◌-◌, ◌≤◌}
 use lib.ListN.{length}
 use Rattle.stored.specs.Lines.{line_size_in}
 use Rattle.writing.specs.Laid.{laid}
-use Rattle.moves.proofs.Laws.Moves.{moved_pieces}
+use Rattle.moves.specs.Laws.Moves.{moved_pieces}
 use Rattle.mover.proofs.written.put_lines.Given as goal
 
 abbrev pub invariant-loop-line : goal.invariant-loop-line

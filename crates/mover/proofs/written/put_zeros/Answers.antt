@@ -4,7 +4,7 @@ use mathlib.Core.Path.{◌≡◌, refl, sym}
 use Prim.Native.Nat.{◌+◌}
 use native.Mathlib.Omega.{arith}
 use lib.ListN.{replicate, length-replicate, length-set, replicate-append-replicate}
-use Rattle.moves.proofs.Laws.Digits.{zero_digit}
+use Rattle.moves.specs.Laws.Digits.{zero_digit}
 use Rattle.writing.specs.Laid.{laid_nothing}
 use Rattle.mover.specs.Parts.{laid_turn}
 use Rattle.mover.proofs.written.put_zeros.Goals as goal

@@ -3,7 +3,7 @@
 use mathlib.Core.Path.{◌≡◌}
 use Prim.Native.Nat.{◌-◌, ◌≤◌}
 use lib.ListN.{length, replicate}
-use Rattle.moves.proofs.Laws.Digits.{zero_digit}
+use Rattle.moves.specs.Laws.Digits.{zero_digit}
 use Rattle.writing.specs.Laid.{laid}
 use Rattle.mover.proofs.written.put_zeros.Given as goal
 

@@ -8,7 +8,7 @@ use lib.ListN.{length, get_or, length-set}
 use Rattle.rules.specs.SettingsAndUnitTable.{rows, row, name}
 use Rattle.rows.specs.Laws.Rows.{length_row}
 use Rattle.index.specs.TheSortedIndex.{before}
-use Rattle.index.proofs.Laws.Right.{entry_name}
+use Rattle.index.specs.Laws.Right.{entry_name}
 use Rattle.sorted.specs.Sifting.{Sifting, sift_ends, sift_stops, sift_swaps, swap_long, swap_own}
 use Rattle.std.proofs.Common.{not}
 use Rattle.sorted.proofs.made.sift_down.Goals as goal

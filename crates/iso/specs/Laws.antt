@@ -1,0 +1,2 @@
+-- Facts that contracts and laws of the definitions speak of; the laws stand in proofs/.
+pub mod Worth
