@@ -1,4 +1,4 @@
-// What is handed back: the number and the position of each refusal, in one place; and a length as it is found, before it is handed back.
+// What is handed back: the number and the position of each refusal, in one place.
 #![tactic(auto)]
 
 ghost use Rattle.std.specs.Prelude.{◌≡◌};
@@ -6,13 +6,6 @@ ghost use Rattle.rules.specs.NumbersHandedBack.{number, position, refusal, done}
 
 use lengths::duration::zero;
 use rules::{Answer, Length, Refusal};
-
-// What the parts of a text come to, or why they are refused.
-#[derive(Clone, Copy)]
-pub enum TotalRead {
-    Got(Length),
-    Refused(Refusal),
-}
 
 pub fn done(position: usize, length: Length) -> Answer
     ensures { result ≡ done position length }

@@ -9,17 +9,11 @@ use index::LookedUp;
 use rules::{Answer, Length};
 use settings::fields::bit;
 
-const LARGEST_HALF: u64 = 4_294_967_295;
-
 // Nanoseconds. What they cannot be is malformed: cut to 32 bits it could pass for another number.
 fn held_to_half(word: u64) -> u32
     ensures { result ≡ held_to most_of_a_half word }
 {
-    if word > LARGEST_HALF {
-        u32::MAX
-    } else {
-        word as u32
-    }
+    u32::try_from(word).unwrap_or(u32::MAX)
 }
 
 pub fn length_of(words: &[u64; 3]) -> Length

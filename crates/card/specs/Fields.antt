@@ -1,5 +1,5 @@
 -- Parts of a row that the contracts name. Assumes nothing.
-use Rattle.std.specs.Prelude.{◌≡◌, Bool, true, false, not, ◌&&◌, List, ℕ, ◌<◌, eqb, drop}
+use Rattle.std.specs.Prelude.{◌≡◌, Bool, true, false, not, ◌&&◌, List, ℕ, ◌<◌, eqb, drop, Result, ⊤}
 use Rattle.rules.specs.declared.ByteSet.{ByteSet}
 use Rattle.rules.specs.declared.Settings.{Settings}
 use Rattle.rules.specs.declared.Refusal.{Refusal}
@@ -12,8 +12,8 @@ use Rattle.rows.specs.Named.{padded}
 use Rattle.card.specs.declared.row.Further.{Further}
 use Rattle.card.specs.declared.row.Further.TheVariants.{Nothing, NotLedByE, AsciiSeconds}
 use Rattle.card.specs.declared.row.RowRule.{RowRule}
-use Rattle.card.specs.declared.table.RowsFound.{RowsFound}
-use Rattle.card.specs.declared.table.RowsFound.TheVariants.{Good, WrongSize, Bad}
+use Rattle.card.specs.declared.table.TableFault.{TableFault}
+use Rattle.card.specs.declared.table.TableFault.TheVariants.{WrongSize, BadRow}
 
 -- ---- names
 
@@ -72,10 +72,10 @@ tested rule true table i = ruled rule table i
 tested rule false table i = alone rule (row table i)
 
 -- what was found, said of a table
-abbrev pub said : Refusal → (ℕ → Refusal) → RowsFound → Outcome (Unit {0})
-said size bad Good = got tt
-said size bad WrongSize = refused size
-said size bad (Bad i) = refused (bad i)
+abbrev pub said : Refusal → (ℕ → Refusal) → Result ⊤ TableFault → Outcome (Unit {0})
+said size bad (got found) = got found
+said size bad (refused WrongSize) = refused size
+said size bad (refused (BadRow i)) = refused (bad i)
 
 -- a table's size, and then its rows
 abbrev pub tabled : Refusal → ℕ → (ℕ → Bool) → (ℕ → Refusal) → List ℕ → Outcome (Unit {0})

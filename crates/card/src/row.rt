@@ -1,7 +1,7 @@
 // What is asked of one row, by itself and beside another's name.
-ghost use Rattle.std.specs.Prelude.{◌≡◌, true, false, ◌+◌, ◌-◌, ◌%◌, eqb, length, take, drop};
+ghost use Rattle.std.specs.Prelude.{◌≡◌, true, false, ◌&&◌, ◌%◌, eqb, length, drop};
 ghost use Rattle.rules.specs.Common.{all, between, same};
-ghost use Rattle.rules.specs.SettingsAndUnitTable.{LETTER, is, row_size, kind_at, zeros_at, name, led_by_e};
+ghost use Rattle.rules.specs.SettingsAndUnitTable.{LETTER, is, row_size, zeros_at, name, led_by_e};
 ghost use Rattle.settings.specs.Sets.{bytes_of, passes};
 ghost use Rattle.rows.specs.Named.{padded};
 ghost use Rattle.card.specs.Fields.{Letterless, Simple, asked_further, name_right, fields_right, alone};
@@ -19,6 +19,7 @@ const LAST_KIND: u8 = 7;
 const SECONDS: u8 = 3;
 
 // What is asked of a row after its form. It stands last, so that it is asked once a row: within the form it would be asked once a byte of each name.
+// An enum, and no closure: `table::unit_rule` hands a rule out, and here no function hands out a closure.
 #[derive(Clone, Copy)]
 pub enum Further {
     Nothing,
@@ -42,19 +43,12 @@ fn zeros(row: &[u8]) -> bool
     half_at(row, ZEROS_AT) == 0
 }
 
-// Whether the words of the name's room are zero from this place on.
-fn zero_words(row: &[u8], from: usize) -> bool
-    requires { (length row.now ≡ row_size) × (from % 8 ≡ 1) }
-    ensures { result ≡ all (eqb 0) (take (kind_at - from) (drop from row.now)) }
+// Whether these words are zero.
+fn zero_words(words: &[u8]) -> bool
+    requires { length words.now % 8 ≡ 0 }
+    ensures { result ≡ all (eqb 0) words.now }
 {
-    let mut at = from;
-    while at < KIND_AT {
-        if word_at(row, at) != 0 {
-            return false;
-        }
-        at += WORD;
-    }
-    true
+    words.chunks_exact(WORD).all(|word| word_at(word, 0) == 0)
 }
 
 // A name of 1 to 32 bytes, and zeros after it. What stands behind the name in the word that it ends in is asked at once, and then each word after it.
@@ -63,10 +57,7 @@ fn padded(row: &[u8]) -> bool
     ensures { result ≡ padded row.now }
 {
     let size = row[0];
-    if size < 1 {
-        return false;
-    }
-    if size > NAME_ROOM {
+    if size < 1 || size > NAME_ROOM {
         return false;
     }
     if size == NAME_ROOM {
@@ -74,10 +65,7 @@ fn padded(row: &[u8]) -> bool
     }
     let over = size % 8;
     let last = NAME_AT + (size - over) as usize;
-    if word_at(row, last) >> (BYTE_BITS * over as u64) != 0 {
-        return false;
-    }
-    zero_words(row, last + WORD)
+    word_at(row, last) >> (BYTE_BITS * over as u64) == 0 && zero_words(&row[last + WORD..KIND_AT])
 }
 
 // Whether a row has a name as nearly all have one: fewer than eight bytes, all of them letters, and zeros after it.
@@ -86,63 +74,37 @@ fn short_letters(row: &[u8]) -> bool
     ensures { result ≡ true → (padded row.now ≡ true) × (all (is LETTER) (name row.now) ≡ true) }
 {
     let size = row[0] as u64;
-    if size < 1 {
-        return false;
-    }
-    if size > 7 {
+    if size < 1 || size > 7 {
         return false;
     }
     let bits = BYTE_BITS * size;
-    if word_at(row, NAME_AT) >> bits != 0 {
-        return false;
-    }
-    if letter_marks(row, NAME_AT) != HIGH_BITS >> (WORD_BITS - bits) {
-        return false;
-    }
-    zero_words(row, SECOND_WORD_AT)
+    word_at(row, NAME_AT) >> bits == 0
+        && letter_marks(row, NAME_AT) == HIGH_BITS >> (WORD_BITS - bits)
+        && zero_words(&row[SECOND_WORD_AT..KIND_AT])
 }
 
 // Whether a row is as nearly all are: a short name of letters, and fields that are right as they stand. One test that is enough for such a row, before
 // document 01's whole test.
-pub fn simple(row: &[u8]) -> bool
+fn simple(row: &[u8]) -> bool
     requires { length row.now ≡ row_size }
     ensures { result ≡ true → Simple row.now }
 {
-    if !short_letters(row) {
-        return false;
-    }
-    if row[KIND_AT] > LAST_KIND {
-        return false;
-    }
-    if !zeros(row) {
-        return false;
-    }
-    plainly_small(row)
+    short_letters(row) && row[KIND_AT] <= LAST_KIND && zeros(row) && plainly_small(row)
 }
 
 // Whether the set holds none of these bytes.
 fn none_held(set: AsciiSet, bytes: &[u8]) -> bool
     ensures { result ≡ all (passes (bytes_of set) false) bytes.now }
 {
-    let mut i = 0;
-    while i < bytes.len() {
-        if holds(set, bytes[i]) {
-            return false;
-        }
-        i += 1;
-    }
-    true
+    bytes.iter().all(|b| !holds(set, *b))
 }
 
-// Whether the set holds none of eight bytes. It holds no letter, so that it is asked only where one of them is none.
-fn word_accepted(set: AsciiSet, word: &[u8]) -> bool
-    requires { (length word.now ≡ 8) × Letterless (bytes_of set) }
-    ensures { result ≡ all (passes (bytes_of set) false) word.now }
+// Whether the set holds none of these bytes. It holds no letter, so that eight of them are asked one by one only where one of them is none.
+fn part_accepted(set: AsciiSet, part: &[u8]) -> bool
+    requires { Letterless (bytes_of set) }
+    ensures { result ≡ all (passes (bytes_of set) false) part.now }
 {
-    if letter_marks(word, 0) == HIGH_BITS {
-        return true;
-    }
-    none_held(set, word)
+    part.len() == WORD && letter_marks(part, 0) == HIGH_BITS || none_held(set, part)
 }
 
 // Whether the set holds none of the name's bytes, eight at a time.
@@ -150,14 +112,7 @@ fn name_accepted(set: AsciiSet, name: &[u8]) -> bool
     requires { Letterless (bytes_of set) }
     ensures { result ≡ all (passes (bytes_of set) false) name.now }
 {
-    let mut rest = name;
-    while rest.len() >= WORD {
-        if !word_accepted(set, &rest[..WORD]) {
-            return false;
-        }
-        rest = &rest[WORD..];
-    }
-    none_held(set, rest)
+    name.chunks(WORD).all(|part| part_accepted(set, part))
 }
 
 // A name in its room that the set holds no byte of.
@@ -165,10 +120,7 @@ fn name_right(set: AsciiSet, row: &[u8]) -> bool
     requires { (length row.now ≡ row_size) × Letterless (bytes_of set) }
     ensures { result ≡ name_right set row.now }
 {
-    if !padded(row) {
-        return false;
-    }
-    name_accepted(set, name_of(row))
+    padded(row) && name_accepted(set, name_of(row))
 }
 
 // The fields behind the name.
@@ -176,13 +128,7 @@ fn fields_right(row: &[u8]) -> bool
     requires { length row.now ≡ row_size }
     ensures { result ≡ fields_right row.now }
 {
-    if row[KIND_AT] > LAST_KIND {
-        return false;
-    }
-    if !zeros(row) {
-        return false;
-    }
-    product_in_range(row)
+    row[KIND_AT] <= LAST_KIND && zeros(row) && product_in_range(row)
 }
 
 // Whether two rows have one name. Both have zeros after it, so that the name's whole room decides, a word at a time, and where it is the same the sizes
@@ -192,19 +138,11 @@ pub fn same_name(row: &[u8], other: &[u8]) -> bool
     requires other_len { (length other.now ≡ row_size) × (padded other.now ≡ true) }
     ensures { result ≡ same (name row.now) (name other.now) }
 {
-    if word_at(row, NAME_AT) != word_at(other, NAME_AT) {
-        return false;
-    }
-    if word_at(row, LAST_WORD_AT) != word_at(other, LAST_WORD_AT) {
-        return false;
-    }
-    if word_at(row, SECOND_WORD_AT) != word_at(other, SECOND_WORD_AT) {
-        return false;
-    }
-    if word_at(row, THIRD_WORD_AT) != word_at(other, THIRD_WORD_AT) {
-        return false;
-    }
-    row[0] == other[0]
+    word_at(row, NAME_AT) == word_at(other, NAME_AT)
+        && word_at(row, LAST_WORD_AT) == word_at(other, LAST_WORD_AT)
+        && word_at(row, SECOND_WORD_AT) == word_at(other, SECOND_WORD_AT)
+        && word_at(row, THIRD_WORD_AT) == word_at(other, THIRD_WORD_AT)
+        && row[0] == other[0]
 }
 
 fn led_by_e(row: &[u8]) -> bool
@@ -219,14 +157,7 @@ fn led_by_e(row: &[u8]) -> bool
 fn ascii_name(name: &[u8]) -> bool
     ensures { result ≡ all (between 0 127) name.now }
 {
-    let mut i = 0;
-    while i < name.len() {
-        if name[i] > 127 {
-            return false;
-        }
-        i += 1;
-    }
-    true
+    name.iter().all(|b| *b <= 127)
 }
 
 // What makes a row of letters a numeral: seconds, and a name in ASCII.
@@ -234,14 +165,11 @@ fn ascii_seconds(row: &[u8]) -> bool
     requires { length row.now ≡ row_size }
     ensures { result ≡ asked_further Further.AsciiSeconds row.now }
 {
-    if row[KIND_AT] != SECONDS {
-        return false;
-    }
-    ascii_name(name_of(row))
+    row[KIND_AT] == SECONDS && ascii_name(name_of(row))
 }
 
 // What is asked of a row after its form.
-pub fn further_right(further: Further, row: &[u8]) -> bool
+fn further_right(further: Further, row: &[u8]) -> bool
     requires { (length row.now ≡ row_size) × (padded row.now ≡ true) }
     ensures { result ≡ asked_further further row.now }
 {
@@ -252,18 +180,28 @@ pub fn further_right(further: Further, row: &[u8]) -> bool
     }
 }
 
+// What is asked of a row's form. It stands apart and is called cold, so that the registers are left to the short test, which nearly all rows pass.
+#[cold]
+#[inline(never)]
+fn formed(set: AsciiSet, row: &[u8]) -> bool
+    requires { (length row.now ≡ row_size) × Letterless (bytes_of set) }
+    ensures { result ≡ (name_right set row.now && fields_right row.now) }
+{
+    name_right(set, row) && fields_right(row)
+}
+
+// The same, with the short test first.
+fn soon_formed(set: AsciiSet, row: &[u8]) -> bool
+    requires { (length row.now ≡ row_size) × Letterless (bytes_of set) }
+    ensures { result ≡ (name_right set row.now && fields_right row.now) }
+{
+    simple(row) || formed(set, row)
+}
+
 // All that is asked of a row by itself; what is left is that no earlier row has its name.
 pub fn row_alone(rule: RowRule, row: &[u8]) -> bool
     requires { (length row.now ≡ row_size) × Letterless (bytes_of rule.set) }
     ensures { result ≡ alone rule row.now }
 {
-    let set = rule.set;
-    if !name_right(set, row) {
-        return false;
-    }
-    if !fields_right(row) {
-        return false;
-    }
-    let further = rule.further;
-    further_right(further, row)
+    soon_formed(rule.set, row) && further_right(rule.further, row)
 }

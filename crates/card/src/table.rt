@@ -1,20 +1,19 @@
 // The check of a table of units and of numerals, by its first bad row; and the card's check, settings first.
-ghost use Rattle.std.specs.Prelude.{◌≡◌, true, false, ℕ, ◌<◌, ◌≤◌, List};
+ghost use Rattle.std.specs.Prelude.{◌≡◌, true, ℕ, ◌<◌, ◌≤◌, List, not};
 ghost use Rattle.rules.specs.declared.Refusal.{Refusal};
+ghost use Rattle.rules.specs.Common.{same};
 ghost use Rattle.rules.specs.NumbersHandedBack.{got};
 ghost use Rattle.rules.specs.SettingsAsWords.{settings_of, card_of};
-ghost use Rattle.rules.specs.SettingsAndUnitTable.{settings_check, rows, row, name, named, e_may_lead, most_rows, row_accepted, numeral_accepted, table_check, line_check, numerals_check, card_check};
-ghost use Rattle.settings.specs.Outcomes.{outcome};
+ghost use Rattle.rules.specs.SettingsAndUnitTable.{settings_check, rows, row, name, named, e_may_lead, most_rows, row_accepted, card_check};
 ghost use Rattle.rules.specs.Laws.Lists.{Bytes};
 ghost use Rattle.settings.specs.Sets.{bytes_of};
 ghost use Rattle.rows.specs.Named.{padded};
-ghost use Rattle.card.specs.Fields.{Letterless, unnameable, asked_further, Simple, Each, ruled, tested, said, tabled};
+ghost use Rattle.card.specs.Fields.{Letterless, unnameable, Each, alone, ruled, tested, said, tabled};
 ghost use Rattle.card.specs.Laws.Table.{first_bad};
 
-use crate::row::{Further, RowRule, further_right, row_alone, same_name, simple};
+use crate::row::{Further, RowRule, row_alone, same_name};
 use rows::fields::{ROW_SIZE, row_at};
 use rules::Refusal;
-use settings::Checked;
 use settings::check::settings_check;
 use settings::fields::{before_unit, exponents};
 use settings::sets::{AsciiSet, either, empty, inner_delimiters, outer_delimiters};
@@ -46,21 +45,21 @@ fn unnameable(settings: &[u64; 25]) -> AsciiSet
     )
 }
 
+// Whether two rows of a table have one name.
+fn named_alike(table: &[u8], i: usize, j: usize) -> bool
+    requires { (i < rows table.now) × (j < rows table.now) × (padded (row table.now i) ≡ true) × (padded (row table.now j) ≡ true) }
+    ensures { result ≡ same (name (row table.now i)) (name (row table.now j)) }
+{
+    same_name(row_at(table, i), row_at(table, j))
+}
+
 // Whether an earlier row has this row's name: then this row, the later, is bad.
 fn named_before(table: &[u8], i: usize) -> bool
     requires i_bound { i < rows table.now }
     requires by_index { (j : ℕ) → j ≤ i → padded (row table.now j) ≡ true }
     ensures { result ≡ named table.now (name (row table.now i)) i }
 {
-    let own = row_at(table, i);
-    let mut earlier = 0;
-    while earlier < i {
-        if same_name(row_at(table, earlier), own) {
-            return true;
-        }
-        earlier += 1;
-    }
-    false
+    (0..i).any(|earlier| named_alike(table, earlier, i))
 }
 
 // Whether something can stand between a number and a name led by `e`, so that the `e` begins no exponent: an exponent, or a
@@ -69,135 +68,69 @@ fn e_may_lead(settings: &[u64; 25]) -> bool
     requires { settings_check (settings_of settings.now) ≡ got tt }
     ensures { result ≡ e_may_lead (settings_of settings.now) }
 {
-    if exponents(settings) {
-        return true;
-    }
-    if !before_unit(settings) {
-        return false;
-    }
-    !empty(inner_delimiters(settings))
+    exponents(settings) || before_unit(settings) && !empty(inner_delimiters(settings))
 }
 
-// A row by itself and, where its name is to be held against those before it, among them. Whoever knows otherwise that all names are different
-// leaves that out, and the code that tests a row is one piece for both.
-fn row_accepted(rule: RowRule, against: bool, table: &[u8], i: usize) -> bool
-    requires letterless { Letterless (bytes_of rule.set) }
-    requires i_bound { i < rows table.now }
-    requires by_index { (j : ℕ) → j < i → padded (row table.now j) ≡ true }
-    ensures { result ≡ tested rule against table.now i }
+// How many rows, from the first on, have all that is asked of a row by itself.
+fn rows_alone(rule: RowRule, table: &[u8]) -> usize
+    requires { Letterless (bytes_of rule.set) }
+    ensures { result ≡ first_bad (λ i. alone rule (row table.now i)) 0 (rows table.now) }
 {
-    if !row_alone(rule, row_at(table, i)) {
-        return false;
-    }
-    if against {
-        return !named_before(table, i);
-    }
-    true
-}
-
-// How many rows of a table, from the first on, are as nearly all are.
-fn simple_rows(table: &[u8]) -> usize
-    ensures { (result ≤ rows table.now) × Each Simple table.now result }
-{
-    let count = table.len() / ROW_SIZE;
-    let mut i = 0;
-    while i < count {
-        if !simple(row_at(table, i)) {
-            return i;
-        }
-        i += 1;
-    }
-    i
-}
-
-// How many of them, from the first on, have what is asked further: most often that is nothing.
-fn further_rows(further: Further, table: &[u8], count: usize) -> usize
-    requires { (count ≤ rows table.now) × Each Simple table.now count }
-    ensures { (result ≤ count) × Each (λ row. asked_further further row ≡ true) table.now result }
-{
-    if let Further::Nothing = further {
-        return count;
-    }
-    let mut i = 0;
-    while i < count {
-        if !further_right(further, row_at(table, i)) {
-            return i;
-        }
-        i += 1;
-    }
-    i
+    table
+        .chunks_exact(ROW_SIZE)
+        .take_while(|row| row_alone(rule, row))
+        .count()
 }
 
 // How many of them, from the first on, have a name that none before has. The first has one.
-fn different_rows(table: &[u8], count: usize) -> usize
-    requires { (count ≤ rows table.now) × Each Simple table.now count }
-    ensures { (result ≤ count) × ((j : ℕ) → j < result → named table.now (name (row table.now j)) j ≡ false) }
+fn rows_apart(table: &[u8], count: usize) -> usize
+    requires { (count ≤ rows table.now) × Each (λ row. padded row ≡ true) table.now count }
+    ensures { result ≡ first_bad (λ i. not (named table.now (name (row table.now i)) i)) 0 count }
 {
-    let mut i = 1;
-    while i < count {
-        if named_before(table, i) {
-            return i;
-        }
-        i += 1;
-    }
-    count
+    (1..count)
+        .find(|i| named_before(table, *i))
+        .unwrap_or(count)
 }
 
-// How many rows, from the first on, are accepted by the short test. It is made in passes, of the rows by themselves, of what is asked further and of
-// the names, which takes fewer instructions than all of it row by row.
-fn simply_accepted(rule: RowRule, against: bool, table: &[u8]) -> usize
-    requires { Letterless (bytes_of rule.set) }
-    ensures { (result ≤ rows table.now) × ((j : ℕ) → j < result → tested rule against table.now j ≡ true) }
-{
-    let further = rule.further;
-    let simple = further_rows(further, table, simple_rows(table));
-    if against {
-        return different_rows(table, simple);
-    }
-    simple
-}
-
-// The first row that is not accepted, or how many rows there are. Where the short test ends, document 01's whole test goes on.
+// The first row that is not accepted, or how many rows there are. The names are asked last, of the rows that are right by themselves: that takes fewer
+// instructions than all of it row by row. Whoever knows otherwise that all names are different leaves them out. That is a flag, and no closure: it is tested once, and a row's tests are one piece of
+// code for both.
 fn first_bad(rule: RowRule, against: bool, table: &[u8]) -> usize
     requires { Letterless (bytes_of rule.set) }
     ensures { result ≡ first_bad (tested rule against table.now) 0 (rows table.now) }
 {
-    let count = table.len() / ROW_SIZE;
-    let mut i = simply_accepted(rule, against, table);
-    while i < count {
-        if !row_accepted(rule, against, table, i) {
-            return i;
-        }
-        i += 1;
+    let alone = rows_alone(rule, table);
+    if against {
+        rows_apart(table, alone)
+    } else {
+        alone
     }
-    i
 }
 
-// What the check of a table finds: nothing wrong, a size that is no number of rows or too many of them, or the first bad row.
+// What is wrong with a table: a size that is no number of rows or too many of them, or its first bad row.
 #[derive(Clone, Copy)]
-pub enum RowsFound {
-    Good,
+pub enum TableFault {
     WrongSize,
-    Bad(u8),
+    BadRow(u8),
 }
 
 // At most so many rows, all of them whole, and each by the rule, held against the names before it or not. A byte counts the rows.
-pub fn rows_found(most: usize, rule: RowRule, against: bool, table: &[u8]) -> RowsFound
+pub fn rows_found(most: usize, rule: RowRule, against: bool, table: &[u8]) -> Result<(), TableFault>
     requires { (most ≤ most_rows) × Letterless (bytes_of rule.set) }
     ensures { (size : Refusal) (bad : ℕ → Refusal) → said size bad result ≡ tabled size most (tested rule against table.now) bad table.now }
 {
     if table.len() % ROW_SIZE != 0 {
-        return RowsFound::WrongSize;
+        return Err(TableFault::WrongSize);
     }
     let count = table.len() / ROW_SIZE;
     if count > most {
-        return RowsFound::WrongSize;
+        return Err(TableFault::WrongSize);
     }
     let bad = first_bad(rule, against, table);
     if bad < count {
-        return RowsFound::Bad(bad as u8);
+        return Err(TableFault::BadRow(bad as u8));
     }
-    RowsFound::Good
+    Ok(())
 }
 
 // What is asked of a row of units.
@@ -216,76 +149,67 @@ pub fn unit_rule(settings: &[u64; 25]) -> RowRule
     }
 }
 
-// The hall's table, under accepted settings.
-fn table_check(settings: &[u64; 25], hall: &[u8]) -> Checked
-    requires { settings_check (settings_of settings.now) ≡ got tt }
-    ensures { outcome result ≡ table_check (settings_of settings.now) hall.now }
-{
-    match rows_found(MOST_ROWS, unit_rule(settings), true, hall) {
-        RowsFound::Good => Checked::Accepted,
-        RowsFound::WrongSize => Checked::Refused(Refusal::TableSize),
-        RowsFound::Bad(row) => Checked::Refused(Refusal::BadRow(row as usize)),
-    }
-}
-
-// The line's table. One without rows is accepted at once: most cards are without.
-fn line_check(settings: &[u64; 25], line: &[u8]) -> Checked
-    requires { settings_check (settings_of settings.now) ≡ got tt }
-    ensures { outcome result ≡ line_check (settings_of settings.now) line.now }
-{
-    if line.len() == 0 {
-        return Checked::Accepted;
-    }
-    match rows_found(MOST_ROWS, unit_rule(settings), true, line) {
-        RowsFound::Good => Checked::Accepted,
-        RowsFound::WrongSize => Checked::Refused(Refusal::LineSize),
-        RowsFound::Bad(row) => Checked::Refused(Refusal::BadLineRow(row)),
-    }
-}
-
 // What is asked of a numeral.
-fn numeral_rule() -> RowRule
-    ensures letterless { Letterless (bytes_of result.set) }
-    ensures by_index { (numerals : List ℕ) → Bytes numerals → (i : ℕ) → ruled result numerals i ≡ numeral_accepted numerals i }
-{
-    RowRule {
-        set: AsciiSet {
-            low: BELOW_64,
-            high: NO_LETTERS_FROM_64,
-        },
-        further: Further::AsciiSeconds,
-    }
-}
+const NUMERAL_RULE: RowRule = RowRule {
+    set: AsciiSet {
+        low: BELOW_64,
+        high: NO_LETTERS_FROM_64,
+    },
+    further: Further::AsciiSeconds,
+};
 
-// The numeral table, which most cards are without too.
-fn numerals_check(numerals: &[u8]) -> Checked
-    ensures { outcome result ≡ numerals_check numerals.now }
+// A table by its rule, and what is said of one that is not accepted. One without rows is accepted at once: most cards have no line and no numerals.
+fn table_checked<B: FnOnce(u8) -> Refusal>(
+    most: usize,
+    rule: RowRule,
+    table: &[u8],
+    size: Refusal,
+    bad: B,
+) -> Result<(), Refusal>
+    requires fits { (most ≤ most_rows) × Letterless (bytes_of rule.set) }
+    requires callable { B.IsAlwaysCallable bad }
+    ensures { (named : ℕ → Refusal) → ((i : ℕ) (r : Refusal) → i < 256 → B.post bad i r → r ≡ named i) → result ≡ tabled size most (ruled rule table.now) named table.now }
 {
-    if numerals.len() == 0 {
-        return Checked::Accepted;
+    if table.is_empty() {
+        return Ok(());
     }
-    match rows_found(MOST_NUMERALS, numeral_rule(), true, numerals) {
-        RowsFound::Good => Checked::Accepted,
-        RowsFound::WrongSize => Checked::Refused(Refusal::NumeralsSize),
-        RowsFound::Bad(row) => Checked::Refused(Refusal::BadNumeral(row)),
+    match rows_found(most, rule, true, table) {
+        Ok(()) => Ok(()),
+        Err(TableFault::WrongSize) => Err(size),
+        Err(TableFault::BadRow(row)) => Err(bad(row)),
     }
 }
 
 // Settings first, then the hall's table, then the line's, then the numerals.
-pub fn card_check(settings: &[u64; 25], hall: &[u8], line: &[u8], numerals: &[u8]) -> Checked
-    ensures { outcome result ≡ card_check (card_of settings.now hall.now line.now numerals.now) }
+pub fn card_check(
+    settings: &[u64; 25],
+    hall: &[u8],
+    line: &[u8],
+    numerals: &[u8],
+) -> Result<(), Refusal>
+    ensures { result ≡ card_check (card_of settings.now hall.now line.now numerals.now) }
 {
-    let checked = settings_check(settings);
-    let Checked::Accepted = checked else {
-        return checked;
-    };
-    let of_the_hall = table_check(settings, hall);
-    let Checked::Accepted = of_the_hall else {
-        return of_the_hall;
-    };
-    let of_the_line = line_check(settings, line);
-    let Checked::Accepted = of_the_line else {
-        return of_the_line;
-    };
-    numerals_check(numerals)
+    settings_check(settings)?;
+    let rule = unit_rule(settings);
+    table_checked(
+        MOST_ROWS,
+        rule,
+        hall,
+        Refusal::TableSize,
+        |row| Refusal::BadRow(row as usize),
+    )?;
+    table_checked(
+        MOST_ROWS,
+        rule,
+        line,
+        Refusal::LineSize,
+        Refusal::BadLineRow,
+    )?;
+    table_checked(
+        MOST_NUMERALS,
+        NUMERAL_RULE,
+        numerals,
+        Refusal::NumeralsSize,
+        Refusal::BadNumeral,
+    )
 }

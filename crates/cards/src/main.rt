@@ -5,84 +5,51 @@
 
 use answers::refusal;
 use card::table::card_check;
-use lists::cards::{MOST_BYTES, Next, next_card};
+use lists::cards::{Lent, Room};
 use lists::fields::half_at;
-use lists::lines::{first_bytes, read_line};
+use lists::lines::{MOST_ENTRIES, read_line, until_end};
+use lists::printed::{print_number, print_place};
 use lists::streams::STDOUT;
-use settings::Checked;
-use settings::fields::words_of;
+use rules::Refusal;
 
 // Bytes of the first line.
 const ROUNDS: usize = 9;
 
-// More cards than any list has, since a proved loop has to end.
-const MOST_CARDS: u64 = 1_000_000;
-
-fn check_often<'a>(
-    settings: &[u64; 25],
-    hall: &'a [u8],
-    line: &'a [u8],
-    numerals: &[u8],
-    rounds: u32,
-) -> Checked {
-    let mut left = rounds;
-    while left > 1 {
-        card_check(settings, hall, line, numerals);
-        left -= 1;
-    }
-    card_check(settings, hall, line, numerals)
+fn check(card: Lent<'_>) -> Result<(), Refusal> {
+    card_check(card.settings, card.hall, card.line, card.numerals)
 }
 
-fn print(checked: Checked) {
+fn check_often(card: Lent<'_>, rounds: u32) -> Result<(), Refusal> {
+    for _ in 1..rounds {
+        let _ = check(card);
+    }
+    check(card)
+}
+
+fn print(checked: Result<(), Refusal>) {
     match checked {
-        Checked::Accepted => {
+        Ok(()) => {
             io::write_all(STDOUT, b"0 0\n");
         }
-        Checked::Refused(cause) => {
-            let answer = refusal(cause);
-            io::print_decimal(STDOUT, answer.number as u64);
-            io::write_all(STDOUT, b" ");
-            io::print_decimal(STDOUT, answer.position as u64);
-            io::write_all(STDOUT, b"\n");
-        }
+        Err(cause) => print_place(refusal(cause), b"\n"),
     }
 }
 
-// One card read, checked and printed; false where the list ends.
-fn check_next(rounds: u32) -> bool {
-    let mut hall = [0u8; MOST_BYTES];
-    let mut line = [0u8; MOST_BYTES];
-    let mut numerals = [0u8; MOST_BYTES];
-    let Next::Card(card) = next_card(&mut hall, &mut line, &mut numerals) else {
-        return false;
-    };
-    print(check_often(
-        &words_of(card.settings),
-        first_bytes(&hall, card.hall_size),
-        first_bytes(&line, card.line_size),
-        first_bytes(&numerals, card.numerals_size),
-        rounds,
-    ));
-    true
+// One card read, checked and printed; None where the list ends.
+fn check_next(room: &mut Room, rounds: u32) -> Option<()> {
+    print(check_often(room.next_card()?, rounds));
+    Some(())
 }
 
-// How many cards the list has, each checked and printed.
-fn check_all(rounds: u32) -> u64 {
-    let mut cards: u64 = 0;
-    while cards < MOST_CARDS {
-        if !check_next(rounds) {
-            return cards;
-        }
-        cards += 1;
-    }
-    cards
+fn check_all(rounds: u32) {
+    let mut room = Room::new();
+    let cards = until_end(MOST_ENTRIES, || check_next(&mut room, rounds));
+    print_number(cards, b" cards\n");
 }
 
 fn main() {
     let mut head = [0u8; ROUNDS];
-    if !read_line(&mut head) {
-        return;
+    if read_line(&mut head).is_some() {
+        check_all(half_at(&head, 0));
     }
-    io::print_decimal(STDOUT, check_all(half_at(&head, 0)));
-    io::write_all(STDOUT, b" cards\n");
 }

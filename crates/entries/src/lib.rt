@@ -9,9 +9,9 @@ ghost use Rattle.rules.specs.WhatEveryEntryOwes.{part_answer, total_answer, writ
 use answers::refusal;
 use card::table::card_check;
 use reading::checked::{read_part_checked, read_total_checked};
+use reading::ready::AcceptedCard;
 use reading::shift::{kept, shifted_total_checked};
 use rules::{Answer, Length, ShiftedTotal};
-use settings::Checked;
 
 // One part of a text, from a place on.
 pub fn read_part<'a>(
@@ -25,10 +25,10 @@ pub fn read_part<'a>(
     ensures { result ≡ part_answer (card_of settings.now hall.now line.now numerals.now) text.now place }
 {
     match card_check(settings, hall, line, numerals) {
-        Checked::Refused(cause) => refusal(cause),
-        Checked::Accepted => {
-            let none = &hall[..0];
-            read_part_checked(settings, hall, none, line, none, numerals, text, place)
+        Err(cause) => refusal(cause),
+        Ok(()) => {
+            let card = AcceptedCard::without_indexes(settings, hall, line, numerals);
+            read_part_checked(&card, text, place)
         }
     }
 }
@@ -44,10 +44,10 @@ pub fn read_total<'a>(
     ensures { result ≡ total_answer (card_of settings.now hall.now line.now numerals.now) text.now }
 {
     match card_check(settings, hall, line, numerals) {
-        Checked::Refused(cause) => refusal(cause),
-        Checked::Accepted => {
-            let none = &hall[..0];
-            read_total_checked(settings, hall, none, line, none, numerals, text)
+        Err(cause) => refusal(cause),
+        Ok(()) => {
+            let card = AcceptedCard::without_indexes(settings, hall, line, numerals);
+            read_total_checked(&card, text)
         }
     }
 }
@@ -72,10 +72,10 @@ pub fn shifted_total<'a>(
     ensures { (result.answer ≡ shift_answer total (card_of settings.now hall.now line.now numerals.now) text.now) × (result.total ≡ shifted_record total (card_of settings.now hall.now line.now numerals.now) text.now) }
 {
     match card_check(settings, hall, line, numerals) {
-        Checked::Refused(cause) => kept(total, cause),
-        Checked::Accepted => {
-            let none = &hall[..0];
-            shifted_total_checked(total, settings, hall, none, line, none, numerals, text)
+        Err(cause) => kept(total, cause),
+        Ok(()) => {
+            let card = AcceptedCard::without_indexes(settings, hall, line, numerals);
+            shifted_total_checked(total, &card, text)
         }
     }
 }

@@ -4,10 +4,11 @@
 // down.
 #![tactic(auto)]
 
-use lists::fields::{flag_at, further, length_at, same_length, short_at, word_at};
-use lists::lines::read_line;
-use lists::streams::STDOUT;
-use rules::{DurationRepr, Exponent, Fract, Length, Multiplier};
+use lists::counts::count;
+use lists::fields::{flag_at, further, length_at, short_at, word_at};
+use lists::lines::{MOST_ENTRIES, read_line, until_end};
+use lists::printed::print_number;
+use rules::{DurationRepr, Exponent, Length, Multiplier, Span};
 use value::digits::{parse_digits_strip_zeros, sum_digits};
 use value::evaluation::evaluate;
 
@@ -22,9 +23,6 @@ const MULTIPLIER_AT: usize = 9;
 
 const LENGTH_AT: usize = 35;
 
-// More cases than any list has, since a proved loop has to end.
-const MOST_CASES: u64 = 1_000_000;
-
 // What stands in a line behind the digits of the number.
 #[derive(Clone, Copy)]
 struct Rest {
@@ -32,19 +30,6 @@ struct Rest {
     negative: bool,
     multiplier: Multiplier,
     length: Length,
-}
-
-#[derive(Clone, Copy)]
-enum Turn {
-    End,
-    Agrees,
-    Differs,
-}
-
-#[derive(Clone, Copy)]
-struct Counts {
-    cases: u64,
-    differ: u64,
 }
 
 fn exponent_at(line: &[u8], place: usize) -> Exponent {
@@ -82,58 +67,35 @@ fn agrees(line: &[u8]) -> bool {
     }
     let after = sum_digits(before.number, line, point + 1);
     let rest = rest_at(line, after.end);
-    let exponent = rest.exponent;
-    let multiplier = rest.multiplier;
-    let length = rest.length;
     let typed = DurationRepr {
         negative: rest.negative,
         infinite: false,
         whole,
-        fract: Fract {
+        fract: Span {
             start: point + 1,
             end: after.end,
         },
-        exponent,
-        multiplier,
+        exponent: rest.exponent,
+        multiplier: rest.multiplier,
     };
-    same_length(evaluate(line, typed, after.number), length)
+    evaluate(line, typed, after.number) == rest.length
 }
 
-// What the next line of the list says, if there is one.
-fn next_case() -> Turn {
+// Whether the next line of the list agrees, if there is one.
+fn next_agrees() -> Option<bool> {
     let mut line = [0u8; LINE];
-    if !read_line(&mut line) {
-        return Turn::End;
-    }
-    if agrees(&line) {
-        Turn::Agrees
-    } else {
-        Turn::Differs
-    }
-}
-
-fn count() -> Counts {
-    let mut cases: u64 = 0;
-    let mut differ: u64 = 0;
-    while cases < MOST_CASES {
-        match next_case() {
-            Turn::End => {
-                return Counts { cases, differ };
-            }
-            Turn::Agrees => {}
-            Turn::Differs => {
-                differ += 1;
-            }
-        }
-        cases += 1;
-    }
-    Counts { cases, differ }
+    read_line(&mut line)?;
+    Some(agrees(&line))
 }
 
 fn main() {
-    let counts = count();
-    io::print_decimal(STDOUT, counts.cases);
-    io::write_all(STDOUT, b" cases, ");
-    io::print_decimal(STDOUT, counts.differ);
-    io::write_all(STDOUT, b" differ\n");
+    let mut differ = 0u64;
+    let cases = until_end(MOST_ENTRIES, || {
+        if !next_agrees()? {
+            count(&mut differ);
+        }
+        Some(())
+    });
+    print_number(cases, b" cases, ");
+    print_number(differ, b" differ\n");
 }

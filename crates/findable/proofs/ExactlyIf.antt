@@ -1,5 +1,5 @@
 -- Request two's "exactly if", proved. Assumes nothing.
-use Rattle.std.specs.Prelude.{◌≡◌, Bool, ◌↔◌, ltb, length}
+use Rattle.std.specs.Prelude.{◌≡◌, Bool, ◌↔◌, ltb, length, None}
 use Rattle.std.proofs.Math.Path.{refl}
 use Rattle.std.proofs.Common.{sym, ap, ◌∙◌}
 use Rattle.std.proofs.Math.Bool.{true, false}
@@ -10,7 +10,6 @@ use native.Mathlib.Omega.{arith}
 use Rattle.std.proofs.Math.Dec.{eqb}
 use borrow.Author.Tests.{le-leb, eqb-true, eqb-false, ltb-true, ltb-false}
 use Rattle.rules.specs.declared.Settings.{Settings}
-use Rattle.rules.specs.declared.Found.TheVariants.{Nowhere}
 use Rattle.rules.specs.declared.Refusal.{Refusal}
 use Rattle.rules.specs.declared.Refusal.TheVariants.{TableSize, BadRow, LineSize, BadLineRow, NumeralsSize, BadNumeral}
 use Rattle.rules.specs.ThePartOfTheCrateWeTake.{zero_length, longest_text}
@@ -179,7 +178,7 @@ module _ (card : Card) where
       card_check card ≡ got tt
       → (i : ℕ)
       → i < rows card.hall
-      → ((text : List ℕ) × (finds card text (Hall i) ≡ true)) ↔ (lookup card.line (name (row card.hall i)) ≡ Nowhere)
+      → ((text : List ℕ) × (finds card text (Hall i) ≡ true)) ↔ (lookup card.line (name (row card.hall i)) ≡ None)
   hall_row_exactly good i below =
       (λ (text, found). found_unhidden card text i found, λ unhidden. (text_for s (name (row card.hall i)), (each_row_is_found OfHall good i below unhidden).2))
 

@@ -1,9 +1,7 @@
 -- The two unit tables of a card: where a name stands, and each table by itself. Assumes nothing.
-use Rattle.std.specs.Prelude.{◌≡◌, refl, true, List, [], ℕ, length}
+use Rattle.std.specs.Prelude.{◌≡◌, refl, true, List, [], ℕ, length, Option, Some, None}
 use Rattle.std.proofs.Common.{ap, eq-eqb, eqb-true}
 use Rattle.std.proofs.lemmas.Bool.{false≢true}
-use Rattle.rules.specs.declared.Found.{Found}
-use Rattle.rules.specs.declared.Found.TheVariants.{Row, Nowhere}
 use Rattle.rules.specs.SettingsAndUnitTable.{row_size, row, name, Card, lookup, Holder, Line, Hall, Neither, line_first, stands, held_row}
 use Rattle.rows.specs.Laws.Rows.{length_row}
 use Rattle.rows.specs.Laws.Lookup.{lookup_found}
@@ -35,7 +33,7 @@ held_there OfLine card i = refl
 
 -- a name of its rows that nothing hides: the line's rows win, so one of the hall's is hidden if the line has it
 abbrev pub Unhidden : Whose → Card → List ℕ → Type 0
-Unhidden OfHall card wanted = lookup card.line wanted ≡ Nowhere
+Unhidden OfHall card wanted = lookup card.line wanted ≡ None
 Unhidden OfLine card wanted = Unit {0}
 
 -- the table by itself: the other is empty, so that nothing is hidden
@@ -54,10 +52,10 @@ pub where_it_stands : (hall line wanted : List ℕ) → Stands hall line wanted 
 unfolding stands line_first held_row
 where_it_stands hall line wanted = go (lookup line wanted) refl (lookup hall wanted) refl
   where
-    go : (f : Found) → lookup line wanted ≡ f → (g : Found) → lookup hall wanted ≡ g → Stands hall line wanted (line_first f g)
-    go (Row i) at g behind = let (below, named) = lookup_found line wanted i at in somewhere {at = Line i} (length_row line i below) named
-    go Nowhere at (Row i) behind = let (below, named) = lookup_found hall wanted i behind in somewhere {at = Hall i} (length_row hall i below) named
-    go Nowhere at Nowhere behind = nowhere
+    go : (f : Option ℕ) → lookup line wanted ≡ f → (g : Option ℕ) → lookup hall wanted ≡ g → Stands hall line wanted (line_first f g)
+    go (Some i) at g behind = let (below, named) = lookup_found line wanted i at in somewhere {at = Line i} (length_row line i below) named
+    go None at (Some i) behind = let (below, named) = lookup_found hall wanted i behind in somewhere {at = Hall i} (length_row hall i below) named
+    go None at None behind = nowhere
 
 -- ---- places that are the same
 

@@ -1,11 +1,9 @@
 -- Request seven's rules, computed, each from both sides: the order of names, card A's index, both searches with their counts, and each entry at its
 -- limits. Assumes nothing.
-use Rattle.std.specs.Prelude.{Bool, true, false, not, ◌&&◌, List, [], ◌∷◌, ◌++◌, ℕ, ◌^◌, T, eqb, take, replicate}
+use Rattle.std.specs.Prelude.{Bool, true, false, not, ◌&&◌, List, [], ◌∷◌, ◌++◌, ℕ, ◌^◌, T, eqb, take, replicate, Option, Some, None}
 use Prim.Native.String.{String}
 use Rattle.rules.specs.declared.Answer.{Answer}
 use Rattle.rules.specs.declared.Length.{Length}
-use Rattle.rules.specs.declared.Found.{Found}
-use Rattle.rules.specs.declared.Found.TheVariants.{Row, Nowhere}
 use Rattle.rules.specs.Common.{ascii, all, same}
 use Rattle.rules.specs.ThePartOfTheCrateWeTake.{zero_length}
 use Rattle.rules.specs.NumbersHandedBack.{done}
@@ -57,19 +55,19 @@ checked_so = (tt, tt, tt, tt, tt)
 
 -- ---- both searches find the same, and count what they compare
 
-unfoldable pub same_found : Found → Found → Bool
-same_found (Row i) (Row j) = eqb i j
-same_found (Row i) Nowhere = false
-same_found Nowhere (Row j) = false
-same_found Nowhere Nowhere = true
+unfoldable pub same_found : Option ℕ → Option ℕ → Bool
+same_found (Some i) (Some j) = eqb i j
+same_found (Some i) None = false
+same_found None (Some j) = false
+same_found None None = true
 
-unfoldable pub comes_to : Searched → Found → ℕ → Bool
+unfoldable pub comes_to : Searched → Option ℕ → ℕ → Bool
 comes_to s found compared = same_found s.found found && eqb s.compared compared
 
 -- the name, its row, and the names that the old search compares and that are probed
 pub record Sought : Type 0 where
   pub wanted : List ℕ
-  pub at : Found
+  pub at : Option ℕ
   pub one_by_one : ℕ
   pub probed : ℕ
 
@@ -79,25 +77,25 @@ sought table index c =
     && comes_to (index_search table index c.wanted) c.at c.probed
     && same_found (lookup table c.wanted) c.at
 
-unfoldable pub seek : String → Found → ℕ → ℕ → Sought
+unfoldable pub seek : String → Option ℕ → ℕ → ℕ → Sought
 seek w at rows probes = record { wanted = ascii w; at = at; one_by_one = rows; probed = probes }
 
 pub both_ways :
     T
     (all (sought table_A index_A)
-    (seek "ns" (Row 0) 1 1
-    ∷ seek "ms" (Row 1) 2 3
-    ∷ seek "s" (Row 2) 3 3
-    ∷ seek "min" (Row 3) 4 2
-    ∷ seek "turn" (Row 4) 5 2
-    ∷ seek "block" (Row 5) 6 3
-    ∷ seek "blocks" Nowhere 6 3
-    ∷ seek "a" Nowhere 6 3
-    ∷ seek "z" Nowhere 6 2
-    ∷ seek "" Nowhere 6 3
+    (seek "ns" (Some 0) 1 1
+    ∷ seek "ms" (Some 1) 2 3
+    ∷ seek "s" (Some 2) 3 3
+    ∷ seek "min" (Some 3) 4 2
+    ∷ seek "turn" (Some 4) 5 2
+    ∷ seek "block" (Some 5) 6 3
+    ∷ seek "blocks" None 6 3
+    ∷ seek "a" None 6 3
+    ∷ seek "z" None 6 2
+    ∷ seek "" None 6 3
     ∷ []))
-    × T (all (sought [] []) (seek "s" Nowhere 0 0 ∷ seek "" Nowhere 0 0 ∷ []))
-    × T (all (sought (row_of "s" 3 1 0) (0 ∷ [])) (seek "s" (Row 0) 1 1 ∷ seek "t" Nowhere 1 1 ∷ []))
+    × T (all (sought [] []) (seek "s" None 0 0 ∷ seek "" None 0 0 ∷ []))
+    × T (all (sought (row_of "s" 3 1 0) (0 ∷ [])) (seek "s" (Some 0) 1 1 ∷ seek "t" None 1 1 ∷ []))
 unfolding computing_index row_of table_A index_A same_found comes_to sought seek
 both_ways = (tt, tt, tt)
 

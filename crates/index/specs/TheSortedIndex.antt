@@ -1,11 +1,9 @@
 -- "A sorted index beside the unit table" (request seven): the order of names, the index, the two searches with the names that they compare, and
 -- what the entries that take an index hand back and leave behind, for all arguments. Assumes nothing.
-use Rattle.std.specs.Prelude.{Bool, true, false, ◌&&◌, List, [], ◌∷◌, ◌++◌, ℕ, zero, suc, ◌+◌, ◌*◌, ◌/◌, ltb, eqb, length, get_or, take, drop}
+use Rattle.std.specs.Prelude.{Bool, true, false, ◌&&◌, List, [], ◌∷◌, ◌++◌, ℕ, zero, suc, ◌+◌, ◌*◌, ◌/◌, ltb, eqb, length, get_or, take, drop, Option, Some, None}
 use Rattle.rules.specs.declared.Settings.{Settings}
 use Rattle.rules.specs.declared.Length.{Length}
 use Rattle.rules.specs.declared.Answer.{Answer}
-use Rattle.rules.specs.declared.Found.{Found}
-use Rattle.rules.specs.declared.Found.TheVariants.{Row, Nowhere}
 use Rattle.rules.specs.declared.Refusal.{Refusal}
 use Rattle.rules.specs.declared.Refusal.TheVariants.{BadRow, WrongIndex, WrongLineIndex, Beyond}
 use Rattle.rules.specs.Common.{when◌then◌else◌, same}
@@ -15,23 +13,23 @@ use Rattle.rules.specs.SettingsAndUnitTable.{settings_check, row_size, rows, row
 use Rattle.rules.specs.SettingsAsWords.{card_of}
 use Rattle.rules.specs.WriterAndShiftTotal.{record_after}
 use Rattle.rules.specs.WhatEveryEntryOwes.{read_part, read_total, add_total}
-use Rattle.index.specs.declared.Order.{Order}
-use Rattle.index.specs.declared.Order.TheVariants.{Before, Same, After}
+use Rattle.std.specs.declared.cmp.Ordering.{Ordering}
+use Rattle.std.specs.declared.cmp.Ordering.TheVariants.{Less, Equal, Greater}
 use Rattle.index.specs.declared.Searched.{Searched}
 use Rattle.index.specs.declared.LookedUp.{LookedUp}
 
 -- ---- the order of names: byte by byte as numbers from 0 to 255, a prefix first
 
-unfoldable pub order : List ℕ → List ℕ → Order
-order [] [] = Same
-order [] (b ∷ bs) = Before
-order (a ∷ more) [] = After
-order (a ∷ more) (b ∷ bs) = when ltb a b then Before else when ltb b a then After else order more bs
+unfoldable pub order : List ℕ → List ℕ → Ordering
+order [] [] = Equal
+order [] (b ∷ bs) = Less
+order (a ∷ more) [] = Greater
+order (a ∷ more) (b ∷ bs) = when ltb a b then Less else when ltb b a then Greater else order more bs
 
-unfoldable pub is_before : Order → Bool
-is_before Before = true
-is_before Same = false
-is_before After = false
+unfoldable pub is_before : Ordering → Bool
+is_before Less = true
+is_before Equal = false
+is_before Greater = false
 
 unfoldable pub before : List ℕ → List ℕ → Bool
 before a b = is_before (order a b)
@@ -76,10 +74,10 @@ index_of table = entries_from table 0 (rows table)
 -- ---- the two searches: what each finds, and how many names it compares
 
 abbrev pub no_more : Searched
-no_more = record { found = Nowhere; compared = 0 }
+no_more = record { found = None; compared = 0 }
 
 abbrev pub here : ℕ → Searched
-here i = record { found = Row i; compared = 0 }
+here i = record { found = Some i; compared = 0 }
 
 -- a name compared, and what comes after it
 abbrev pub and_then : Searched → Searched
@@ -94,10 +92,10 @@ row_search_from table wanted i (suc n) =
 unfoldable pub row_search : List ℕ → List ℕ → Searched
 row_search table wanted = row_search_from table wanted 0 (rows table)
 
-unfoldable pub by_order : {A : Type 0} → Order → A → A → A → A
-by_order Before a b c = a
-by_order Same a b c = b
-by_order After a b c = c
+unfoldable pub by_order : {A : Type 0} → Ordering → A → A → A → A
+by_order Less a b c = a
+by_order Equal a b c = b
+by_order Greater a b c = c
 
 -- through the index: what is left are the entries from low up to high, at most n of them. The middle one is probed, by one comparison of three ways,
 -- after which it is out
@@ -114,9 +112,9 @@ unfoldable pub index_search : List ℕ → List ℕ → List ℕ → Searched
 index_search table index wanted = index_search_from table index wanted (rows table) 0 (rows table)
 
 -- the hall's table is searched where the line's has no such row
-unfoldable pub behind : Found → ℕ → ℕ
-behind (Row i) compared = 0
-behind Nowhere compared = compared
+unfoldable pub behind : Option ℕ → ℕ → ℕ
+behind (Some i) compared = 0
+behind None compared = compared
 
 -- over two tables the counts add up
 unfoldable pub compared_in_both : Searched → Searched → ℕ

@@ -1,20 +1,10 @@
 // A sorted index beside a unit table: the types of what its functions hand back; the definitions stand in specs/ and the laws in proofs/.
 #![tactic(auto)]
 
-use rules::Found;
-
-// How a name stands to another: byte by byte, a prefix first.
-#[derive(Clone, Copy)]
-pub enum Order {
-    Before,
-    Same,
-    After,
-}
-
 // What a search of one table comes to: the row, and how many names were compared.
 #[derive(Clone, Copy)]
 pub struct Searched {
-    pub found: Found,
+    pub found: Option<usize>,
     pub compared: usize,
 }
 

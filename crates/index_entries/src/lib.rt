@@ -7,9 +7,9 @@ ghost use Rattle.index.specs.TheSortedIndex.{indexed_of, indexed_part_answer, in
 
 use answers::refusal;
 use reading::checked::{read_part_checked, read_total_checked};
+use reading::ready::AcceptedCard;
 use reading::shift::{kept, shifted_total_checked};
 use rules::{Answer, Length, ShiftedTotal};
-use settings::Checked;
 use sorted::checked::indexed_check;
 
 // One part of a text, from a place on.
@@ -26,10 +26,13 @@ pub fn read_part_indexed<'a>(
     ensures { result ≡ indexed_part_answer (indexed_of settings.now hall.now hall_index.now line.now line_index.now numerals.now) text.now place }
 {
     match indexed_check(settings, hall, hall_index, line, line_index, numerals) {
-        Checked::Refused(cause) => refusal(cause),
-        Checked::Accepted => read_part_checked(
-            settings, hall, hall_index, line, line_index, numerals, text, place,
-        ),
+        Err(cause) => refusal(cause),
+        Ok(()) => {
+            let card = AcceptedCard::with_indexes(
+                settings, hall, hall_index, line, line_index, numerals,
+            );
+            read_part_checked(&card, text, place)
+        }
     }
 }
 
@@ -46,9 +49,12 @@ pub fn read_total_indexed<'a>(
     ensures { result ≡ indexed_total_answer (indexed_of settings.now hall.now hall_index.now line.now line_index.now numerals.now) text.now }
 {
     match indexed_check(settings, hall, hall_index, line, line_index, numerals) {
-        Checked::Refused(cause) => refusal(cause),
-        Checked::Accepted => {
-            read_total_checked(settings, hall, hall_index, line, line_index, numerals, text)
+        Err(cause) => refusal(cause),
+        Ok(()) => {
+            let card = AcceptedCard::with_indexes(
+                settings, hall, hall_index, line, line_index, numerals,
+            );
+            read_total_checked(&card, text)
         }
     }
 }
@@ -67,9 +73,12 @@ pub fn shifted_total_indexed<'a>(
     ensures { (result.answer ≡ indexed_shift_answer total (indexed_of settings.now hall.now hall_index.now line.now line_index.now numerals.now) text.now) × (result.total ≡ indexed_shifted_record total (indexed_of settings.now hall.now hall_index.now line.now line_index.now numerals.now) text.now) }
 {
     match indexed_check(settings, hall, hall_index, line, line_index, numerals) {
-        Checked::Refused(cause) => kept(total, cause),
-        Checked::Accepted => shifted_total_checked(
-            total, settings, hall, hall_index, line, line_index, numerals, text,
-        ),
+        Err(cause) => kept(total, cause),
+        Ok(()) => {
+            let card = AcceptedCard::with_indexes(
+                settings, hall, hall_index, line, line_index, numerals,
+            );
+            shifted_total_checked(total, &card, text)
+        }
     }
 }

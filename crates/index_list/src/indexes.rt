@@ -1,4 +1,5 @@
-// Indexes made, turned and with entries exchanged.
+// Indexes made, turned and with entries exchanged. Settings and table stay two parameters: rows are replaced in a table by `&mut`, and one
+// struct would not serve both.
 use lists::lines::part;
 use lists::sums::{BEGIN, mixed_answer, mixed_bytes};
 use table_entries::{check_index, make_index};
@@ -35,66 +36,20 @@ pub fn make_twice(settings: &[u64; 25], table: &[u8], buffer: &mut [u8], rows: u
 
 // An index that stands there twice, checked as it is and then turned by one entry, by two and so on.
 pub fn turned(settings: &[u64; 25], table: &[u8], twice: &[u8], rows: usize) -> u64 {
-    let mut sum = BEGIN;
-    let mut by = 0;
-    while by < rows {
-        let checked = check_index(settings, table, part(twice, by, rows));
-        sum = mixed_answer(sum, checked);
-        by += 1;
-    }
-    sum
+    (0..rows).fold(BEGIN, |sum, by| {
+        mixed_answer(sum, check_index(settings, table, part(twice, by, rows)))
+    })
 }
 
-fn exchange(index: &mut [u8], first: usize, second: usize) {
-    if first < index.len() {
-        if second < index.len() {
-            let kept = index[first];
-            index[first] = index[second];
-            index[second] = kept;
-        }
-    }
-}
-
-// Checked with two entries exchanged, which are then put back.
-fn check_exchanged(
-    settings: &[u64; 25],
-    table: &[u8],
-    index: &mut [u8],
-    first: usize,
-    second: usize,
-    sum: u64,
-) -> u64 {
-    exchange(index, first, second);
-    let checked = check_index(settings, table, index);
-    exchange(index, first, second);
-    mixed_answer(sum, checked)
-}
-
-// An entry exchanged with each one before it.
-fn exchange_with(
-    settings: &[u64; 25],
-    table: &[u8],
-    index: &mut [u8],
-    second: usize,
-    before: u64,
-) -> u64 {
-    let mut sum = before;
-    let mut first = 0;
-    while first < second {
-        sum = check_exchanged(settings, table, index, first, second, sum);
-        first += 1;
-    }
-    sum
-}
-
-// Every two entries, one pair after the other.
+// Every two entries exchanged, one pair after the other, and put back when the index is checked.
 fn exchange_pairs(settings: &[u64; 25], table: &[u8], index: &mut [u8]) -> u64 {
-    let count = index.len();
     let mut sum = BEGIN;
-    let mut second = 0;
-    while second < count {
-        sum = exchange_with(settings, table, index, second, sum);
-        second += 1;
+    for second in 0..index.len() {
+        for first in 0..second {
+            index.swap(first, second);
+            sum = mixed_answer(sum, check_index(settings, table, index));
+            index.swap(first, second);
+        }
     }
     sum
 }

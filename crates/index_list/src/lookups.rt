@@ -16,15 +16,24 @@ fn mixed_found(sum: u64, found: LookedUp) -> u64 {
     mixed(row, found.compared as u64)
 }
 
-fn look_up_name<'a>(
-    settings: &[u64; 25],
-    hall: &'a [u8],
-    hall_index: &[u8],
-    line: &'a [u8],
-    line_index: &[u8],
-    name: &[u8],
-    sum: u64,
-) -> u64 {
+// The tables of a card with the indexes beside them.
+#[derive(Clone, Copy)]
+pub struct Indexed<'a> {
+    pub settings: &'a [u64; 25],
+    pub hall: &'a [u8],
+    pub hall_index: &'a [u8],
+    pub line: &'a [u8],
+    pub line_index: &'a [u8],
+}
+
+fn look_up_name(card: Indexed<'_>, name: &[u8], sum: u64) -> u64 {
+    let Indexed {
+        settings,
+        hall,
+        hall_index,
+        line,
+        line_index,
+    } = card;
     let by_row = look_up(settings, hall, line, name);
     let indexed = look_up_indexed(settings, hall, hall_index, line, line_index, name);
     mixed_found(mixed_found(sum, by_row), indexed)
@@ -38,63 +47,26 @@ fn name_size(size: u8) -> usize
 }
 
 // The name of a row, the same without its last byte, and with the byte behind it. A row that is not there has none.
-fn look_up_row<'a>(
-    settings: &[u64; 25],
-    hall: &'a [u8],
-    hall_index: &[u8],
-    line: &'a [u8],
-    line_index: &[u8],
-    row: &[u8],
-    before: u64,
-) -> u64 {
-    if row.len() == 0 {
+fn look_up_row(card: Indexed<'_>, row: &[u8], before: u64) -> u64 {
+    let Some(size) = row.first() else {
         return before;
-    }
-    let size = name_size(row[0]);
-    let name = part(row, NAME, size);
-    let shorter = part(row, NAME, (size + ROW - 1) % ROW);
-    let longer = part(row, NAME, size + 1);
-    let mut sum = before;
-    sum = look_up_name(settings, hall, hall_index, line, line_index, name, sum);
-    sum = look_up_name(settings, hall, hall_index, line, line_index, shorter, sum);
-    look_up_name(settings, hall, hall_index, line, line_index, longer, sum)
+    };
+    let size = name_size(*size);
+    [size, (size + ROW - 1) % ROW, size + 1].iter().fold(
+        before,
+        |sum, size| look_up_name(card, part(row, NAME, *size), sum),
+    )
 }
 
 // Each row of a table.
-fn look_up_rows<'a>(
-    settings: &[u64; 25],
-    hall: &'a [u8],
-    hall_index: &[u8],
-    line: &'a [u8],
-    line_index: &[u8],
-    table: &[u8],
-    before: u64,
-) -> u64 {
-    let mut sum = before;
-    let mut row = 0;
-    while row < INDEX {
-        sum = look_up_row(
-            settings,
-            hall,
-            hall_index,
-            line,
-            line_index,
-            row_at(table, row),
-            sum,
-        );
-        row += 1;
-    }
-    sum
+fn look_up_rows(card: Indexed<'_>, table: &[u8], before: u64) -> u64 {
+    (0..INDEX).fold(
+        before,
+        |sum, row| look_up_row(card, row_at(table, row), sum),
+    )
 }
 
 // Each row of both tables.
-pub fn look_up_all<'a>(
-    settings: &[u64; 25],
-    hall: &'a [u8],
-    hall_index: &[u8],
-    line: &'a [u8],
-    line_index: &[u8],
-) -> u64 {
-    let sum = look_up_rows(settings, hall, hall_index, line, line_index, hall, BEGIN);
-    look_up_rows(settings, hall, hall_index, line, line_index, line, sum)
+pub fn look_up_all(card: Indexed<'_>) -> u64 {
+    look_up_rows(card, card.line, look_up_rows(card, card.hall, BEGIN))
 }

@@ -11,44 +11,34 @@ mod replaced;
 
 use index_entries::read_total_indexed;
 use indexes::{INDEX, ROW, TWICE, exchanged, make_twice, turned};
-use lists::cards::{MOST_BYTES, Next, next_card};
-use lists::lines::{first_bytes, part};
-use lists::printed::print_answer;
-use lists::streams::STDOUT;
-use lists::texts::{ROOM, TEXT, Text, next_text};
-use lookups::look_up_all;
+use lists::cards::Room;
+use lists::lines::{MOST_ENTRIES, first_bytes, part, until_end};
+use lists::printed::{print_answer, print_number};
+use lists::texts::{ROOM, TEXT, next_text};
+use lookups::{Indexed, look_up_all};
 use replaced::replace_first;
-use settings::fields::words_of;
 
-// More cards than the list has, since a proved loop has to end.
-const MOST_CARDS: u64 = 1_000_000;
-
-fn print_number(number: u64, behind: &[u8]) {
-    io::print_decimal(STDOUT, number);
-    io::write_all(STDOUT, behind);
-}
-
-// The text behind a card, read through both indexes and with the line's left out, and printed. False where the list ends.
-fn read_next<'a>(
-    settings: &[u64; 25],
-    hall: &'a [u8],
-    hall_index: &[u8],
-    line: &'a [u8],
-    line_index: &[u8],
-) -> bool {
+// The text behind a card, read through both indexes and with the line's left out, and printed. None where the list ends.
+fn read_next(card: Indexed<'_>) -> Option<()> {
     let mut head = [0u8; TEXT];
     let mut buffer = [0u8; ROOM];
-    let Text::Bytes(size) = next_text(&mut head, 0, &mut buffer) else {
-        return false;
-    };
+    let size = next_text(&mut head, 0, &mut buffer)?;
     let text = first_bytes(&buffer, size);
-    print_answer(read_total_indexed(settings, hall, hall_index, line, line_index, b"", text));
-    print_answer(read_total_indexed(settings, hall, hall_index, line, b"", b"", text));
-    true
+    for line_index in [card.line_index, b""] {
+        let Indexed {
+            settings,
+            hall,
+            hall_index,
+            line,
+            ..
+        } = card;
+        print_answer(read_total_indexed(settings, hall, hall_index, line, line_index, b"", text));
+    }
+    Some(())
 }
 
-// Both indexes made, the hall's tried, names looked up through them, and the text behind the card read. False where the list ends.
-fn try_indexes<'a>(settings: &[u64; 25], hall: &'a [u8], line: &'a [u8]) -> bool {
+// Both indexes made, the hall's tried, names looked up through them, and the text behind the card read. None where the list ends.
+fn try_indexes(settings: &[u64; 25], hall: &[u8], line: &[u8]) -> Option<()> {
     let rows = hall.len() / ROW;
     let line_rows = line.len() / ROW;
     let mut of_hall = [0u8; TWICE];
@@ -60,51 +50,32 @@ fn try_indexes<'a>(settings: &[u64; 25], hall: &'a [u8], line: &'a [u8]) -> bool
     print_number(make_twice(settings, line, &mut of_line, line_rows), b" ");
     print_number(turned(settings, hall, &of_hall, rows), b" ");
     print_number(exchanged(settings, hall, &mut index, rows), b" ");
-    let hall_index = part(&of_hall, 0, rows);
-    let line_index = part(&of_line, 0, line_rows);
-    print_number(
-        look_up_all(settings, hall, hall_index, line, line_index),
-        b"\n",
-    );
-    read_next(settings, hall, hall_index, line, line_index)
+    let card = Indexed {
+        settings,
+        hall,
+        hall_index: part(&of_hall, 0, rows),
+        line,
+        line_index: part(&of_line, 0, line_rows),
+    };
+    print_number(look_up_all(card), b"\n");
+    read_next(card)
 }
 
-// All that is tried of the next card of the list. False where the list ends.
-fn try_next() -> bool {
-    let mut hall = [0u8; MOST_BYTES];
-    let mut line = [0u8; MOST_BYTES];
-    let mut numerals = [0u8; MOST_BYTES];
-    let Next::Card(card) = next_card(&mut hall, &mut line, &mut numerals) else {
-        return false;
-    };
-    let settings = words_of(card.settings);
-    let more = try_indexes(
-        &settings,
-        first_bytes(&hall, card.hall_size),
-        first_bytes(&line, card.line_size),
-    );
-    let replaced = replace_first(
-        &settings,
-        &mut hall,
-        card.hall_size,
-        first_bytes(&line, card.line_size),
-    );
+// All that is tried of the next card of the list. None where the list ends.
+fn try_next(room: &mut Room) -> Option<()> {
+    let card = room.next_card()?;
+    let more = try_indexes(card.settings, card.hall, card.line);
+    let hall_size = card.hall.len();
+    let line_size = card.line.len();
+    let others = first_bytes(&room.line, line_size);
+    let replaced = replace_first(&room.settings, &mut room.hall, hall_size, others);
     print_number(replaced, b"\n");
     more
 }
 
-// How many cards the list has, each tried.
-fn try_all() -> u64 {
-    let mut cards: u64 = 0;
-    while cards < MOST_CARDS {
-        if !try_next() {
-            return cards;
-        }
-        cards += 1;
-    }
-    cards
-}
-
+// Each card that the list has.
 fn main() {
-    print_number(try_all(), b" cards\n");
+    let mut room = Room::new();
+    let cards = until_end(MOST_ENTRIES, || try_next(&mut room));
+    print_number(cards, b" cards\n");
 }

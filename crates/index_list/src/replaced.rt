@@ -24,11 +24,9 @@ fn replace_rows(settings: &[u64; 25], table: &mut [u8], index: &mut [u8], others
     let past = index.len() % TWICE + 2;
     let span = others.len() / ROW % TWICE + 1;
     let mut sum = BEGIN;
-    let mut row = 0;
-    while row < past {
+    for row in 0..past {
         let new_row = row_at(others, row % span);
         sum = replace_one(settings, table, index, row, new_row, sum);
-        row += 1;
     }
     mixed_bytes(sum, table)
 }

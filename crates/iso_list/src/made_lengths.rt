@@ -10,13 +10,7 @@ const MOST_BEFORE_A_ZERO: u64 = 1_844_674_407_370_955_161;
 
 // A digit and so many zeros.
 fn with_zeros(digit: u64, zeros: u64) -> u64 {
-    let mut number = digit;
-    let mut left = zeros;
-    while left > 0 {
-        number = number % MOST_BEFORE_A_ZERO * 10;
-        left -= 1;
-    }
-    number
+    (0..zeros).fold(digit, |number, _| number % MOST_BEFORE_A_ZERO * 10)
 }
 
 // A number in odd turns, else 0.

@@ -5,9 +5,10 @@ use crate::reads::put_next;
 use iso_entries::{read_iso, write_iso};
 use lists::fields::{further, half_at};
 use lists::lines::{first_bytes, read_line};
+use lists::often::often;
 use lists::printed::print_answer;
 use lists::streams::STDOUT;
-use lists::texts::{ROOM, Text};
+use lists::texts::ROOM;
 use rules::{Answer, Length};
 
 // Bytes of the line, and where it says how often is read and written.
@@ -20,29 +21,17 @@ const WRITTEN_AT: usize = 8;
 // Room for one length, the longest of which has 35 bytes.
 const ONE: usize = 64;
 
-// The first bytes of a buffer, read so often. The number of an answer is below 15, so 0 is added to the size each time; but the
-// compiler does not know that, and so a round waits for the answer of the one before it and none can be left out.
+// The first bytes of a buffer, read so often.
 fn read_often(buffer: &[u8], size: usize, rounds: u32) -> Answer {
-    let mut answer = read_iso(first_bytes(buffer, size));
-    let mut left = rounds;
-    while left > 1 {
-        let more = (answer.number / 200) as usize;
-        answer = read_iso(first_bytes(buffer, further(size, more)));
-        left -= 1;
-    }
-    answer
+    often(
+        rounds,
+        |more| read_iso(first_bytes(buffer, further(size, more))),
+    )
 }
 
-// A length written so often, each time at the start, which the answer before says in the same way.
+// A length written so often, each time at the start.
 fn write_often(length: Length, buffer: &mut [u8], rounds: u32) -> usize {
-    let mut answer = write_iso(length, buffer, 0);
-    let mut left = rounds;
-    while left > 1 {
-        let place = (answer.number / 200) as usize;
-        answer = write_iso(length, buffer, place);
-        left -= 1;
-    }
-    answer.position
+    often(rounds, |place| write_iso(length, buffer, place)).position
 }
 
 fn print_written(length: Length, rounds: u32) {
@@ -53,19 +42,17 @@ fn print_written(length: Length, rounds: u32) {
 }
 
 // The text behind the line, read and written so often.
-fn repeat_text(reads: u32, writes: u32) {
+fn repeat_text(reads: u32, writes: u32) -> Option<()> {
     let mut buffer = [0u8; ROOM];
-    let Text::Bytes(size) = put_next(&mut buffer) else {
-        return;
-    };
+    let size = put_next(&mut buffer)?;
     let answer = read_often(&buffer, size, reads);
     print_answer(answer);
     print_written(answer.length, writes);
+    Some(())
 }
 
-pub fn repeat_one() {
+pub fn repeat_one() -> Option<()> {
     let mut line = [0u8; ROUNDS];
-    if read_line(&mut line) {
-        repeat_text(half_at(&line, READ_AT), half_at(&line, WRITTEN_AT));
-    }
+    read_line(&mut line)?;
+    repeat_text(half_at(&line, READ_AT), half_at(&line, WRITTEN_AT))
 }

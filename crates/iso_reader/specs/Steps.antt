@@ -1,27 +1,27 @@
 -- A component, by its pieces: digits, a mark, digits, a letter. What each function found, as the definitions have it. Assumes nothing.
-use Rattle.std.specs.Prelude.{◌≡◌, Bool, true, false, ◌||◌, ℕ, suc, ◌+◌, ◌-◌, ◌≤◌, ◌<◌, eqb, leb, length, get_or, take, drop}
+use Rattle.std.specs.Prelude.{◌≡◌, Bool, true, false, ◌||◌, ℕ, suc, ◌+◌, ◌-◌, ◌≤◌, ◌<◌, eqb, leb, ltb, length, get_or, take, drop, Option, Some, None, is_some, IfSome, IsErrAnd}
+use Rattle.std.specs.Borrow.{Bor}
+use Rattle.std.specs.Option.{option_eq, ok_or}
 use Rattle.std.proofs.Math.Path.{refl, sym}
-use Rattle.std.proofs.Common.{ap, ◌∙◌, add-one, arith, leb-true, leb-false, take-append-drop, drop_of_length-le, drop-cons, drop-drop, length-take-le}
+use Rattle.std.proofs.Common.{ap, ◌∙◌, add-one, arith, leb-true, leb-false, take-append-drop, drop_of_length-le, drop-cons, drop-drop, length-take-le, ltb-true, ltb-false}
 use mathlib.Core.List.{List, [], ◌∷◌, ◌++◌}
-use Rattle.std.proofs.Math.ListN.{length-take}
-use Rattle.std.proofs.Math.Seq.{slice, slice-cons, slice_empty, length-slice}
-use Rattle.std.proofs.lemmas.List.{drop-append-le}
+use Rattle.std.proofs.Math.Seq.{slice, slice-cons, length-slice}
+use Rattle.std.proofs.lemmas.List.{drop-append-le, drop-take}
+use Rattle.std.proofs.lemmas.Grind.{get_or_default_zero}
+use Rattle.rules.specs.declared.Refusal.{Refusal}
 use Rattle.rules.specs.declared.Refusal.TheVariants.{NotIso, YearOrMonth}
 use Rattle.rules.specs.Common.{when◌then◌else◌, all, starts, sees, front, run}
 use Rattle.rules.specs.SettingsAndUnitTable.{DIGIT, is}
 use Rattle.rules.specs.NumbersHandedBack.{Outcome, got, refused, ◌>>=◌}
 use Rattle.rules.proofs.Laws.Tests.{eqb_sym}
-use Rattle.rules.proofs.Laws.Texts.{run_within, sees_here, sees_in}
+use Rattle.rules.proofs.Laws.Texts.{run_within, sees_here, sees_end, sees_in}
 use Rattle.value.specs.Digits.{run_end, run_passes}
-use Rattle.iso.specs.IsoTimings.{Component, start, wanted, whole, mark, fraction, none, is_mark, kind_of, may_come, year_or_month, digit_step, after_letter, letter_step, step, may_end, read_from}
+use Rattle.iso.specs.IsoTimings.{Component, wanted, whole, mark, fraction, none, is_mark, kind_of, may_come, year_or_month, digit_step, after_letter, letter_step, step, may_end, read_from}
 use Rattle.iso.proofs.Laws.Letters.{mark_not_digit}
 use Rattle.iso.proofs.Laws.Runs.{goes_on, wanted_run, mark_run}
-use Rattle.iso_reader.specs.declared.components.Typed.{Typed}
-use Rattle.iso_reader.specs.declared.components.Counted.{Counted}
-use Rattle.iso_reader.specs.declared.components.NumberRead.{NumberRead}
-use Rattle.iso_reader.specs.declared.components.NumberRead.TheVariants as NumberRead
-use Rattle.iso_reader.specs.declared.components.ComponentRead.{ComponentRead}
-use Rattle.iso_reader.specs.declared.components.ComponentRead.TheVariants as ComponentRead
+use Rattle.iso_reader.specs.declared.counted.Typed.{Typed}
+use Rattle.iso_reader.specs.declared.counted.Counted.{Counted}
+use Rattle.iso_reader.specs.Kinds.{kind_number}
 
 -- ---- what was found
 
@@ -30,48 +30,48 @@ unfoldable pub letter_from : ℕ → List ℕ → List ℕ → ℕ → List ℕ 
 letter_from k ds fs place [] = refused (NotIso place)
 letter_from k ds fs place (b ∷ rest) = letter_step k ds fs place b >>= λ m. read_from m.stand (suc place) rest >>= λ cs. got (m.made ++ cs)
 
-abbrev pub typed_whole : List ℕ → Typed → List ℕ
-typed_whole text t = slice t.start t.point text
+-- a number, and the place after it
+unfoldable pub number_then : ℕ → List ℕ → Typed × ℕ → Outcome (List Component)
+number_then k text n = letter_from k n.0.whole.now n.0.fraction.now n.1 (drop n.1 text)
 
-abbrev pub typed_fraction : List ℕ → Typed → List ℕ
-typed_fraction text t = slice t.point t.end text
+abbrev pub number_outcome : ℕ → List ℕ → Outcome (Typed × ℕ) → Outcome (List Component)
+number_outcome k text read = read >>= number_then k text
 
-unfoldable pub number_outcome : ℕ → List ℕ → NumberRead → Outcome (List Component)
-number_outcome k text (NumberRead.Got t) = letter_from k (typed_whole text t) (typed_fraction text t) t.end (drop t.end text)
-number_outcome k text (NumberRead.Refused p) = refused (NotIso p)
+abbrev pub component_of : Counted → Component
+component_of c = record { whole = c.typed.whole.now; fraction = c.typed.fraction.now; kind = kind_number c.kind }
 
--- a number lies in the text, and digits stand in it
-pub record Within (text : List ℕ) (t : Typed) : Type 0 where
-  pub starts_first : t.start ≤ t.point
-  pub points_first : t.point ≤ t.end
-  pub ends_within : t.end ≤ length text
-  pub digits : all (is DIGIT) (typed_whole text t) ≡ true
-  pub decimals : all (is DIGIT) (slice (t.point + 1) t.end text) ≡ true
+-- what comes of a component, with the rest of the text
+unfoldable pub component_then : List ℕ → Counted → Outcome (List Component)
+component_then text c = read_from (after_letter (component_of c)) c.next (drop c.next text) >>= λ cs. got (component_of c ∷ cs)
 
-abbrev pub number_within : List ℕ → NumberRead → Type 0
-number_within text (NumberRead.Got t) = Within text t
-number_within text (NumberRead.Refused p) = Unit {0}
+abbrev pub component_outcome : List ℕ → Outcome Counted → Outcome (List Component)
+component_outcome text read = read >>= component_then text
 
-abbrev pub component_of : List ℕ → Counted → Component
-component_of text c = record { whole = typed_whole text c.typed; fraction = typed_fraction text c.typed; kind = c.kind }
+-- a refusal that is handed on
+pub handed_on : {A : Type 0} (r : Outcome A) {cause : Refusal} → IsErrAnd r (λ e. e ≡ cause) → r ≡ refused cause
+handed_on (got a) h = elim h [ ]
+handed_on (refused e) h = ap refused h
 
-unfoldable pub component_outcome : List ℕ → ComponentRead → Outcome (List Component)
-component_outcome text (ComponentRead.Got c) =
-    read_from (after_letter (component_of text c)) (c.typed.end + 1) (drop (c.typed.end + 1) text) >>= λ cs. got (component_of text c ∷ cs)
-component_outcome text (ComponentRead.Refused cause) = refused cause
+-- one that is given where nothing is there
+pub none_there : {A : Type 0} (o : Option A) {cause given : Refusal} → refused cause ≡ ok_or o given → cause ≡ given
+none_there None e = cc
+none_there (Some a) e = cc
 
-abbrev pub found : Counted → ComponentRead
-found c = ComponentRead.Got c
+-- ---- places of a text
 
--- a number, then a letter of a kind that may come
-pub record Lettered (below : ℕ) (text : List ℕ) (c : Counted) : Type 0 where
-  pub number : Within text c.typed
-  pub ends_before : c.typed.end < length text
-  pub comes : may_come below c.kind ≡ true
+-- what stands there, by the byte that was found there
+pub found_there : (test : ℕ → Bool) (text : List ℕ) (place b : ℕ) → place < length text → b ≡ get_or text place 0 → sees test text place ≡ test b
+found_there test text place b h e = sees_here test text place h ∙ ap test (sym e)
 
-abbrev pub component_within : ℕ → List ℕ → ComponentRead → Type 0
-component_within below text (ComponentRead.Got c) = Lettered below text c
-component_within below text (ComponentRead.Refused cause) = Unit {0}
+-- whether the byte stands there, by what was found there
+pub stands_there : (text : List ℕ) (place : ℕ) (o : Option (Bor ℕ)) (b : Bor ℕ) → is_some o ≡ ltb place (length text) → IfSome o (λ x. x.now ≡ get_or text place x.now) → option_eq (λ x y. eqb x.now y.now) o (Some b) ≡ sees (eqb b.now) text place
+stands_there text place None b e f = sym (sees_end (eqb b.now) text place (ltb-false place (length text) (sym e)))
+stands_there text place (Some x) b e f =
+    let within : place < length text = ltb-true place (length text) (sym e) in
+    eqb_sym x.now b.now ∙ ap (eqb b.now) (f ∙ get_or_default_zero text place x.now within) ∙ sym (sees_here (eqb b.now) text place within)
+
+pub slice_is : (text : List ℕ) (a b : ℕ) → a ≤ b → take (b - a) (drop a text) ≡ slice a b text
+slice_is text a b h = let whole : a + (b - a) ≡ b = omega arith in sym (drop-take a (b - a) text) ∙ ap (λ n. drop a (take n text)) whole
 
 -- ---- a text in two
 
@@ -99,9 +99,6 @@ unfolding run
 run_ends test text place = ap (starts test) (sym (drop-drop (front test (drop place text)) place text)) ∙ front_ends test (drop place text)
 
 -- ---- the pieces of a number
-
-pub sees_byte : (text : List ℕ) (place b : ℕ) → place < length text → eqb (get_or text place 0) b ≡ sees (eqb b) text place
-sees_byte text place b h = eqb_sym (get_or text place 0) b ∙ sym (sees_here (eqb b) text place h)
 
 pub sees_mark : (text : List ℕ) (place : ℕ) → sees is_mark text place ≡ (sees (eqb 46) text place || sees (eqb 44) text place)
 unfolding is_mark sees starts
@@ -156,7 +153,7 @@ module _ (text : List ℕ) (place : ℕ) where
     within : place < length text
     within = run_some (is DIGIT) text place (rw (← at) some)
 
-    point_within : point ≤ length text
+    pub point_within : point ≤ length text
     point_within = rw at (run_within (is DIGIT) text place (omega (arith, within)))
 
     pub whole_passes : all (is DIGIT) (slice place point text) ≡ true
@@ -177,19 +174,9 @@ module _ (text : List ℕ) (place : ℕ) where
 
     -- no mark: the number is its digits
     module _ (unmarked : sees is_mark text point ≡ false) where
-      pub number_whole : (k : ℕ) → letter_from k (slice place point text) (slice point point text) point (drop point text) ≡ read_from (wanted k) place (drop place text)
+      pub number_whole : (k : ℕ) → letter_from k (slice place point text) [] point (drop point text) ≡ read_from (wanted k) place (drop place text)
       unfolding sees
-      number_whole k = rw (slice_empty point text) (whole_letter k (slice place point text) point (drop point text) no_digit unmarked ∙ whole_read k)
-
-      pub whole_within : Within text (record { start = place; point = point; end = point })
-      unfolding all
-      whole_within = record {
-        starts_first = omega arith;
-        points_first = omega arith;
-        ends_within = point_within;
-        digits = whole_passes;
-        decimals = rw (drop_of_length-le (take point text) {i = point + 1} (omega (arith, length-take point text)));
-      }
+      number_whole k = whole_letter k (slice place point text) point (drop point text) no_digit unmarked ∙ whole_read k
 
     module _ (marked : sees is_mark text point ≡ true) where
       abbrev b : ℕ
@@ -215,11 +202,18 @@ module _ (text : List ℕ) (place : ℕ) where
           ∙ mark_read k
 
       module _ {end : ℕ} (to : end ≡ run (is DIGIT) text (point + 1)) (more : point + 1 < end) where
-        end_within : end ≤ length text
+        pub end_within : end ≤ length text
         end_within = rw to (run_within (is DIGIT) text (point + 1) (omega (arith, inside)))
+
+        -- the digits behind the mark
+        behind_mark : drop 1 (slice point end text) ≡ slice (point + 1) end text
+        behind_mark = drop-drop 1 point (take end text)
 
         decimals_pass : all (is DIGIT) (slice (point + 1) end text) ≡ true
         decimals_pass = rw to (run_passes (is DIGIT) text (point + 1))
+
+        pub fraction_passes : all (is DIGIT) (drop 1 (slice point end text)) ≡ true
+        fraction_passes = rw behind_mark decimals_pass
 
         fs_length : length (slice (point + 1) end text) ≡ end - (point + 1)
         fs_length = length-slice (point + 1) end text end_within
@@ -238,38 +232,33 @@ module _ (text : List ℕ) (place : ℕ) where
             ∙ ap (read_from (mark k (slice place point text) b) (point + 1)) (split text (point + 1) end (omega arith) end_within)
             ∙ mark_read k)
 
-        pub both_within : Within text (record { start = place; point = point; end = end })
-        both_within = record {
-          starts_first = omega arith;
-          points_first = omega arith;
-          ends_within = end_within;
-          digits = whole_passes;
-          decimals = decimals_pass;
-        }
-
 -- ---- a component of a text: a number, and its letter
 
-module _ (text : List ℕ) (t : Typed) (below : ℕ) where
+module _ (text ds fs : List ℕ) (end below : ℕ) where
   -- what comes after the number
   abbrev after_number : Outcome (List Component)
-  after_number = letter_from below (typed_whole text t) (typed_fraction text t) t.end (drop t.end text)
+  after_number = letter_from below ds fs end (drop end text)
 
-  pub letter_none : length text ≤ t.end → refused (NotIso t.end) ≡ after_number
+  pub letter_none : length text ≤ end → refused (NotIso end) ≡ after_number
   unfolding letter_from
   letter_none h = rw (drop_of_length-le text h)
 
-  module _ (h : t.end < length text) where
+  module _ (h : end < length text) where
     abbrev byte : ℕ
-    byte = get_or text t.end 0
+    byte = get_or text end 0
 
-    pub letter_comes : may_come below (kind_of byte) ≡ true → component_outcome text (ComponentRead.Got (record { typed = t; kind = kind_of byte })) ≡ after_number
-    unfolding letter_from letter_step component_outcome when◌then◌else◌ ◌>>=◌
-    letter_comes e = rw (drop-cons text t.end 0 h, e, add-one)
+    -- the component that it ends
+    abbrev lettered : Component
+    lettered = record { whole = ds; fraction = fs; kind = kind_of byte }
 
-    pub letter_year : may_come below (kind_of byte) ≡ false → year_or_month below byte ≡ true → refused (YearOrMonth t.end) ≡ after_number
+    pub letter_comes : may_come below (kind_of byte) ≡ true → (read_from (after_letter lettered) (end + 1) (drop (end + 1) text) >>= λ cs. got (lettered ∷ cs)) ≡ after_number
     unfolding letter_from letter_step when◌then◌else◌ ◌>>=◌
-    letter_year e f = rw (drop-cons text t.end 0 h, e, f)
+    letter_comes e = rw (drop-cons text end 0 h, e, add-one)
 
-    pub letter_other : may_come below (kind_of byte) ≡ false → year_or_month below byte ≡ false → refused (NotIso t.end) ≡ after_number
+    pub letter_year : may_come below (kind_of byte) ≡ false → year_or_month below byte ≡ true → refused (YearOrMonth end) ≡ after_number
     unfolding letter_from letter_step when◌then◌else◌ ◌>>=◌
-    letter_other e f = rw (drop-cons text t.end 0 h, e, f)
+    letter_year e f = rw (drop-cons text end 0 h, e, f)
+
+    pub letter_other : may_come below (kind_of byte) ≡ false → year_or_month below byte ≡ false → refused (NotIso end) ≡ after_number
+    unfolding letter_from letter_step when◌then◌else◌ ◌>>=◌
+    letter_other e f = rw (drop-cons text end 0 h, e, f)

@@ -1,13 +1,13 @@
 -- What digits behind a mark are worth, of a unit, rounded down once: digit by digit from the last. Assumes nothing.
-use Rattle.std.specs.Prelude.{◌≡◌, true, List, [], ◌∷◌, ℕ, suc, ◌+◌, ◌*◌, ◌-◌, ◌/◌, ◌^◌, ◌≤◌, ◌<◌, length, get_or}
-use Rattle.std.proofs.Common.{sym, ap, ◌∙◌, add-mul, mul_assoc, mul_comm, zero-add, zero-mul, div-lt_iff_lt-mul, mul-lt-mul_of_pos_right, mul-le-mul_right, arith, lit<}
+use Rattle.std.specs.Prelude.{◌≡◌, true, List, [], ◌∷◌, ◌++◌, ℕ, ◌+◌, ◌*◌, ◌-◌, ◌/◌, ◌^◌, ◌≤◌, ◌<◌, length}
+use Rattle.std.proofs.Common.{append-nil, append_assoc, sym, ap, ◌∙◌, add-mul, mul_assoc, mul_comm, zero-add, zero-mul, div-lt_iff_lt-mul, mul-lt-mul_of_pos_right, mul-le-mul_right, arith, lit<}
 use Rattle.std.proofs.Math.Nat.{one-le-pow, pow-succ', div-div-eq-div-mul}
-use Rattle.std.proofs.Math.Seq.{slice, slice-cons, slice_empty}
 use Rattle.rules.specs.Common.{all}
 use Rattle.rules.specs.SettingsAndUnitTable.{DIGIT, is}
 use Rattle.rules.specs.Evaluation.{spelled}
-use Rattle.rules.proofs.Laws.Choices.{all_first}
-use Rattle.value.specs.Digits.{spelled_from, spelled_below, digit_high, passes_after}
+use Rattle.rules.proofs.Laws.Choices.{and_right, all_first, all_others}
+use Rattle.rules.proofs.Laws.Lists.{all_both}
+use Rattle.value.specs.Digits.{spelled_from, spelled_below, digit_high}
 use Rattle.iso.proofs.Laws.Worth.{whole_out}
 
 unfoldable pub tenths : ℕ → List ℕ → ℕ
@@ -44,49 +44,42 @@ tenths_below unit ds some h = (div-lt_iff_lt-mul (one-le-pow (length ds) 10 (lit
     digits : spelled 0 ds < 10 ^ length ds
     digits = rw (zero-add (length ds)) at (spelled_below 0 0 ds h (lit< tt))
 
--- ---- digits of a text from the last to the first
+-- ---- digits from the last to the first
 
--- those from the place on are known
-abbrev pub Known : List ℕ → ℕ → ℕ → ℕ → ℕ → ℕ → Type 0
-Known text start end unit place behind = (start ≤ place) × (place ≤ end) × (behind ≡ tenths unit (slice place end text))
+-- those that are left and those that are done are all of them, and so much is what those done are worth
+pub record Behind (ds : List ℕ) (unit : ℕ) (rest : List ℕ) (behind : ℕ) : Type 0 where
+  pub done : List ℕ
+  pub all_of_them : ds ≡ rest ++ done
+  pub worth : behind ≡ tenths unit done
 
-pub known_none : (text : List ℕ) (start end unit : ℕ) → start ≤ end → Known text start end unit end 0
-known_none text start end unit h = (h, omega arith, sym (ap (tenths unit) (slice_empty end text) ∙ tenths_none unit))
+pub behind_none : (ds : List ℕ) (unit : ℕ) → Behind ds unit ds 0
+behind_none ds unit = record { done = []; all_of_them = sym (append-nil ds); worth = sym (tenths_none unit) }
 
-pub known_done : (text : List ℕ) (start end unit place behind : ℕ) → Known text start end unit place behind → place ≤ start → behind ≡ tenths unit (slice start end text)
-known_done text start end unit place behind k h =
-    let there : place ≡ start = omega (arith, k.0) in
-    k.2 ∙ ap (λ p. tenths unit (slice p end text)) there
+pub behind_done : (ds : List ℕ) (unit : ℕ) (rest : List ℕ) (behind : ℕ) → Behind ds unit rest behind → length rest ≡ 0 → behind ≡ tenths unit ds
+behind_done ds unit [] behind b h = b.worth ∙ ap (tenths unit) (sym b.all_of_them)
+behind_done ds unit (x ∷ rest) behind b h = absurd (omega (arith, h))
 
-module _ (text : List ℕ) (start end unit place behind : ℕ) (within : end ≤ length text) (digits : all (is DIGIT) (slice start end text) ≡ true) (some : 0 < unit) (k : Known text start end unit place behind) where
-  known_pass : all (is DIGIT) (slice place end text) ≡ true
-  known_pass = passes_after start end (place - start) text {cut = place} (omega (arith, k.0, k.1)) (is DIGIT) digits
+module _ (ds : List ℕ) (unit : ℕ) (rest : List ℕ) (behind d : ℕ) (b : Behind ds unit (rest ++ (d ∷ [])) behind) where
+  at_the_end : ds ≡ rest ++ (d ∷ b.done)
+  at_the_end = b.all_of_them ∙ append_assoc rest (d ∷ []) b.done
 
-  known_below : behind < unit
-  known_below = rw k.2 (tenths_below unit (slice place end text) some known_pass)
+  pub behind_more : Behind ds unit rest (((d - 48) * unit + behind) / 10)
+  behind_more = record {
+    done = d ∷ b.done;
+    all_of_them = at_the_end;
+    worth = ap (λ x. ((d - 48) * unit + x) / 10) b.worth ∙ sym (tenths_more unit d b.done);
+  }
 
-  -- the digit before them
-  module _ (left : start < place) where
-    back : suc (place - 1) ≡ place
-    back = omega arith
+  module _ (digits : all (is DIGIT) ds ≡ true) where
+    passes : all (is DIGIT) (d ∷ b.done) ≡ true
+    passes = and_right (all (is DIGIT) rest) (all (is DIGIT) (d ∷ b.done)) (sym (all_both (is DIGIT) rest (d ∷ b.done)) ∙ rw at_the_end at digits)
 
-    first : slice (place - 1) end text ≡ get_or text (place - 1) 0 ∷ slice place end text
-    first = slice-cons (place - 1) end text 0 (omega (arith, k.1)) within ∙ ap (λ p. get_or text (place - 1) 0 ∷ slice p end text) back
-
-    pub digit_before : is DIGIT (get_or text (place - 1) 0) ≡ true
-    digit_before =
-        all_first (is DIGIT) (get_or text (place - 1) 0) (slice place end text)
-        (rw first at (passes_after start end (place - 1 - start) text {cut = place - 1} (omega (arith, k.0, k.1)) (is DIGIT) digits))
-
-    pub known_more : Known text start end unit (place - 1) (((get_or text (place - 1) 0 - 48) * unit + behind) / 10)
-    known_more = (
-      omega arith,
-      omega (arith, k.1),
-      sym (ap (tenths unit) first ∙ tenths_more unit (get_or text (place - 1) 0) (slice place end text) ∙ ap (λ x. ((get_or text (place - 1) 0 - 48) * unit + x) / 10) (sym k.2)),
-    )
+    pub behind_digit : is DIGIT d ≡ true
+    behind_digit = all_first (is DIGIT) d b.done passes
 
     -- fits a word
-    pub tenth_fits : unit ≤ 604800 * 10 ^ 9 → (get_or text (place - 1) 0 - 48) * unit + behind < 2 ^ 64
-    tenth_fits h =
-        let digit : get_or text (place - 1) 0 - 48 ≤ 9 = omega (arith, digit_high _ digit_before) in
-        omega (arith, mul-le-mul_right unit digit, known_below)
+    pub behind_fits : 0 < unit → unit ≤ 604800 * 10 ^ 9 → (d - 48) * unit + behind < 2 ^ 64
+    behind_fits some h =
+        let digit : d - 48 ≤ 9 = omega (arith, digit_high d behind_digit) in
+        let below : behind < unit = rw b.worth (tenths_below unit b.done some (all_others (is DIGIT) d b.done passes)) in
+        omega (arith, mul-le-mul_right unit digit, below)

@@ -1,178 +1,108 @@
 // A component of an ISO timing: its digits, perhaps a mark and digits, and its letter.
-ghost use Rattle.std.specs.Prelude.{◌≡◌, ℕ, eqb, drop};
-ghost use Rattle.rules.specs.Common.{between, sees};
+ghost use Rattle.std.specs.Prelude.{◌≡◌, true, ℕ, eqb, drop, IfOk, ◌≤◌, length};
+ghost use Rattle.rules.specs.Common.{sees};
 ghost use Rattle.iso.specs.IsoTimings.{wanted, is_mark, kind_of, may_come, year_or_month, read_from};
-ghost use Rattle.iso_reader.specs.Steps.{number_outcome, number_within, component_outcome, component_within};
+ghost use Rattle.iso_reader.specs.Kinds.{kind_number, letter_kind, bound};
+ghost use Rattle.iso_reader.specs.Steps.{number_outcome, component_outcome};
 
+use crate::counted::{Counted, Kind, Typed};
 use rules::Refusal;
 use value::digits::parse_digits;
-
-pub const SECONDS: u8 = 3;
-
-pub const MINUTES: u8 = 4;
-
-pub const HOURS: u8 = 5;
-
-pub const DAYS: u8 = 6;
-
-pub const WEEKS: u8 = 7;
-
-// Stands for the kind before the first component.
-pub const ANY: u8 = 8;
-
-// A number as it was typed: digits from start to point. If end lies beyond point, a mark stands there, and digits up to end.
-#[derive(Clone, Copy)]
-pub struct Typed {
-    pub start: usize,
-    pub point: usize,
-    pub end: usize,
-}
-
-#[derive(Clone, Copy)]
-pub enum NumberRead {
-    Got(Typed),
-    Refused(usize),
-}
-
-// A number, and the kind of the unit whose letter stands at its end. The kind comes first: it is one byte, as is what a refusal begins with,
-// so that no place shares a word with it where the two meet.
-#[derive(Clone, Copy)]
-pub struct Counted {
-    pub kind: u8,
-    pub typed: Typed,
-}
-
-#[derive(Clone, Copy)]
-pub enum ComponentRead {
-    Got(Counted),
-    Refused(Refusal),
-}
 
 // Whether the byte stands at the place.
 pub fn stands(text: &[u8], place: usize, byte: u8) -> bool
     ensures { result ≡ sees (eqb byte) text.now place }
 {
-    if place >= text.len() {
-        return false;
-    }
-    text[place] == byte
+    text.get(place) == Some(&byte)
 }
 
 fn mark_stands(text: &[u8], place: usize) -> bool
     ensures { result ≡ sees is_mark text.now place }
 {
-    if stands(text, place, b'.') {
-        return true;
-    }
-    stands(text, place, b',')
+    stands(text, place, b'.') || stands(text, place, b',')
 }
 
-// A number at the place: one or more digits, and perhaps a mark and one or more.
-fn number(text: &[u8], place: usize) -> NumberRead
+// A number at the place: one or more digits, and perhaps a mark and one or more. And the place after it. It is put where it is called, as
+// is a component, since to hand back their slices through memory takes a fifth more instructions.
+#[inline(always)]
+fn number<'a>(text: &'a [u8], place: usize) -> Result<(Typed<'a>, usize), Refusal>
     ensures by_index { (k : ℕ) → number_outcome k text.now result ≡ read_from (wanted k) place (drop place text.now) }
-    ensures number_within { number_within text.now result }
+    ensures within { IfOk result (λ n. n.1 ≤ length text.now) }
 {
-    let whole = parse_digits(text, place);
-    let point = whole.end;
+    let point = parse_digits(text, place).end;
     if point == place {
-        return NumberRead::Refused(place);
+        return Err(Refusal::NotIso(place));
     }
     if !mark_stands(text, point) {
-        return NumberRead::Got(Typed {
-            start: place,
-            point,
-            end: point,
-        });
+        let typed = Typed {
+            whole: &text[place..point],
+            fraction: &[],
+        };
+        return Ok((typed, point));
     }
-    let fract = parse_digits(text, point + 1);
-    let end = fract.end;
+    let end = parse_digits(text, point + 1).end;
     if end == point + 1 {
-        return NumberRead::Refused(end);
+        return Err(Refusal::NotIso(end));
     }
-    NumberRead::Got(Typed {
-        start: place,
-        point,
-        end,
-    })
+    let typed = Typed {
+        whole: &text[place..point],
+        fraction: &text[point..end],
+    };
+    Ok((typed, end))
 }
 
-// The kind of a letter, and 0 for any other byte.
-fn kind_of(byte: u8) -> u8
-    ensures { result ≡ kind_of byte }
+fn kind_of(letter: u8) -> Option<Kind>
+    ensures { letter_kind result ≡ kind_of letter }
 {
-    if byte == b'S' {
-        return SECONDS;
+    match letter {
+        b'S' => Some(Kind::Seconds),
+        b'M' => Some(Kind::Minutes),
+        b'H' => Some(Kind::Hours),
+        b'D' => Some(Kind::Days),
+        b'W' => Some(Kind::Weeks),
+        _ => None,
     }
-    if byte == b'M' {
-        return MINUTES;
-    }
-    if byte == b'H' {
-        return HOURS;
-    }
-    if byte == b'D' {
-        return DAYS;
-    }
-    if byte == b'W' {
-        return WEEKS;
-    }
-    0
 }
 
-fn between(kind: u8, low: u8, high: u8) -> bool
-    ensures { result ≡ between low high kind }
+// Weeks or days before the first component, after another a kind below it.
+fn may_come(below: Option<Kind>, kind: Kind) -> bool
+    ensures { result ≡ may_come (bound below) (kind_number kind) }
 {
-    if kind < low {
-        return false;
+    match below {
+        None => kind >= Kind::Days,
+        Some(last) => kind < last,
     }
-    kind <= high
 }
 
-// Before `T` weeks or days, after it a kind below the last.
-fn may_come(below: u8, kind: u8) -> bool
-    ensures { result ≡ may_come below kind }
+// Before the first component `Y` and `M` are told from other bytes.
+fn year_or_month(below: Option<Kind>, letter: u8) -> bool
+    ensures { result ≡ year_or_month (bound below) letter }
 {
-    if below >= ANY {
-        return between(kind, DAYS, WEEKS);
-    }
-    if kind < SECONDS {
-        return false;
-    }
-    kind < below
+    below.is_none() && matches!(letter, b'Y' | b'M')
 }
 
-fn year_or_month(below: u8, byte: u8) -> bool
-    ensures { result ≡ year_or_month below byte }
+// A component where a digit must come: the first one, or one of a kind below the given one.
+#[inline(always)]
+pub fn component<'a>(
+    text: &'a [u8],
+    place: usize,
+    below: Option<Kind>,
+) -> Result<Counted<'a>, Refusal>
+    ensures outcome { component_outcome text.now result ≡ read_from (wanted (bound below)) place (drop place text.now) }
+    ensures comes { IfOk result (λ c. may_come (bound below) (kind_number c.kind) ≡ true) }
+    ensures within { IfOk result (λ c. c.next ≤ length text.now) }
 {
-    if below < ANY {
-        return false;
-    }
-    if byte == b'Y' {
-        return true;
-    }
-    byte == b'M'
-}
-
-// A component where a digit must come, of a kind below the given one.
-pub fn component(text: &[u8], place: usize, below: u8) -> ComponentRead
-    ensures result_value { component_outcome text.now result ≡ read_from (wanted below) place (drop place text.now) }
-    ensures component_within { component_within below text.now result }
-{
-    match number(text, place) {
-        NumberRead::Refused(at) => ComponentRead::Refused(Refusal::NotIso(at)),
-        NumberRead::Got(typed) => {
-            let at = typed.end;
-            if at >= text.len() {
-                return ComponentRead::Refused(Refusal::NotIso(at));
-            }
-            let byte = text[at];
-            let kind = kind_of(byte);
-            if may_come(below, kind) {
-                return ComponentRead::Got(Counted { typed, kind });
-            }
-            if year_or_month(below, byte) {
-                return ComponentRead::Refused(Refusal::YearOrMonth(at));
-            }
-            ComponentRead::Refused(Refusal::NotIso(at))
-        }
+    let (typed, at) = number(text, place)?;
+    let Some(&letter) = text.get(at) else {
+        return Err(Refusal::NotIso(at));
+    };
+    match kind_of(letter) {
+        Some(kind) if may_come(below, kind) => Ok(Counted {
+            kind,
+            typed,
+            next: at + 1,
+        }),
+        _ if year_or_month(below, letter) => Err(Refusal::YearOrMonth(at)),
+        _ => Err(Refusal::NotIso(at)),
     }
 }

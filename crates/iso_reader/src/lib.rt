@@ -2,5 +2,6 @@
 #![tactic(auto)]
 
 mod components;
+mod counted;
 pub mod reader;
 mod worth;

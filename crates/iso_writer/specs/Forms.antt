@@ -1,8 +1,9 @@
 -- What is written of a component and of a length, from their digits; and what the writer answers, in the order of its refusals. A byte
 -- is written as its number: 72 is `H`, 77 `M`, 80 `P`, 83 `S`, 84 `T`. Assumes nothing.
-use Rattle.std.specs.Prelude.{◌≡◌, Bool, ℕ, ◌+◌, ◌-◌, ◌/◌, ◌%◌, ◌^◌, ◌≤◌, ◌<◌, eqb, set}
+use Rattle.std.specs.Prelude.{◌≡◌, Bool, ℕ, zero, suc, ◌+◌, ◌-◌, ◌*◌, ◌/◌, ◌%◌, ◌^◌, ◌≤◌, ◌<◌, eqb, get_or, set, take, Option, Some, None}
 use Rattle.std.proofs.Math.Path.{refl}
-use Rattle.std.proofs.Common.{ap, ◌∙◌, arith, length-append, length-set}
+use Rattle.std.proofs.Common.{sym, ap, ◌∙◌, arith, length-append, length-set}
+use Rattle.std.proofs.lemmas.List.{take_more}
 use Rattle.std.proofs.Math.Bool.{true, false}
 use mathlib.Core.List.{List, [], ◌∷◌, ◌++◌, append_assoc, append-nil}
 use borrow.Author.Tests.{le-leb, lt-leb}
@@ -14,14 +15,13 @@ use Rattle.rules.specs.Common.{when◌then◌else◌}
 use Rattle.rules.specs.NumbersHandedBack.{◌>>◌, unless, done, refusal, answered}
 use Rattle.rules.specs.ThePartOfTheCrateWeTake.{well_formed}
 use Rattle.rules.specs.WriterAndShiftTotal.{decimals, whole_digits, fraction_digits, written_fraction}
-use Rattle.rules.proofs.Laws.Choices.{if_either}
 use Rattle.iso.specs.IsoTimings.{component, letters, letter, clock_mark, spelling_after, spelling, iso_written, writing_iso, iso_buffer_after, iso_write_answer, iso_written_buffer}
 use Rattle.writing.specs.Digits.{decimals_length}
 use Rattle.writing.specs.Forms.{fraction_size, fraction_size_most, behind_point, behind_length, behind_is}
-use Rattle.writing.specs.Laid.{laid, laid_then, laid_on, laid_byte, laid_length}
+use Rattle.writing.specs.Laid.{laid, laid_then, laid_on, laid_byte}
 use Rattle.iso_writer.specs.Components.{shown, if_shown, chosen, hours_shown, minutes_shown, seconds_shown, one_shown, components_shown}
-use Rattle.iso_writer.specs.declared.writer.Part.{Part}
-use Rattle.iso_writer.specs.declared.writer.Form.{Form}
+use Rattle.writing.specs.declared.digits.Decimal.{Decimal}
+use Rattle.iso_writer.specs.declared.part.Part.{Part}
 
 -- ---- a component
 
@@ -31,138 +31,132 @@ written_part unit needed number nanoseconds =
     when shown needed number nanoseconds then whole_digits number ++ written_fraction nanoseconds ++ unit ∷ [] else []
 
 -- its digits are counted: so many bytes, and these
-unfoldable pub part_size : Part → ℕ
-part_size p = when p.shown then p.whole.count + fraction_size p.decimals.count + 1 else 0
+abbrev pub digits_size : Part → ℕ
+digits_size p = p.whole.count + fraction_size p.decimals.count + 1
 
-unfoldable pub part_bytes : Part → List ℕ
-part_bytes p =
-    when p.shown then decimals p.whole.count p.whole.number ++ behind_point p.decimals ++ p.letter ∷ [] else []
+abbrev pub digits_bytes : Part → List ℕ
+digits_bytes p = decimals p.whole.count p.whole.number ++ behind_point p.decimals ++ p.letter ∷ []
 
--- no more digits than a number of 64 bits and nanoseconds have
-abbrev pub Small : Part → Type 0
-Small p = (p.whole.count ≤ 20) × (p.decimals.count ≤ 9)
+-- one that is left out has none
+abbrev pub part_size : Option Part → ℕ
+part_size None = 0
+part_size (Some p) = digits_size p
 
-module _ (p : Part) where
-  pub part_length : length (part_bytes p) ≡ part_size p
-  unfolding part_bytes part_size when◌then◌else◌
-  part_length = go p.shown
-    where
-      go :
-          (b : Bool)
-          → length (when b then decimals p.whole.count p.whole.number ++ behind_point p.decimals ++ p.letter ∷ [] else [])
-          ≡ (when b then p.whole.count + fraction_size p.decimals.count + 1 else 0)
-      go true = simp (length-append, decimals_length, behind_length) (omega arith)
-      go false = refl
+abbrev pub part_bytes : Option Part → List ℕ
+part_bytes None = []
+part_bytes (Some p) = digits_bytes p
 
-  pub part_most : Small p → part_size p ≤ 31
-  unfolding part_size
-  part_most small =
-      if_either (λ n. n ≤ 31) p.shown (λ _. omega (arith, small.0, fraction_size_most p.decimals.count small.1)) (λ _. omega arith)
+pub part_length : (o : Option Part) → length (part_bytes o) ≡ part_size o
+part_length None = refl
+part_length (Some p) = simp (length-append, decimals_length, behind_length) (omega arith)
 
-  -- laid over a buffer with room for it, it changes no length
-  pub part_kept :
-      (buffer after : List ℕ) (place : ℕ)
-      → after ≡ laid buffer place (part_bytes p)
-      → place + part_size p ≤ length buffer
-      → length after ≡ length buffer
-  part_kept buffer after place e room = ap length e ∙ laid_length buffer place (part_bytes p) (omega (arith, part_length))
+pub part_most : (o : Option Part) → part_size o ≤ 31
+part_most None = omega arith
+part_most (Some p) = omega (arith, p.small.0, fraction_size_most p.decimals.count p.small.1)
 
-  module _ (out : p.shown ≡ false) where
-    pub left_size : 0 ≡ part_size p
-    unfolding part_size when◌then◌else◌
-    left_size = rw out
+-- the digits, behind them the decimals, and behind them the letter
+pub part_laid :
+    (p : Part) (buffer : List ℕ) (place : ℕ)
+    → place + digits_size p ≤ length buffer
+    → set (laid (laid buffer place (decimals p.whole.count p.whole.number)) (place + p.whole.count) (behind_point p.decimals))
+    (place + p.whole.count + fraction_size p.decimals.count) p.letter
+    ≡ laid buffer place (digits_bytes p)
+part_laid p buffer place room =
+    let digits : List ℕ = decimals p.whole.count p.whole.number in
+    let point : ℕ = place + p.whole.count in
+    let last : ℕ = point + fraction_size p.decimals.count in
+    let count = decimals_length p.whole.count p.whole.number in
+    ap (λ b. set b last p.letter) (laid_then buffer place point digits (behind_point p.decimals) (omega (arith, count)) (omega arith))
+    ∙ laid_byte buffer place last (digits ++ behind_point p.decimals) p.letter
+    (omega (arith, count, behind_length p.decimals, length-append digits (behind_point p.decimals)))
+    (omega arith)
 
-    pub left_bytes : [] ≡ part_bytes p
-    unfolding part_bytes when◌then◌else◌
-    left_bytes = rw out
+-- those of one that is shown are written
+pub part_is :
+    (whole fraction : Decimal) (letter : ℕ) (needed : Bool) (number nanoseconds : ℕ)
+    → nanoseconds < 10 ^ 9
+    → shown needed number nanoseconds ≡ true
+    → whole_digits number ≡ decimals whole.count whole.number
+    → fraction_digits nanoseconds ≡ decimals fraction.count fraction.number
+    → decimals whole.count whole.number ++ behind_point fraction ++ letter ∷ [] ≡ written_part letter needed number nanoseconds
+unfolding written_part when◌then◌else◌
+part_is whole fraction letter needed number nanoseconds short shows d f = rw (shows, d, behind_is nanoseconds fraction short f)
 
-  module _ (some : p.shown ≡ true) where
-    pub shown_size : p.whole.count + fraction_size p.decimals.count + 1 ≡ part_size p
-    unfolding part_size when◌then◌else◌
-    shown_size = rw some
+pub part_not : (letter : ℕ) (needed : Bool) (number nanoseconds : ℕ) → shown needed number nanoseconds ≡ false → [] ≡ written_part letter needed number nanoseconds
+unfolding written_part when◌then◌else◌
+part_not letter needed number nanoseconds out = rw out
 
-    shown_bytes : decimals p.whole.count p.whole.number ++ behind_point p.decimals ++ p.letter ∷ [] ≡ part_bytes p
-    unfolding part_bytes when◌then◌else◌
-    shown_bytes = rw some
+-- ---- a length: its components, one behind another
 
-    -- the digits, behind them the decimals, and behind them the letter
-    pub part_laid :
-        (buffer : List ℕ) (place : ℕ)
-        → place + part_size p ≤ length buffer
-        → set (laid (laid buffer place (decimals p.whole.count p.whole.number)) (place + p.whole.count) (behind_point p.decimals))
-        (place + p.whole.count + fraction_size p.decimals.count) p.letter
-        ≡ laid buffer place (part_bytes p)
-    part_laid buffer place room =
-        let digits : List ℕ = decimals p.whole.count p.whole.number in
-        let point : ℕ = place + p.whole.count in
-        let last : ℕ = point + fraction_size p.decimals.count in
-        let count = decimals_length p.whole.count p.whole.number in
-        ap (λ b. set b last p.letter) (laid_then buffer place point digits (behind_point p.decimals) (omega (arith, count)) (omega arith))
-        ∙ laid_byte buffer place last (digits ++ behind_point p.decimals) p.letter
-        (omega (arith, count, behind_length p.decimals, length-append digits (behind_point p.decimals)))
-        (omega (arith, shown_size))
-        ∙ ap (laid buffer place) shown_bytes
+abbrev pub parts_size : List (Option Part) → ℕ
+parts_size [] = 0
+parts_size (o ∷ parts) = part_size o + parts_size parts
 
--- the digits that were counted are those that are written
-module _ (p : Part) (needed : Bool) (number nanoseconds : ℕ) (short : nanoseconds < 10 ^ 9) where
-  abbrev Counted : Type 0
-  Counted =
-      (whole_digits number ≡ decimals p.whole.count p.whole.number)
-      × (fraction_digits nanoseconds ≡ decimals p.decimals.count p.decimals.number)
+abbrev pub parts_bytes : List (Option Part) → List ℕ
+parts_bytes [] = []
+parts_bytes (o ∷ parts) = part_bytes o ++ parts_bytes parts
 
-  pub part_is :
-      p.shown ≡ shown needed number nanoseconds
-      → (shown needed number nanoseconds ≡ true → Counted)
-      → part_bytes p ≡ written_part p.letter needed number nanoseconds
-  unfolding part_bytes written_part when◌then◌else◌
-  part_is same digits = rw same (go (shown needed number nanoseconds) digits)
-    where
-      go :
-          (b : Bool)
-          → (b ≡ true → Counted)
-          → (when b then decimals p.whole.count p.whole.number ++ behind_point p.decimals ++ p.letter ∷ [] else [])
-          ≡ (when b then whole_digits number ++ written_fraction nanoseconds ++ p.letter ∷ [] else [])
-      go true e = rw ((e refl).0, behind_is nanoseconds p.decimals short (e refl).1)
-      go false e = refl
+abbrev pub form_size : List (Option Part) → ℕ
+form_size form = 2 + parts_size form
 
--- ---- a length
+unfoldable pub form_bytes : List (Option Part) → List ℕ
+form_bytes form = 80 ∷ 84 ∷ parts_bytes form
 
-abbrev pub FewDigits : Form → Type 0
-FewDigits f = Small f.hours × Small f.minutes × Small f.seconds
+parts_length : (form : List (Option Part)) → length (parts_bytes form) ≡ parts_size form
+parts_length [] = refl
+parts_length (o ∷ form) = length-append (part_bytes o) (parts_bytes form) ∙ omega (arith, part_length o, parts_length form)
 
-abbrev pub form_size : Form → ℕ
-form_size f = 2 + part_size f.hours + part_size f.minutes + part_size f.seconds
-
-unfoldable pub form_bytes : Form → List ℕ
-form_bytes f = 80 ∷ 84 ∷ (part_bytes f.hours ++ part_bytes f.minutes ++ part_bytes f.seconds)
-
-pub form_length : (f : Form) → length (form_bytes f) ≡ form_size f
+pub form_length : (form : List (Option Part)) → length (form_bytes form) ≡ form_size form
 unfolding form_bytes
-form_length f = simp (length-append, part_length) (omega arith)
+form_length form = omega (arith, parts_length form)
 
--- `P` and `T`, and one component behind another
+-- ---- the first so many components
+
+pub parts_most : (form : List (Option Part)) → parts_size form ≤ 31 * length form
+parts_most [] = omega arith
+parts_most (o ∷ form) = omega (arith, part_most o, parts_most form)
+
+size_last : (parts : List (Option Part)) (o : Option Part) → parts_size (parts ++ (o ∷ [])) ≡ parts_size parts + part_size o
+size_last [] o = omega arith
+size_last (x ∷ parts) o = omega (arith, size_last parts o)
+
+bytes_last : (parts : List (Option Part)) (o : Option Part) → parts_bytes (parts ++ (o ∷ [])) ≡ parts_bytes parts ++ part_bytes o
+bytes_last [] o = append-nil (part_bytes o)
+bytes_last (x ∷ parts) o = ap (λ l. part_bytes x ++ l) (bytes_last parts o) ∙ sym (append_assoc (part_bytes x) (parts_bytes parts) (part_bytes o))
+
+-- one more
+module _ (form : List (Option Part)) (i : ℕ) (o : Option Part) (h : i < length form) where
+  pub more_size : parts_size (take (i + 1) form) ≡ parts_size (take i form) + part_size (get_or form i o)
+  more_size = ap parts_size (take_more form i o h) ∙ size_last (take i form) (get_or form i o)
+
+  more_bytes : parts_bytes (take (i + 1) form) ≡ parts_bytes (take i form) ++ part_bytes (get_or form i o)
+  more_bytes = ap parts_bytes (take_more form i o h) ∙ bytes_last (take i form) (get_or form i o)
+
+  -- behind those that stand there
+  pub form_more :
+      (buffer : List ℕ) (place : ℕ)
+      → place ≤ length buffer
+      → laid (laid buffer place (parts_bytes (take i form))) (place + parts_size (take i form)) (part_bytes (get_or form i o))
+      ≡ laid buffer place (parts_bytes (take (i + 1) form))
+  form_more buffer place within =
+      laid_then buffer place (place + parts_size (take i form)) (parts_bytes (take i form)) (part_bytes (get_or form i o)) (omega (arith, parts_length (take i form))) within
+      ∙ ap (laid buffer place) (sym more_bytes)
+
+-- the first so many have no more bytes than all
+pub part_fits : (form : List (Option Part)) (i : ℕ) (o : Option Part) → i < length form → parts_size (take i form) + part_size (get_or form i o) ≤ parts_size form
+part_fits [] i o h = absurd (omega (arith, h))
+part_fits (x ∷ form) zero o h = omega arith
+part_fits (x ∷ form) (suc i) o h = let rest = part_fits form i o (omega (arith, h)) in omega (arith, rest)
+
+-- `P` and `T`, and the components behind them
 pub form_laid :
-    (f : Form) (buffer : List ℕ) (place after_hours after_minutes : ℕ)
-    → after_hours ≡ place + 1 + 1 + part_size f.hours
-    → after_minutes ≡ after_hours + part_size f.minutes
-    → place + form_size f ≤ length buffer
-    → let letters = set (set buffer place 80) (place + 1) 84 in
-    laid (laid (laid letters (place + 1 + 1) (part_bytes f.hours)) after_hours (part_bytes f.minutes)) after_minutes (part_bytes f.seconds)
-    ≡ laid buffer place (form_bytes f)
+    (form : List (Option Part)) (buffer : List ℕ) (place : ℕ)
+    → place + form_size form ≤ length buffer
+    → laid (set (set buffer place 80) (place + 1) 84) (place + 1 + 1) (parts_bytes form) ≡ laid buffer place (form_bytes form)
 unfolding form_bytes
-form_laid f buffer place after_hours after_minutes h m room =
-    let hours : List ℕ = part_bytes f.hours in
-    let minutes : List ℕ = part_bytes f.minutes in
-    let seconds : List ℕ = part_bytes f.seconds in
-    let first : List ℕ = set buffer place 80 in
-    let second : List ℕ = set first (place + 1) 84 in
-    let kept : length first ≡ length buffer = length-set buffer place 80 in
-    let kept_too : length second ≡ length first = length-set first (place + 1) 84 in
-    ap (λ b. laid b after_minutes seconds) (laid_then second (place + 1 + 1) after_hours hours minutes (omega (arith, part_length f.hours)) (omega arith))
-    ∙ laid_then second (place + 1 + 1) after_minutes (hours ++ minutes) seconds
-    (omega (arith, part_length f.hours, part_length f.minutes, length-append hours minutes)) (omega arith)
-    ∙ laid_on first (place + 1) 84 (hours ++ minutes ++ seconds) (omega arith)
-    ∙ laid_on buffer place 80 (84 ∷ (hours ++ minutes ++ seconds)) (omega arith)
+form_laid form buffer place room =
+    laid_on (set buffer place 80) (place + 1) 84 (parts_bytes form) (omega (arith, length-set buffer place 80))
+    ∙ laid_on buffer place 80 (84 ∷ parts_bytes form) (omega arith)
 
 -- ---- what is written of a length, component by component
 
@@ -196,6 +190,19 @@ unfolding iso_written written_part
 in_parts l =
     ap spelling (components_shown l)
     ∙ in_order (l.seconds / 3600) (l.seconds / 60 % 60) (l.seconds % 60) l.nanoseconds (hours_shown l) (minutes_shown l) (seconds_shown l) (one_shown l)
+
+pub parts_written :
+    (l : Length) (hours minutes seconds : Option Part)
+    → part_bytes hours ≡ written_part 72 false (l.seconds / 3600) 0
+    → part_bytes minutes ≡ written_part 77 false (l.seconds / 60 % 60) 0
+    → part_bytes seconds ≡ written_part 83 (eqb l.seconds 0) (l.seconds % 60) l.nanoseconds
+    → form_bytes (hours ∷ minutes ∷ seconds ∷ []) ≡ iso_written l
+unfolding form_bytes
+parts_written l hours minutes seconds h m s =
+    rw (append-nil (part_bytes seconds), h, m, s)
+    (ap (λ bytes. 80 ∷ 84 ∷ bytes)
+    (sym (append_assoc (written_part 72 false (l.seconds / 3600) 0) (written_part 77 false (l.seconds / 60 % 60) 0) (written_part 83 (eqb l.seconds 0) (l.seconds % 60) l.nanoseconds)))
+    ∙ sym (in_parts l))
 
 -- ---- what the writer answers
 

@@ -7,7 +7,7 @@ use native.Mathlib.Numerals.{add-one}
 use native.Mathlib.Omega.{arith}
 use lib.Dec.{lit<}
 use lib.ListN.{length}
-use Rattle.lengths.specs.declared.wide.Carried.{Carried}
+use Rattle.lengths.specs.declared.wide.Wide.{Wide}
 use Rattle.lengths.specs.Wide.{InPieces, Carries}
 use Rattle.lengths.specs.Columns.{put_together, pieces, column, columns, pieces_below, pieces_back, product_most, columns_product, columns_split}
 
@@ -39,7 +39,7 @@ module _ (x y : List ℕ) (from carried : ℕ) where
       rw (e, add-one)
       (come_in word carry (column x y position) _ _ ((rw (left, add-one) at w) ∙ less_room (2 ^ 16) all (from + 4 - suc position)))
 
-  pub carry_end : (position word carry : ℕ) → from + 4 ≤ position → Carrying position word carry → word + carry * 2 ^ 64 ≡ all
+  pub carry_end : (position word carry : ℕ) → from + 4 ≤ position → Carrying position word carry → carry * 2 ^ 64 + word ≡ all
   unfolding Carrying put_together columns
   carry_end position word carry h w =
       let none : from + 4 - position ≡ 0 = omega arith in
@@ -52,7 +52,7 @@ unfolding pieces
 in_pieces n e = record { four = ap length e; below = λ i. rw e (pieces_below (2 ^ 16) 4 n (lit< tt) i) }
 
 -- in numbers alone: what is above the low word stays below 2^64, so that nothing is carried out of the high one
-fit : {a b above : ℕ} (low high carry : ℕ) → a < 2 ^ 64 → b < 2 ^ 64 → low + 2 ^ 64 * above ≡ a * b → high + carry * 2 ^ 64 ≡ above → high * 2 ^ 64 + low ≡ a * b
+fit : {a b above : ℕ} (low high carry : ℕ) → a < 2 ^ 64 → b < 2 ^ 64 → low + 2 ^ 64 * above ≡ a * b → carry * 2 ^ 64 + high ≡ above → high * 2 ^ 64 + low ≡ a * b
 fit {a} {b} {above} low high carry ha hb e f =
     let most : a * b < 2 ^ 64 * 2 ^ 64 = lt_of_le_of_lt (product_most (2 ^ 64 - 1) ha hb) (lit< tt) in
     let room : above * 2 ^ 64 ≤ a * b = omega arith in
@@ -61,7 +61,7 @@ fit {a} {b} {above} low high carry ha hb e f =
     rw none (omega arith)
 
 -- all eight columns are the product
-pub both_words : {a b : ℕ} {x y : List ℕ} {low high : Carried} → a < 2 ^ 64 → b < 2 ^ 64 → x ≡ pieces (2 ^ 16) 4 a → y ≡ pieces (2 ^ 16) 4 b → Carries x y 0 0 low → Carries x y 4 low.carry high → high.word * 2 ^ 64 + low.word ≡ a * b
+pub both_words : {a b : ℕ} {x y : List ℕ} {low high : Wide} → a < 2 ^ 64 → b < 2 ^ 64 → x ≡ pieces (2 ^ 16) 4 a → y ≡ pieces (2 ^ 16) 4 b → Carries x y 0 0 low → Carries x y 4 low.high high → high.low * 2 ^ 64 + low.low ≡ a * b
 both_words {a} {b} {x} {y} ha hb ex ey l h =
     let sizes : length x + length y ≤ 8 = omega (arith, (in_pieces a ex).four, (in_pieces b ey).four) in
     let whole_a : put_together (2 ^ 16) x ≡ a = rw ex (pieces_back (2 ^ 16) 4 a (lit< tt) ha) in

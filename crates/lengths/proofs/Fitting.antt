@@ -1,6 +1,5 @@
--- Laws of what fits one word: a product that is tested by a division, and the low one of two words. Assumes nothing.
-use mathlib.Core.Path.{◌≡◌}
-use Prim.Native.Nat.{ℕ, zero, ◌+◌, ◌*◌, ◌-◌, ◌/◌, ◌^◌, ◌≤◌, ◌<◌}
+-- Laws of what fits one word: a product that is tested by a division. Assumes nothing.
+use Prim.Native.Nat.{ℕ, zero, ◌*◌, ◌-◌, ◌/◌, ◌^◌, ◌≤◌, ◌<◌}
 use native.Mathlib.Nat.{lt_of_le_of_lt, le_of_lt, mul_comm, mul-le-mul, le-div_iff_mul-le, div-lt_iff_lt-mul}
 use native.Mathlib.Omega.{arith}
 use lib.Dec.{lit<}
@@ -15,10 +14,3 @@ passes c x pos h = omega (arith, (div-lt_iff_lt-mul pos).0 h, mul_comm c x)
 -- a word times less than a second in attoseconds is below 2^64 seconds
 pub seconds_fit : {c a : ℕ} → c < 2 ^ 64 → a < 10 ^ 18 → c * a < 2 ^ 64 * 10 ^ 18
 seconds_fit hc ha = lt_of_le_of_lt (mul-le-mul {n₂ = 2 ^ 64} {m₂ = 10 ^ 18 - 1} (le_of_lt hc) (omega arith)) (lit< tt)
-
-pub quotient_fits : (attos : ℕ) → attos < 2 ^ 64 * 10 ^ 18 → attos / 10 ^ 9 / 10 ^ 9 < 2 ^ 64
-quotient_fits attos h = (div-lt_iff_lt-mul (lit< tt)).1 ((div-lt_iff_lt-mul (lit< tt)).1 h)
-
--- two words that hold a number below 2^64 hold it in the low one
-pub low_word : (high low n : ℕ) → high * 2 ^ 64 + low ≡ n → n < 2 ^ 64 → low ≡ n
-low_word high low n e h = omega arith

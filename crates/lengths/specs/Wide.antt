@@ -2,7 +2,6 @@
 use Rattle.std.specs.Prelude.{◌≡◌, List, ℕ, ◌+◌, ◌*◌, ◌/◌, ◌%◌, ◌^◌, ◌<◌, length}
 use Rattle.lengths.specs.declared.wide.Wide.{Wide}
 use Rattle.lengths.specs.declared.wide.Divided.{Divided}
-use Rattle.lengths.specs.declared.wide.Carried.{Carried}
 use Rattle.lengths.specs.Columns.{put_together, columns, Below}
 
 -- the number that two words hold
@@ -14,10 +13,10 @@ pub record InPieces (x : List ℕ) : Type 0 where
   pub four : length x ≡ 4
   pub below : Below (2 ^ 16) x
 
--- r is four columns from a position on and what is carried into them: a word of it, and the rest, which is small
-pub record Carries (x y : List ℕ) (from carried : ℕ) (r : Carried) : Type 0 where
-  pub all : r.word + r.carry * 2 ^ 64 ≡ carried + put_together (2 ^ 16) (columns x y from 4)
-  pub small : r.carry < 2 ^ 32
+-- r is four columns from a position on and what is carried into them; what its high word carries on is small
+pub record Carries (x y : List ℕ) (from carried : ℕ) (r : Wide) : Type 0 where
+  pub all : value r ≡ carried + put_together (2 ^ 16) (columns x y from 4)
+  pub small : r.high < 2 ^ 32
 
 -- r is what division of n by d gives
 pub record Divides (n : Wide) (d : ℕ) (r : Divided) : Type 0 where

@@ -1,10 +1,9 @@
 // Lengths: what a multiplied number comes to, and the sum. Both stay between MIN and MAX, and zero is always plus.
 // Seconds and nanoseconds stay apart: as one number of nanoseconds a length does not fit a word.
-ghost use Rattle.std.specs.Prelude.{◌≡◌, true, false, ◌+◌, ◌*◌, ◌-◌, ◌^◌, ◌<◌, leb};
+ghost use Rattle.std.specs.Prelude.{◌≡◌, true, false, ◌+◌, ◌*◌, ◌-◌, ◌/◌, ◌%◌, ◌^◌, ◌<◌, ◌≤◌};
 ghost use Rattle.rules.specs.ThePartOfTheCrateWeTake.{zero_length, largest, size, well_formed};
 ghost use Rattle.rules.specs.Evaluation.{nanos, length_of, sum};
 ghost use Rattle.lengths.specs.Wide.{value};
-ghost use Rattle.lengths.specs.Duration.{cut, Ordered};
 
 use crate::wide;
 use crate::wide::Wide;
@@ -14,11 +13,12 @@ const NANOS_PER_SEC: u32 = 1_000_000_000;
 
 const ATTOS_PER_NANO: u64 = 1_000_000_000;
 
-// Seconds and nanoseconds without a sign.
-#[derive(Clone, Copy)]
+// Seconds and nanoseconds without a sign; of two the seconds are compared first.
+#[derive(Clone, Copy, PartialEq, Eq, PartialOrd, Ord)]
 struct Size {
     seconds: u64,
     nanoseconds: u32,
+    ghost proper: { nanoseconds < 10 ^ 9 },
 }
 
 pub fn zero() -> Length
@@ -46,63 +46,55 @@ pub fn largest(negative: bool) -> Length
 pub fn well_formed(l: Length) -> bool
     ensures { result ≡ well_formed l }
 {
-    if NANOS_PER_SEC <= l.nanoseconds {
+    if l.negative && l.seconds == 0 && l.nanoseconds == 0 {
         return false;
     }
-    if l.negative {
-        if l.seconds == 0 {
-            return 0 < l.nanoseconds;
-        }
-    }
-    true
+    l.nanoseconds < NANOS_PER_SEC
 }
 
 // Zero loses its minus here.
-fn signed(negative: bool, seconds: u64, nanoseconds: u32) -> Length
-    requires { nanoseconds < 10 ^ 9 }
-    ensures { result ≡ length_of negative (seconds * 10 ^ 9 + nanoseconds) }
+fn signed(negative: bool, size: Size) -> Length
+    ensures { result ≡ length_of negative (size.seconds * 10 ^ 9 + size.nanoseconds) }
 {
-    if seconds == 0 {
-        if nanoseconds == 0 {
-            return zero();
-        }
+    if size.seconds == 0 && size.nanoseconds == 0 {
+        return zero();
     }
     Length {
         negative,
-        seconds,
-        nanoseconds,
+        seconds: size.seconds,
+        nanoseconds: size.nanoseconds,
     }
 }
 
 // The nanoseconds may hold one second more, and then have what is left after it: a test and a difference, and no division.
-// Whether the seconds fit is known before they are added. Zero has its plus already.
+// Zero has its plus already.
 fn limited(negative: bool, seconds: u64, extra: u64, nanoseconds: u32) -> Length
     requires { (nanoseconds < 2 * 10 ^ 9) × ((seconds + extra) * 10 ^ 9 + nanoseconds ≡ 0 → negative ≡ false) }
     ensures { result ≡ length_of negative ((seconds + extra) * 10 ^ 9 + nanoseconds) }
 {
-    if extra <= u64::MAX - seconds {
-        let sum = seconds + extra;
-        if nanoseconds < NANOS_PER_SEC {
-            return Length {
-                negative,
-                seconds: sum,
-                nanoseconds,
-            };
-        }
-        if sum < u64::MAX {
-            return Length {
-                negative,
-                seconds: sum + 1,
-                nanoseconds: nanoseconds - NANOS_PER_SEC,
-            };
-        }
+    let Some(sum) = seconds.checked_add(extra) else {
+        return largest(negative);
+    };
+    if nanoseconds < NANOS_PER_SEC {
+        return Length {
+            negative,
+            seconds: sum,
+            nanoseconds,
+        };
     }
-    largest(negative)
+    let Some(sum) = sum.checked_add(1) else {
+        return largest(negative);
+    };
+    Length {
+        negative,
+        seconds: sum,
+        nanoseconds: nanoseconds - NANOS_PER_SEC,
+    }
 }
 
 // So many attoseconds, with what is below a nanosecond cut off.
 fn cut_word(attos: u64) -> Size
-    ensures { result ≡ cut attos }
+    ensures { (result.seconds ≡ attos / 10 ^ 9 / 10 ^ 9) × (result.nanoseconds ≡ attos / 10 ^ 9 % 10 ^ 9) }
 {
     let nanos = attos / ATTOS_PER_NANO;
     let second = NANOS_PER_SEC as u64;
@@ -115,7 +107,7 @@ fn cut_word(attos: u64) -> Size
 // The same of two words: the first division cuts, the second parts seconds from nanoseconds.
 fn cut_words(attos: Wide) -> Size
     requires { value attos < 2 ^ 64 * 10 ^ 18 }
-    ensures { result ≡ cut (value attos) }
+    ensures { (result.seconds ≡ value attos / 10 ^ 9 / 10 ^ 9) × (result.nanoseconds ≡ value attos / 10 ^ 9 % 10 ^ 9) }
 {
     let nanos = wide::divide_by_nanos(attos);
     let parts = wide::divide_by_nanos(nanos.quotient);
@@ -134,7 +126,11 @@ pub fn calculate_duration(is_negative: bool, seconds: u64, attos: u64, coefficie
     ensures { result ≡ length_of is_negative (nanos coefficient (seconds * 10 ^ 18 + attos)) }
 {
     if coefficient == 1 {
-        return signed(is_negative, seconds, (attos / ATTOS_PER_NANO) as u32);
+        let size = Size {
+            seconds,
+            nanoseconds: (attos / ATTOS_PER_NANO) as u32,
+        };
+        return signed(is_negative, size);
     }
     if coefficient == 0 {
         return zero();
@@ -145,7 +141,11 @@ pub fn calculate_duration(is_negative: bool, seconds: u64, attos: u64, coefficie
     }
     let whole = coefficient * seconds;
     if attos == 0 {
-        return signed(is_negative, whole, 0);
+        let size = Size {
+            seconds: whole,
+            nanoseconds: 0,
+        };
+        return signed(is_negative, size);
     }
     let size = if attos <= most {
         cut_word(coefficient * attos)
@@ -153,38 +153,29 @@ pub fn calculate_duration(is_negative: bool, seconds: u64, attos: u64, coefficie
         cut_words(wide::product(coefficient, attos))
     };
     if whole == 0 {
-        return signed(is_negative, size.seconds, size.nanoseconds);
+        return signed(is_negative, size);
     }
     limited(is_negative, whole, size.seconds, size.nanoseconds)
 }
 
-// Whether a is no longer than b, their signs aside.
-fn at_most(a: Length, b: Length) -> bool
-    requires { (a.nanoseconds < 10 ^ 9) × (b.nanoseconds < 10 ^ 9) }
-    ensures { result ≡ leb (size a) (size b) }
-{
-    if a.seconds == b.seconds {
-        a.nanoseconds <= b.nanoseconds
-    } else {
-        a.seconds < b.seconds
-    }
-}
-
 // What is left of the longer: where its nanoseconds do not reach, it lends them a second.
-fn subtract(negative: bool, longer: Length, shorter: Length) -> Length
-    requires { Ordered shorter longer }
-    ensures { result ≡ length_of negative (size longer - size shorter) }
+fn subtract(negative: bool, longer: Size, shorter: Size) -> Length
+    requires { shorter.seconds * 10 ^ 9 + shorter.nanoseconds ≤ longer.seconds * 10 ^ 9 + longer.nanoseconds }
+    ensures { result ≡ length_of negative (longer.seconds * 10 ^ 9 + longer.nanoseconds - (shorter.seconds * 10 ^ 9 + shorter.nanoseconds)) }
 {
     let seconds = longer.seconds - shorter.seconds;
-    if shorter.nanoseconds <= longer.nanoseconds {
-        signed(negative, seconds, longer.nanoseconds - shorter.nanoseconds)
+    let left = if shorter.nanoseconds <= longer.nanoseconds {
+        Size {
+            seconds,
+            nanoseconds: longer.nanoseconds - shorter.nanoseconds,
+        }
     } else {
-        signed(
-            negative,
-            seconds - 1,
-            NANOS_PER_SEC - shorter.nanoseconds + longer.nanoseconds,
-        )
-    }
+        Size {
+            seconds: seconds - 1,
+            nanoseconds: NANOS_PER_SEC - shorter.nanoseconds + longer.nanoseconds,
+        }
+    };
+    signed(negative, left)
 }
 
 // The sum, which stops at MIN and MAX.
@@ -200,9 +191,17 @@ pub fn saturating_add(a: Length, b: Length) -> Length
             a.nanoseconds + b.nanoseconds,
         );
     }
-    if at_most(b, a) {
-        subtract(a.negative, a, b)
+    let first = Size {
+        seconds: a.seconds,
+        nanoseconds: a.nanoseconds,
+    };
+    let second = Size {
+        seconds: b.seconds,
+        nanoseconds: b.nanoseconds,
+    };
+    if second <= first {
+        subtract(a.negative, first, second)
     } else {
-        subtract(b.negative, b, a)
+        subtract(b.negative, second, first)
     }
 }

@@ -27,13 +27,6 @@ const PIECES: usize = 4;
 
 const PIECE: u32 = 65_536;
 
-// Columns that make a word, and what is left to carry into the next one.
-#[derive(Clone, Copy)]
-struct Carried {
-    word: u64,
-    carry: u64,
-}
-
 // The lowest piece comes first. Each is held as 32 bits, and so is the product of two: no wider multiplication is asked for.
 fn pieces(word: u64) -> [u32; 4]
     ensures { result ≡ pieces (2 ^ 16) 4 word }
@@ -49,36 +42,29 @@ fn column(a: &[u32; 4], b: &[u32; 4], position: usize) -> u64
     requires { InPieces a.now × InPieces b.now × (position < 8) }
     ensures { result ≡ column a.now b.now position }
 {
-    let end = if position < PIECES {
-        position + 1
-    } else {
-        PIECES
-    };
+    let end = PIECES.min(position + 1);
     let mut sum: u64 = 0;
-    let mut i = position + 1 - end;
-    while i < end {
+    for i in position + 1 - end..end {
         sum += (a[i] * b[position - i]) as u64;
-        i += 1;
     }
     sum
 }
 
-// Four columns from a position on, with what is carried into the first. Of each sum the lowest piece stays and the rest is carried. A piece
-// comes in at the top of the word and is moved down as the next ones come, so that no shift has to be counted.
-fn four_columns(a: &[u32; 4], b: &[u32; 4], from: usize, carried: u64) -> Carried
+// Four columns from a position on, with what is carried into the first. Of each sum the lowest piece stays, in the low word, and the rest is
+// carried, in the end as the high one. A piece comes in at the top of the word and is moved down as the next ones come, so that no shift has to
+// be counted.
+fn four_columns(a: &[u32; 4], b: &[u32; 4], from: usize, carried: u64) -> Wide
     requires { InPieces a.now × InPieces b.now × (from ≤ 4) × (carried < 2 ^ 32) }
     ensures { Carries a.now b.now from carried result }
 {
-    let mut word: u64 = 0;
-    let mut carry = carried;
-    let mut position = from;
-    while position < from + PIECES {
-        let sum = column(a, b, position) + carry;
-        word = (word >> 16) + ((sum % PIECE as u64) << 48);
-        carry = sum >> 16;
-        position += 1;
+    let mut low: u64 = 0;
+    let mut high = carried;
+    for position in from..from + PIECES {
+        let sum = column(a, b, position) + high;
+        low = (low >> 16) + ((sum % PIECE as u64) << 48);
+        high = sum >> 16;
     }
-    Carried { word, carry }
+    Wide { high, low }
 }
 
 // The whole product: sixteen products of two pieces in seven columns, and an eighth that has only what is carried into it.
@@ -87,11 +73,11 @@ pub fn product(a: u64, b: u64) -> Wide
 {
     let x = pieces(a);
     let y = pieces(b);
-    let low = four_columns(&x, &y, 0, 0);
-    let high = four_columns(&x, &y, PIECES, low.carry);
+    let first = four_columns(&x, &y, 0, 0);
+    let second = four_columns(&x, &y, PIECES, first.high);
     Wide {
-        high: high.word,
-        low: low.word,
+        high: second.low,
+        low: first.low,
     }
 }
 

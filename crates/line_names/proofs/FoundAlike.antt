@@ -1,11 +1,9 @@
 -- What the two tables find is what the merged one finds: for every name the same row, or none. Assumes nothing.
-use Rattle.std.specs.Prelude.{◌≡◌, true, false, List, []}
+use Rattle.std.specs.Prelude.{◌≡◌, true, false, List, [], Option, Some, None}
 use Rattle.std.proofs.Math.Path.{refl, ap}
 use Rattle.std.proofs.Common.{sym, ◌∙◌, arith}
 use Rattle.std.proofs.lemmas.Bool.{false≢true}
 use Prim.Native.Nat.{ℕ, zero, suc, ◌+◌, ◌≤◌, ◌<◌}
-use Rattle.rules.specs.declared.Found.{Found}
-use Rattle.rules.specs.declared.Found.TheVariants.{Row, Nowhere}
 use Rattle.rules.specs.Common.{same}
 use Rattle.rules.specs.SettingsAndUnitTable.{rows, rows_in, row, name, named, named_in, lookup_from, lookup_from_in, lookup, lookup_in, line_first, stands, held_row, find_row}
 use Rattle.rules.proofs.Laws.Choices.{if_either, if_else}
@@ -23,7 +21,7 @@ not_named table wanted (suc n) none =
     rw (not_same (name (row table n)) wanted (none n (omega arith)))
     (not_named table wanted n (λ i below. none i (omega arith)))
 
-module _ (hall line wanted : List ℕ) (none : lookup line wanted ≡ Nowhere) where
+module _ (hall line wanted : List ℕ) (none : lookup line wanted ≡ None) where
   -- a row whose name the line has does not have the name that the line has not
   other_name : (r : List ℕ) → named line (name r) (rows line) ≡ true → same (name r) wanted ≡ false
   other_name r has =
@@ -38,7 +36,7 @@ module _ (hall line wanted : List ℕ) (none : lookup line wanted ≡ Nowhere) w
       let more = others hall line (suc i) n in
       let behind : row_named more wanted ≡ found_row hall (lookup_from hall wanted (suc i) n) = found_in_others n (suc i) (omega arith) in
       if_either (λ table. row_named table wanted ≡ found_row hall (lookup_from hall wanted i (suc n))) (named line (name r) (rows line))
-      (λ has. behind ∙ ap (found_row hall) (sym (if_else (Row i) _ (other_name r has))))
+      (λ has. behind ∙ ap (found_row hall) (sym (if_else (Some i) _ (other_name r has))))
       (λ _. row_found_first r (length_row hall i (omega arith)) more wanted ∙ if_alike (λ found. found) (found_row hall) (same (name r) wanted) refl behind)
 
   in_the_others : row_named (others hall line 0 (rows hall)) wanted ≡ row_named hall wanted
@@ -48,16 +46,16 @@ module _ (hall line wanted : List ℕ) (none : lookup line wanted ≡ Nowhere) w
 -- a table that finds what the hall's does wherever the line has no such name may stand for the hall's
 stands_for :
     (table hall line wanted : List ℕ)
-    → (lookup line wanted ≡ Nowhere → row_named table wanted ≡ row_named hall wanted)
+    → (lookup line wanted ≡ None → row_named table wanted ≡ row_named hall wanted)
     → find_row table line wanted ≡ find_row hall line wanted
 unfolding find_row stands held_row line_first row_named
 stands_for table hall line wanted alike = go (lookup line wanted) refl
   where
     go :
-        (in_line : Found) → lookup line wanted ≡ in_line
+        (in_line : Option ℕ) → lookup line wanted ≡ in_line
         → held_row table line (line_first in_line (lookup table wanted)) ≡ held_row hall line (line_first in_line (lookup hall wanted))
-    go (Row i) at = refl
-    go Nowhere none = none_before line table (lookup table wanted) ∙ alike none ∙ sym (none_before line hall (lookup hall wanted))
+    go (Some i) at = refl
+    go None none = none_before line table (lookup table wanted) ∙ alike none ∙ sym (none_before line hall (lookup hall wanted))
 
 -- for every name the merged table finds the row that the two find, or none where they find none
 pub merged_finds : (hall line : List ℕ) → Whole line → (wanted : List ℕ) → find_row (merged hall line) [] wanted ≡ find_row hall line wanted

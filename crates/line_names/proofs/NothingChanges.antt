@@ -1,11 +1,9 @@
 -- With an empty table of the line's nothing changes: whatever its other arguments, every entry answers as before request five. The writer did
 -- not move. Assumes nothing.
-use Rattle.std.specs.Prelude.{◌≡◌, List, [], ◌∷◌, length}
+use Rattle.std.specs.Prelude.{◌≡◌, List, [], ◌∷◌, length, Option, Some, None}
 use Rattle.std.proofs.Math.Path.{refl}
 use Prim.Native.Nat.{ℕ, zero, suc}
 use Rattle.std.proofs.Common.{arith}
-use Rattle.rules.specs.declared.Found.{Found}
-use Rattle.rules.specs.declared.Found.TheVariants.{Row, Nowhere}
 use Rattle.rules.specs.declared.Length.{Length}
 use Rattle.rules.specs.NumbersHandedBack.{◌>>◌, unless}
 use Rattle.rules.specs.SettingsAndUnitTable.{row_size, rows_in, row, whole_rows_in, rows_check, units_check_in, table_check, line_check, Card, card_check, lookup_from_in, lookup, lookup_in, line_first, stands, held_row, find_row}
@@ -29,18 +27,18 @@ first_byte (size ∷ more) sized = (size, more, refl)
 
 -- without a table of the line's: the same is made of the row that is found as of its number, and of none as of none
 by_its_number :
-    {A : Type 0} (made : List ℕ → A) (made_before : Found → A) (table wanted : List ℕ)
-    → ((i size : ℕ) (more : List ℕ) → row table i ≡ size ∷ more → made (row table i) ≡ made_before (Row i))
-    → made [] ≡ made_before Nowhere
+    {A : Type 0} (made : List ℕ → A) (made_before : Option ℕ → A) (table wanted : List ℕ)
+    → ((i size : ℕ) (more : List ℕ) → row table i ≡ size ∷ more → made (row table i) ≡ made_before (Some i))
+    → made [] ≡ made_before None
     → made (find_row table [] wanted) ≡ made_before (lookup table wanted)
 unfolding find_row stands line_first held_row lookup_in lookup_from_in rows_in
 by_its_number made made_before table wanted some none = go (lookup table wanted) refl
   where
-    go : (f : Found) → lookup table wanted ≡ f → made (held_row table [] (line_first Nowhere f)) ≡ made_before f
-    go (Row i) at =
+    go : (f : Option ℕ) → lookup table wanted ≡ f → made (held_row table [] (line_first None f)) ≡ made_before f
+    go (Some i) at =
         let (size, more, e) = first_byte (row table i) (length_row table i (lookup_found table wanted i at).0) in
         some i size more e
-    go Nowhere at = none
+    go None at = none
 
 module _ (card : before.Card) where
   -- ---- the card
@@ -66,9 +64,9 @@ module _ (card : before.Card) where
     unfolding numeral_step numeral_found before.numeral_step before.numeral_found
     numeral_as_before place = go (lookup card.numerals _)
       where
-        go : (f : Found) → numeral_found (now card) text place f ≡ before.numeral_found card text place f
-        go (Row i) = refl
-        go Nowhere = refl
+        go : (f : Option ℕ) → numeral_found (now card) text place f ≡ before.numeral_found card text place f
+        go (Some i) = refl
+        go None = refl
 
     part_as_before : (place : ℕ) → part (now card) text place ≡ before.part card text place
     unfolding part unsigned_part finite_part spoken_part before.part before.unsigned_part before.finite_part before.spoken_part

@@ -1,10 +1,8 @@
 -- Cards of the same settings and numerals whose tables find the same row for every name read every text to the same, and every entry answers
 -- the same under both if the check says the same of both; so two tables and the merged one read every text to the same. Assumes nothing.
-use Rattle.std.specs.Prelude.{◌≡◌, List}
+use Rattle.std.specs.Prelude.{◌≡◌, List, Option, Some, None}
 use Rattle.std.proofs.Math.Path.{refl}
 use Prim.Native.Nat.{ℕ, zero, suc}
-use Rattle.rules.specs.declared.Found.{Found}
-use Rattle.rules.specs.declared.Found.TheVariants.{Row, Nowhere}
 use Rattle.rules.specs.declared.Length.{Length}
 use Rattle.rules.specs.declared.Settings.{Settings}
 use Rattle.rules.specs.SettingsAndUnitTable.{Card, card_check}
@@ -21,10 +19,10 @@ module _ {a b : Card} (alike : Alike a b) (text : List ℕ) where
   unfolding find_unit
   found_alike place = rw alike.settings (alike.finds _)
 
-  numeral_found_alike : (place : ℕ) (f : Found) → numeral_found a text place f ≡ numeral_found b text place f
+  numeral_found_alike : (place : ℕ) (f : Option ℕ) → numeral_found a text place f ≡ numeral_found b text place f
   unfolding numeral_found
-  numeral_found_alike place (Row i) = rw (alike.settings, alike.numerals)
-  numeral_found_alike place Nowhere = refl
+  numeral_found_alike place (Some i) = rw (alike.settings, alike.numerals)
+  numeral_found_alike place None = refl
 
   numeral_alike : (place : ℕ) → numeral_step a text place ≡ numeral_step b text place
   unfolding numeral_step

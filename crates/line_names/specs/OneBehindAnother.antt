@@ -1,5 +1,5 @@
 -- A table behind one of whole rows: its rows, its names, and what is found. Assumes nothing.
-use Rattle.std.specs.Prelude.{◌≡◌, Bool, true, false, List, [], ◌++◌, leb, drop}
+use Rattle.std.specs.Prelude.{◌≡◌, Bool, true, false, List, [], ◌++◌, leb, drop, Option, Some, None}
 use Rattle.std.proofs.Math.Path.{refl, sym}
 use Rattle.std.proofs.Common.{◌∙◌, zero-add, add-suc, suc-add, leb-true, leb-false}
 use Prim.Native.Nat.{ℕ, zero, suc, ◌+◌, ◌*◌, ◌-◌, ◌%◌, ◌≤◌, ◌<◌}
@@ -8,8 +8,6 @@ use native.Mathlib.Omega.{arith}
 use Rattle.std.proofs.Math.ListN.{length, length-append, length-drop}
 use Rattle.std.proofs.Math.Seq.{take_all, drop-append-add}
 use Rattle.std.proofs.lemmas.List.{take-append-le, drop-append-le}
-use Rattle.rules.specs.declared.Found.{Found}
-use Rattle.rules.specs.declared.Found.TheVariants.{Row, Nowhere}
 use Rattle.rules.specs.Common.{when◌then◌else◌, same}
 use Rattle.rules.specs.SettingsAndUnitTable.{row_size, rows, rows_in, row, row_in, name, named, named_in, lookup_from, lookup_from_in, lookup, lookup_in, line_first, stands, held_row, find_row}
 use Rattle.rows.specs.Named.{found_row, row_named}
@@ -81,10 +79,10 @@ if_alike f g true then_alike else_alike = then_alike
 if_alike f g false then_alike else_alike = else_alike
 
 -- where the first of two tables has no row of the name, the second one's is found
-pub none_before : (a b : List ℕ) (in_b : Found) → held_row b a (line_first Nowhere in_b) ≡ found_row b in_b
+pub none_before : (a b : List ℕ) (in_b : Option ℕ) → held_row b a (line_first None in_b) ≡ found_row b in_b
 unfolding held_row line_first found_row
-none_before a b (Row i) = refl
-none_before a b Nowhere = refl
+none_before a b (Some i) = refl
+none_before a b None = refl
 
 -- so without a table of the line's, the hall's
 pub found_alone : (table wanted : List ℕ) → find_row table [] wanted ≡ row_named table wanted

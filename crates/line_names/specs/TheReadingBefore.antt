@@ -1,10 +1,8 @@
 -- The definitions that request five moved, as they were before it, under the names that they had. Written out, so that they do not follow
 -- those of now; what did not move is cited. Assumes nothing.
-use Rattle.std.specs.Prelude.{Bool, ◌&&◌, ◌||◌, List, [], ◌∷◌, ℕ, zero, suc, leb, length}
+use Rattle.std.specs.Prelude.{Bool, ◌&&◌, ◌||◌, List, [], ◌∷◌, ℕ, zero, suc, leb, length, Option, Some, None}
 use Rattle.std.proofs.Math.Seq.{slice}
 use Rattle.rules.specs.declared.Answer.{Answer}
-use Rattle.rules.specs.declared.Found.{Found}
-use Rattle.rules.specs.declared.Found.TheVariants.{Row, Nowhere}
 use Rattle.rules.specs.declared.Length.{Length}
 use Rattle.rules.specs.declared.Numeral.{Numeral}
 use Rattle.rules.specs.declared.Part.{Part}
@@ -41,36 +39,36 @@ card_check card = do
 
 -- ---- the unit: the number of the row that has the stretch as its name
 
-unfoldable pub find_unit : Card → List ℕ → ℕ → Found
+unfoldable pub find_unit : Card → List ℕ → ℕ → Option ℕ
 find_unit card text place = lookup card.units (slice place (run (in_stretch card.settings) text place) text)
 
-unfoldable pub unit_found : Card → List ℕ → ℕ → Found → Outcome declared_unit.Unit
-unit_found card text place (Row i) = ago_step card.settings text (product (row card.units i)) (run (in_stretch card.settings) text place)
-unit_found card text place Nowhere = got (record { multiplier = kind_multiplier card.settings.default_kind; next = place })
+unfoldable pub unit_found : Card → List ℕ → ℕ → Option ℕ → Outcome declared_unit.Unit
+unit_found card text place (Some i) = ago_step card.settings text (product (row card.units i)) (run (in_stretch card.settings) text place)
+unit_found card text place None = got (record { multiplier = kind_multiplier card.settings.default_kind; next = place })
 
 unfoldable pub unit_step : Card → List ℕ → ℕ → Outcome declared_unit.Unit
 unit_step card text place = unit_found card text place (find_unit card text place)
 
 -- ---- the numeral and its unit
 
-unfoldable pub numeral_found : Card → List ℕ → ℕ → Found → Outcome Numeral
-numeral_found card text place (Row i) =
+unfoldable pub numeral_found : Card → List ℕ → ℕ → Option ℕ → Outcome Numeral
+numeral_found card text place (Some i) =
     when sees (holds card.settings.inner) text (numeral_end card.settings text place)
     then
     (delimiters card.settings.inner text (numeral_end card.settings text place)
     >>= λ next. got (record { multiplier = row_multiplier (row card.numerals i); next = next }))
     else refused (NoNumber place)
-numeral_found card text place Nowhere = refused (NoNumber place)
+numeral_found card text place None = refused (NoNumber place)
 
 unfoldable pub numeral_step : Card → List ℕ → ℕ → Outcome Numeral
 numeral_step card text place =
     numeral_found card text place (lookup card.numerals (slice place (numeral_end card.settings text place) text))
 
-unfoldable pub spoken_unit_found : Card → List ℕ → ℕ → Found → Outcome SpokenUnit
-spoken_unit_found card text place (Row i) =
+unfoldable pub spoken_unit_found : Card → List ℕ → ℕ → Option ℕ → Outcome SpokenUnit
+spoken_unit_found card text place (Some i) =
     ago_step card.settings text (row_multiplier (row card.units i)) (run (in_stretch card.settings) text place)
     >>= λ unit. got (record { kind = kind_multiplier (kind (row card.units i)); row = unit.multiplier; next = unit.next })
-spoken_unit_found card text place Nowhere = refused (NoUnit place)
+spoken_unit_found card text place None = refused (NoUnit place)
 
 unfoldable pub spoken_unit_step : Card → List ℕ → ℕ → Outcome SpokenUnit
 spoken_unit_step card text place = spoken_unit_found card text place (find_unit card text place)

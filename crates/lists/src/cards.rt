@@ -2,9 +2,10 @@
 // line's and of the numerals) and then the rows of each, each in its stored form, the last one of each whole. Sizes, counts and kinds can be
 // wrong, since refusal 7 is about such cards.
 use crate::fields::{byte_at, flag_at, further, short_at, word_at};
-use crate::lines::read_line;
+use crate::lines::{first_bytes, read_line};
 use rows::fields::ROW_SIZE;
 use rules::{ByteSet, Conjunction, Settings};
+use settings::fields::words_of;
 use stored::{LINE_SIZE, restore_row};
 
 // Where each field of a card's line stands.
@@ -32,19 +33,22 @@ const HEAD: usize = 231;
 // The longest table of a list: four times as many rows as a unit table may have.
 pub const MOST_BYTES: usize = 12_288;
 
-// Settings, and how many bytes each table has.
+// A card as it is lent: its settings, the hall's table, the line's, and the numerals.
 #[derive(Clone, Copy)]
-pub struct Card {
-    pub settings: Settings,
-    pub hall_size: usize,
-    pub line_size: usize,
-    pub numerals_size: usize,
+pub struct Lent<'a> {
+    pub settings: &'a [u64; 25],
+    pub hall: &'a [u8],
+    pub line: &'a [u8],
+    pub numerals: &'a [u8],
 }
 
-#[derive(Clone, Copy)]
-pub enum Next {
-    End,
-    Card(Card),
+// Room for a card of a list.
+#[derive(Drop)]
+pub struct Room {
+    pub settings: [u64; 25],
+    pub hall: [u8; MOST_BYTES],
+    pub line: [u8; MOST_BYTES],
+    pub numerals: [u8; MOST_BYTES],
 }
 
 fn set_at(line: &[u8], place: usize) -> ByteSet {
@@ -83,46 +87,51 @@ fn settings_of(line: &[u8]) -> Settings {
     }
 }
 
-// The next row of the list, put where it belongs in the table. False where the list ends or a line is no row.
-fn read_row(table: &mut [u8], at: usize) -> bool {
+// The next row of the list, put where it belongs in the table. None where the list ends or a line is no row.
+fn read_row(table: &mut [u8], at: usize) -> Option<()> {
     let mut line = [0u8; LINE_SIZE];
-    if read_line(&mut line) && at <= table.len() {
-        restore_row(&line, &mut table[at..])
+    read_line(&mut line)?;
+    if at <= table.len() && restore_row(&line, &mut table[at..]) {
+        Some(())
     } else {
-        false
+        None
     }
 }
 
-// The rows of a table of so many bytes. Where one is missing, those behind it are too.
-fn read_table(table: &mut [u8], size: u16) -> bool {
-    let end = size as usize;
-    let mut more = true;
-    let mut at = 0;
-    while at < end {
-        more = read_row(table, at) & more;
-        at += ROW_SIZE;
+// The rows of a table of so many bytes.
+fn read_table(table: &mut [u8], size: u16) -> Option<()> {
+    for row in 0..(size as usize).div_ceil(ROW_SIZE) {
+        read_row(table, row * ROW_SIZE)?;
     }
-    more
+    Some(())
 }
 
-// The next card of the list; its tables are put at the starts of the buffers.
-pub fn next_card(hall: &mut [u8], line: &mut [u8], numerals: &mut [u8]) -> Next {
-    let mut head = [0u8; HEAD];
-    let more = read_line(&mut head);
-    let of_hall = short_at(&head, HALL_SIZE_AT);
-    let of_line = short_at(&head, LINE_SIZE_AT);
-    let of_numerals = short_at(&head, NUMERALS_SIZE_AT);
-    let card = Card {
-        settings: settings_of(&head),
-        hall_size: of_hall as usize,
-        line_size: of_line as usize,
-        numerals_size: of_numerals as usize,
-    };
-    let halls = read_table(hall, of_hall);
-    let lines = read_table(line, of_line);
-    if read_table(numerals, of_numerals) & lines & halls & more {
-        Next::Card(card)
-    } else {
-        Next::End
+impl Room {
+    pub fn new() -> Self {
+        Room {
+            settings: [0; 25],
+            hall: [0; MOST_BYTES],
+            line: [0; MOST_BYTES],
+            numerals: [0; MOST_BYTES],
+        }
+    }
+
+    // The next card of the list.
+    pub fn next_card(&mut self) -> Option<Lent<'_>> {
+        let mut head = [0u8; HEAD];
+        read_line(&mut head)?;
+        let of_hall = short_at(&head, HALL_SIZE_AT);
+        let of_line = short_at(&head, LINE_SIZE_AT);
+        let of_numerals = short_at(&head, NUMERALS_SIZE_AT);
+        read_table(&mut self.hall, of_hall)?;
+        read_table(&mut self.line, of_line)?;
+        read_table(&mut self.numerals, of_numerals)?;
+        self.settings = words_of(settings_of(&head));
+        Some(Lent {
+            settings: &self.settings,
+            hall: first_bytes(&self.hall, of_hall as usize),
+            line: first_bytes(&self.line, of_line as usize),
+            numerals: first_bytes(&self.numerals, of_numerals as usize),
+        })
     }
 }

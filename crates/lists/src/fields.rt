@@ -11,11 +11,9 @@ const FAR: usize = 1_048_576;
 fn digit_at(line: &[u8], place: usize) -> u8
     ensures { result < 16 }
 {
-    if place < line.len() {
-        let byte = line[place];
-        (byte % 16 + byte % 128 / 64 * 9) % 16
-    } else {
-        0
+    match line.get(place) {
+        Some(byte) => (byte % 16 + byte % 128 / 64 * 9) % 16,
+        None => 0,
     }
 }
 
@@ -35,23 +33,28 @@ pub fn flag_at(line: &[u8], place: usize) -> bool {
     byte_at(line, place) != 0
 }
 
+// So many bytes, one behind the other.
+fn bytes_at<const N: usize>(line: &[u8], place: usize) -> [u8; N] {
+    let mut bytes = [0u8; N];
+    let mut at = place;
+    for byte in bytes.iter_mut() {
+        *byte = byte_at(line, at);
+        at = further(at, 2);
+    }
+    bytes
+}
+
 // Numbers of two, four and eight bytes.
 pub fn short_at(line: &[u8], place: usize) -> u16 {
-    let low = byte_at(line, place) as u16;
-    let high = byte_at(line, further(place, 2)) as u16;
-    low + high * 256
+    u16::from_le_bytes(bytes_at(line, place))
 }
 
 pub fn half_at(line: &[u8], place: usize) -> u32 {
-    let low = short_at(line, place) as u32;
-    let high = short_at(line, further(place, 4)) as u32;
-    low + high * 65_536
+    u32::from_le_bytes(bytes_at(line, place))
 }
 
 pub fn word_at(line: &[u8], place: usize) -> u64 {
-    let low = half_at(line, place) as u64;
-    let high = half_at(line, further(place, 8)) as u64;
-    low + high * 4_294_967_296
+    u64::from_le_bytes(bytes_at(line, place))
 }
 
 // A length: whether it is negative, its seconds, its nanoseconds.
@@ -61,8 +64,4 @@ pub fn length_at(line: &[u8], place: usize) -> Length {
         seconds: word_at(line, further(place, 2)),
         nanoseconds: half_at(line, further(place, 18)),
     }
-}
-
-pub fn same_length(a: Length, b: Length) -> bool {
-    (a.negative == b.negative) & (a.seconds == b.seconds) & (a.nanoseconds == b.nanoseconds)
 }

@@ -7,6 +7,7 @@ pub mod counts;
 pub mod edges;
 pub mod fields;
 pub mod lines;
+pub mod often;
 pub mod printed;
 pub mod streams;
 pub mod sums;

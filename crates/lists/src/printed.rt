@@ -1,5 +1,5 @@
-// Answers: printed as the line program prints them, and compared.
-use crate::fields::same_length;
+// Answers and numbers, printed. The functions of `io` are called and not `print!`, which would pass the runtime through every function on the
+// way and be no shorter.
 use crate::lines::first_bytes;
 use crate::streams::STDOUT;
 use printing::put_answer;
@@ -15,6 +15,14 @@ pub fn print_answer(answer: Answer) {
     io::write_all(STDOUT, first_bytes(&line, printed));
 }
 
-pub fn same_answer(a: Answer, b: Answer) -> bool {
-    (a.number == b.number) & (a.position == b.position) & same_length(a.length, b.length)
+// A number, and what stands behind it.
+pub fn print_number(number: u64, behind: &[u8]) {
+    io::print_decimal(STDOUT, number);
+    io::write_all(STDOUT, behind);
+}
+
+// Number and position of an answer, and what stands behind them.
+pub fn print_place(answer: Answer, behind: &[u8]) {
+    print_number(u64::from(answer.number), b" ");
+    print_number(answer.position as u64, behind);
 }

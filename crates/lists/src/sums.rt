@@ -19,16 +19,8 @@ pub fn mixed_answer(sum: u64, answer: Answer) -> u64 {
     mixed(mixed(at, length.seconds), length.nanoseconds as u64)
 }
 
-fn wide(byte: u8) -> u64 {
-    byte as u64
-}
-
 pub fn mixed_bytes(sum: u64, bytes: &[u8]) -> u64 {
-    let mut then = sum;
-    let mut i = 0;
-    while i < bytes.len() {
-        then = mixed(then, wide(bytes[i]));
-        i += 1;
-    }
-    then
+    bytes
+        .iter()
+        .fold(sum, |then, byte| mixed(then, u64::from(*byte)))
 }

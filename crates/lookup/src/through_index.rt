@@ -1,12 +1,12 @@
-// The search through an index: half of what is left goes with each name that is compared.
+// The search through an index: half of what is left goes with each name that is compared. A loop of its own, since how many it compares is handed back, and
+// the library's search compares others.
 ghost use Rattle.std.specs.Prelude.{◌≡◌};
 ghost use Rattle.index.specs.TheSortedIndex.{index_search};
 ghost use Rattle.index.specs.Laws.Right.{Right};
 
-use crate::names::order;
-use index::{Order, Searched};
+use index::Searched;
 use rows::fields::{name_of, row_at};
-use rules::Found;
+use std::cmp::Ordering;
 
 // The row that has the name, and how many rows were probed. What is left are the entries from low up to high.
 pub fn probe(table: &[u8], index: &[u8], wanted: &[u8]) -> Searched
@@ -20,19 +20,19 @@ pub fn probe(table: &[u8], index: &[u8], wanted: &[u8]) -> Searched
         let middle = (low + high) / 2;
         let row = index[middle] as usize;
         compared += 1;
-        match order(wanted, name_of(row_at(table, row))) {
-            Order::Before => high = middle,
-            Order::Same => {
+        match wanted.cmp(name_of(row_at(table, row))) {
+            Ordering::Less => high = middle,
+            Ordering::Equal => {
                 return Searched {
-                    found: Found::Row(row),
+                    found: Some(row),
                     compared,
                 };
             }
-            Order::After => low = middle + 1,
+            Ordering::Greater => low = middle + 1,
         }
     }
     Searched {
-        found: Found::Nowhere,
+        found: None,
         compared,
     }
 }

@@ -4,13 +4,13 @@
 ghost use Rattle.std.specs.Prelude.{◌≡◌};
 ghost use Rattle.moves.specs.NamesLongerThanSixteenBytes.{to_new_answer, new_target, to_old_answer, old_target};
 
-use mover::move_lines;
+use mover::{Room, move_lines};
 use rules::Answer;
 
 // The room that each form has for a name.
-const NEW_ROOM: usize = 32;
+const NEW_ROOM: Room = Room { bytes: 32 };
 
-const OLD_ROOM: usize = 16;
+const OLD_ROOM: Room = Room { bytes: 16 };
 
 // Lines of the old form to the new one.
 pub fn move_to_new(source: &[u8], target: &mut [u8]) -> Answer

@@ -3,8 +3,8 @@
 #![tactic(auto)]
 
 use lists::lines::first_bytes;
+use lists::printed::print_place;
 use lists::streams::{STDIN, STDOUT};
-use move_entries::{move_to_new, move_to_old};
 use rules::Answer;
 
 // The bytes of 4,096 lines in the old form and in the new one: as many lines are taken.
@@ -17,36 +17,26 @@ pub const PAST_OLD_LINES: usize = 266_241;
 
 pub const PAST_NEW_LINES: usize = 397_313;
 
-fn move_lines(to_new: bool, source: &[u8], target: &mut [u8]) -> Answer {
-    if to_new {
-        return move_to_new(source, target);
-    }
-    move_to_old(source, target)
-}
-
-// Where more was read than is taken, a bad line in what is taken is told, or else that there is no room for all: that is what a target without room gets.
-fn move_read(to_new: bool, most: usize, read: &[u8], target: &mut [u8]) -> Answer {
-    if read.len() > most {
-        return move_lines(to_new, first_bytes(read, most), &mut target[..0]);
-    }
-    move_lines(to_new, read, target)
-}
-
-fn print_refusal(answer: Answer) {
-    io::print_decimal(STDOUT, answer.number as u64);
-    io::write_all(STDOUT, b" ");
-    io::print_decimal(STDOUT, answer.position as u64);
-    io::write_all(STDOUT, b"\n");
-}
-
-// All of standard input, of which so many bytes are taken, by way of a source that has room for a byte more and a target that has room for what becomes
-// of them.
-pub fn move_input(to_new: bool, most: usize, source: &mut [u8], target: &mut [u8]) {
-    let read = io::read_full(STDIN, source);
-    let answer = move_read(to_new, most, first_bytes(source, read), target);
+// All of standard input, of which the source has room for all bytes that are taken and one more, by way of a target that has room for what becomes of
+// them. Where more was read than is taken, a bad line in what is taken is told, or else that there is no room for all: that is what a target without
+// room gets.
+pub fn move_input<M: Fn(&[u8], &mut [u8]) -> Answer>(
+    move_lines: M,
+    source: &mut [u8],
+    target: &mut [u8],
+)
+    requires { M.IsAlwaysCallable move_lines }
+{
+    let most = source.len().saturating_sub(1);
+    let size = io::read_full(STDIN, source);
+    let answer = if size > most {
+        move_lines(first_bytes(source, most), &mut [])
+    } else {
+        move_lines(first_bytes(source, size), target)
+    };
     if answer.number == 0 {
         io::write_all(STDOUT, first_bytes(target, answer.position));
-        return;
+    } else {
+        print_place(answer, b"\n");
     }
-    print_refusal(answer);
 }

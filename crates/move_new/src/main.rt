@@ -1,10 +1,11 @@
 // Stored lines of the old form, moved to the new one.
 #![tactic(auto)]
 
-use move_lines::{NEW_LINES, OLD_LINES, PAST_OLD_LINES, move_input};
+use move_entries::move_to_new;
+use move_lines::{NEW_LINES, PAST_OLD_LINES, move_input};
 
 fn main() {
     let mut source = [0u8; PAST_OLD_LINES];
     let mut target = [0u8; NEW_LINES];
-    move_input(true, OLD_LINES, &mut source, &mut target);
+    move_input(move_to_new, &mut source, &mut target);
 }

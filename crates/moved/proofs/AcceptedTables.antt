@@ -1,10 +1,9 @@
 -- A table that passes its check in one form, with names that another form has room for, passes it there, and every name finds there what it
 -- found. Assumes nothing.
-use Rattle.std.specs.Prelude.{◌≡◌, List, ℕ, zero, suc, ◌+◌, ◌<◌, length}
+use Rattle.std.specs.Prelude.{◌≡◌, List, ℕ, zero, suc, ◌+◌, ◌<◌, length, Some}
 use Rattle.std.proofs.Math.Path.{ap}
 use Rattle.std.proofs.Common.{◌∙◌, arith}
 use Rattle.std.proofs.Math.Nat.{div-add-mod'}
-use Rattle.rules.specs.declared.Found.TheVariants.{Row}
 use Rattle.rules.specs.declared.Refusal.{Refusal}
 use Rattle.rules.specs.declared.Settings.{Settings}
 use Rattle.rules.specs.Common.{same}
@@ -21,11 +20,11 @@ use Rattle.moved.specs.StandingTables.{TableStands, NamesFit, units_stand, numer
 use Rattle.moved.proofs.StandingTables.{all_movable}
 
 -- a row that is found is one of those that were looked at
-found_below : (room : ℕ) (table wanted : List ℕ) {k : ℕ} (n i : ℕ) → lookup_from_in room table wanted i n ≡ Row k → k < i + n
+found_below : (room : ℕ) (table wanted : List ℕ) {k : ℕ} (n i : ℕ) → lookup_from_in room table wanted i n ≡ Some k → k < i + n
 unfolding lookup_from_in
 found_below room table wanted zero i = λ e. let none : ◌≡◌ {A = ℕ} 0 1 = cc in absurd (omega arith)
 found_below room table wanted {k} (suc n) i =
-    if_either (λ f. f ≡ Row k → k < i + suc n) (same (name (row_in room table i)) wanted)
+    if_either (λ f. f ≡ Some k → k < i + suc n) (same (name (row_in room table i)) wanted)
     (λ _ e. let here : i ≡ k = cc in omega arith)
     (λ _ e. omega (arith, found_below room table wanted n (suc i) e))
 
@@ -46,7 +45,7 @@ module _ (from to : ℕ) (table : List ℕ) where
     lookup_there wanted = same_lookup from to table moves wanted
 
     -- the row that a name finds has the same multiplier
-    pub multiplier_there : (wanted : List ℕ) {i : ℕ} → lookup_in from table wanted ≡ Row i → product_in to (row_in to (moved_table from to table) i) ≡ product_in from (row_in from table i)
+    pub multiplier_there : (wanted : List ℕ) {i : ℕ} → lookup_in from table wanted ≡ Some i → product_in to (row_in to (moved_table from to table) i) ≡ product_in from (row_in from table i)
     unfolding lookup_in
     multiplier_there wanted {i} e = row_product from to table moves i (omega (arith, found_below from table wanted (rows_in from table) 0 e))
 

@@ -1,8 +1,7 @@
 -- The two forms of request eight, whose rows have a room of 16 bytes and of 32: what the theorems over any two rooms say of them. From the old
 -- form every name fits. Assumes nothing.
-use Rattle.std.specs.Prelude.{◌≡◌, true, List, ℕ, ◌*◌, ◌≤◌, length}
+use Rattle.std.specs.Prelude.{◌≡◌, true, List, ℕ, ◌*◌, ◌≤◌, length, Some}
 use Rattle.std.proofs.Common.{arith}
-use Rattle.rules.specs.declared.Found.TheVariants.{Row}
 use Rattle.rules.specs.declared.Refusal.{Refusal}
 use Rattle.rules.specs.declared.Settings.{Settings}
 use Rattle.rules.specs.ThePartOfTheCrateWeTake.{zero_length}
@@ -76,7 +75,7 @@ module _ (table : List ℕ) where
     pub new_lookup : (wanted : List ℕ) → lookup (moved_table old_room name_room table) wanted ≡ lookup_in old_room table wanted
     new_lookup = lookup_there old_room name_room table t (new_fit t)
 
-    pub new_multiplier : (wanted : List ℕ) {i : ℕ} → lookup_in old_room table wanted ≡ Row i → product (row (moved_table old_room name_room table) i) ≡ product_in old_room (row_in old_room table i)
+    pub new_multiplier : (wanted : List ℕ) {i : ℕ} → lookup_in old_room table wanted ≡ Some i → product (row (moved_table old_room name_room table) i) ≡ product_in old_room (row_in old_room table i)
     new_multiplier = multiplier_there old_room name_room table t (new_fit t)
 
     pub new_table_back : moved_table name_room old_room (moved_table old_room name_room table) ≡ table
@@ -98,7 +97,7 @@ module _ (table : List ℕ) (fit : NamesFit name_room old_room table) where
     pub old_lookup : (wanted : List ℕ) → lookup_in old_room (moved_table name_room old_room table) wanted ≡ lookup table wanted
     old_lookup = lookup_there name_room old_room table t fit
 
-    pub old_multiplier : (wanted : List ℕ) {i : ℕ} → lookup table wanted ≡ Row i → product_in old_room (row_in old_room (moved_table name_room old_room table) i) ≡ product (row table i)
+    pub old_multiplier : (wanted : List ℕ) {i : ℕ} → lookup table wanted ≡ Some i → product_in old_room (row_in old_room (moved_table name_room old_room table) i) ≡ product (row table i)
     old_multiplier = multiplier_there name_room old_room table t fit
 
     pub old_table_back : moved_table old_room name_room (moved_table name_room old_room table) ≡ table

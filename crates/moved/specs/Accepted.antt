@@ -33,9 +33,9 @@ both_passed first second false b x e = absurd (not_got first e)
 
 tested_got : {A : Type 0} (m : Outcome A) (cause : Refusal) (test : A → Bool) {a : A} → (m >>= λ x. unless cause (test x) >> got x) ≡ got a → (m ≡ got a) × (test a ≡ true)
 unfolding ◌>>=◌ ◌>>◌ unless
-tested_got (got x) cause test {a = a} e = go (test x) refl e
+tested_got {A = A} (got x) cause test {a = a} e = go (test x) refl e
   where
-    go : (t : Bool) → test x ≡ t → (unless cause t >> got x) ≡ got a → (got x ≡ got a) × (test a ≡ true)
+    go : (t : Bool) → test x ≡ t → (unless cause t >> got x) ≡ got a → ◌≡◌ {A = Outcome A} (got x) (got a) × (test a ≡ true)
     go true passed same = let there : x ≡ a = cc in (same, rw (← there) passed)
     go false passed same = absurd (not_got cause same)
 tested_got (refused first) cause test e = absurd (not_got first e)

@@ -3,20 +3,18 @@ use Rattle.std.specs.Prelude.{◌≡◌, List, ℕ, ◌*◌, ◌/◌, ◌≤◌,
 use Rattle.std.proofs.Common.{sym, ap, ◌∙◌, zero-add, le-div_iff_mul-le, div-lt_iff_lt-mul, arith}
 use Rattle.rules.specs.declared.Refusal.TheVariants.{NoRoom}
 use Rattle.rules.specs.ThePartOfTheCrateWeTake.{zero_length}
-use Rattle.rules.specs.NumbersHandedBack.{got, refused, done, refusal}
+use Rattle.rules.specs.NumbersHandedBack.{Outcome, got, refused, done, refusal}
 use Rattle.stored.specs.Lines.{line_size_in}
 use Rattle.writing.specs.Laid.{laid}
 use Rattle.moves.specs.NamesLongerThanSixteenBytes.{lines, move_lines, move_answer, moved_target}
 use Rattle.moves.specs.Laws.Moves.{AllMove, moved_pieces}
 use Rattle.moves.proofs.Laws.Moves.{moved_pieces_long, all_moved, no_room, enough, not_moved, is_moved}
-use Rattle.mover.specs.declared.checked.Lines.{Lines}
-use Rattle.mover.specs.declared.checked.Lines.TheVariants.{Right, Wrong}
 
-abbrev pub CheckedSo : ℕ → ℕ → List ℕ → Lines → Type 0
-CheckedSo from to source (Right count) = (length source ≡ count * line_size_in from) × AllMove from to source count
-CheckedSo from to source (Wrong cause) = move_lines from to 0 (lines source) ≡ refused cause
+abbrev pub CheckedSo : ℕ → ℕ → List ℕ → Outcome ℕ → Type 0
+CheckedSo from to source (got count) = (length source ≡ count * line_size_in from) × AllMove from to source count
+CheckedSo from to source (refused cause) = move_lines from to 0 (lines source) ≡ refused cause
 
-module _ (from to count size : ℕ) (source target : List ℕ) (right : CheckedSo from to source (Right count)) (sized : size ≡ line_size_in to) where
+module _ (from to count size : ℕ) (source target : List ℕ) (right : CheckedSo from to source (got count)) (sized : size ≡ line_size_in to) where
   moved_all : move_lines from to 0 (lines source) ≡ got (moved_pieces from to source count)
   moved_all = all_moved from to source count right.1 right.0
 

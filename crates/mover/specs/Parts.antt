@@ -1,14 +1,18 @@
 -- Parts of a line as the code has them, by where each starts and ends: which of them are zeros, and what they come to, one laid behind another.
 -- Assumes nothing.
-use Rattle.std.specs.Prelude.{◌≡◌, true, ◌&&◌, List, [], ◌∷◌, ◌++◌, ℕ, ◌+◌, ◌*◌, ◌-◌, ◌≤◌, ◌<◌, eqb, length, take, drop, set, replicate}
-use Rattle.std.proofs.Common.{sym, ap, ◌∙◌, arith, length-append, length-drop, take_all, length-take-le}
+use Rattle.std.specs.Prelude.{◌≡◌, refl, Bool, true, ◌&&◌, List, ◌++◌, ℕ, ◌+◌, ◌*◌, ◌-◌, ◌≤◌, eqb, length, take, drop, replicate}
+use borrow.Rule.Slice.PartMut.{put_mid}
+use Rattle.std.proofs.Math.Seq.{drop-drop}
+use Rattle.std.proofs.Common.{sym, ap, ◌∙◌, arith, append_assoc, length-append, length-drop, take_all, length-take-le}
 use Rattle.std.proofs.lemmas.List.{length-replicate}
+use Rattle.std.specs.List.{list_all}
+use Rattle.std.proofs.lemmas.List.Recursion.{same_from_clauses}
 use Rattle.rules.specs.Common.{between, all}
 use Rattle.rules.specs.SettingsAndUnitTable.{zeros_at_in}
 use Rattle.rules.proofs.Laws.Tests.{between_to}
 use Rattle.stored.specs.Lines.{line_size_in, line_accepted_in}
 use Rattle.stored.specs.Laws.{line_long}
-use Rattle.writing.specs.Laid.{laid, laid_then, laid_byte}
+use Rattle.writing.specs.Laid.{laid, laid_then}
 use Rattle.moves.specs.NamesLongerThanSixteenBytes.{line_stands}
 use Rattle.moves.specs.Laws.Digits.{zero_digit, told}
 use Rattle.moves.proofs.Laws.Digits.{stands_by_zeros, moved_digits}
@@ -16,6 +20,11 @@ use Rattle.moves.specs.Laws.Moves.{line_moves, moved_line}
 use Rattle.moves.proofs.Laws.Moves.{moves_stand, moves_fit, stands_accepted, stands_small}
 
 -- ---- zeros
+
+-- what the library says of a test of each element
+pub all_of : (test : ℕ → Bool) (l : List ℕ) → list_all test l ≡ all test l
+unfolding all
+all_of test l = same_from_clauses (list_all test) (all test) (λ b others. test b && others) refl (λ _ _. refl) (λ _ _. refl) l
 
 pub zeros_decide :
     (room : ℕ) (line : List ℕ) (name_end room_end end : ℕ)
@@ -34,9 +43,12 @@ zeros_decide room line name_end room_end end good inside named roomed ended =
 
 -- ---- bytes laid over a target
 
--- a byte more
-pub laid_turn : (before target bytes more : List ℕ) (at i b : ℕ) → target ≡ laid before at bytes → length bytes ≡ i → more ≡ bytes ++ b ∷ [] → at + i < length before → set target (at + i) b ≡ laid before at more
-laid_turn before target bytes more at i b so_far long one h = rw (so_far, one) (laid_byte before at (at + i) bytes b (ap (λ n. at + n) (sym long)) h)
+-- a part of a target, written anew
+pub part_laid : (a k : ℕ) (target part bytes : List ℕ) → part ≡ bytes → k ≡ length bytes → put_mid a k target part ≡ laid target a bytes
+unfolding laid
+part_laid a k target part bytes same long =
+    rw (same, long)
+    (ap (λ l. take a target ++ (bytes ++ l)) (drop-drop (length bytes) a target) ∙ sym (append_assoc (take a target) bytes (drop (a + length bytes) target)))
 
 -- the parts of a moved line
 pub laid_line :

@@ -1,5 +1,8 @@
 -- A walk over the lines of a source, one line further: what the check of a line decides, and what its writing leaves in the target. Assumes nothing.
-use Rattle.std.specs.Prelude.{◌≡◌, refl, true, false, List, ℕ, ◌+◌, ◌*◌, ◌≤◌, ◌<◌, length, take, drop}
+use Rattle.std.specs.Prelude.{◌≡◌, refl, true, false, List, ◌++◌, ℕ, ◌+◌, ◌*◌, ◌/◌, ◌≤◌, ◌<◌, min, length, take, drop}
+use Rattle.std.proofs.Math.Nat.{mul-div_cancel}
+use Rattle.std.proofs.Math.Seq.{take-append_seam, drop-append_seam, drop-drop}
+use Rattle.std.proofs.lemmas.List.{take_min}
 use Rattle.std.proofs.Common.{sym, ap, ◌∙◌, suc-mul, mul-le-mul_right, add-one, arith, length-take, length-drop, below_more}
 use Rattle.rules.specs.declared.Refusal.TheVariants.{NoStoredRow, NameTooLong}
 use Rattle.rules.specs.NumbersHandedBack.{refused}
@@ -15,6 +18,36 @@ use Rattle.moves.proofs.Laws.Moves.{stands_accepted, stands_moves, not_stored, t
 -- the place behind a line more
 pub next_place : (k at size long : ℕ) → at ≡ k * long → size ≡ long → at + size ≡ (k + 1) * long
 next_place k at size long is_at sized = rw (is_at, sized, add-one k) (sym (suc-mul k long))
+
+-- ---- a chunk comes off the front of what is left behind the first k
+
+module _ (size k : ℕ) (source left : List ℕ) (is : left ≡ drop (k * size) source) where
+  pub chunk_is : (line others : List ℕ) {asked : ℕ} → asked ≡ size → left ≡ line ++ others → length line ≡ min asked (length left) → line ≡ take size (drop (k * size) source)
+  chunk_is line others sized both long =
+      sym (take-append_seam line others)
+      ∙ ap (take (length line)) (sym both)
+      ∙ ap (λ n. take n left) (long ∙ ap (λ n. min n (length left)) sized)
+      ∙ take_min size left
+      ∙ ap (take size) is
+
+  pub some_left : 0 < length left → k * size < length source
+  some_left some = omega (arith, simp length-drop at (ap length is))
+
+  pub others_are : (line others : List ℕ) → left ≡ line ++ others → length line ≡ size → others ≡ drop ((k + 1) * size) source
+  others_are line others both long =
+      sym (drop-append_seam line others)
+      ∙ ap (drop (length line)) (sym both ∙ is)
+      ∙ ap (λ n. drop n (drop (k * size) source)) long
+      ∙ drop-drop size (k * size) source
+      ∙ ap (λ n. drop n source) (next_place k (k * size) size size refl refl)
+
+  -- and where none is left, all were counted
+  pub all_counted : length left ≡ 0 → k * size ≤ length source → 0 < size → (length source ≡ k * size) × (length source / size ≡ k)
+  all_counted none within some =
+      let long : length source ≡ k * size = omega (arith, simp length-drop at (sym (ap length is) ∙ none)) in
+      (long, rw long (mul-div_cancel k some))
+
+-- ---- a line further
 
 -- a line further is within what all lines take
 pub room_for_next : (k count size at all : ℕ) → k < count → count * size ≤ all → at ≡ k * size → at + size ≤ all

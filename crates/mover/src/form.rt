@@ -3,7 +3,25 @@ ghost use Rattle.std.specs.Prelude.{◌≡◌, ◌+◌, ◌*◌, ◌≤◌, ◌<
 ghost use Rattle.rules.specs.SettingsAndUnitTable.{name_room};
 ghost use Rattle.moves.specs.Laws.Digits.{told};
 
-use stored::digit_value;
+use stored::{digit_value, line_size};
+
+// The room that the rows of a form have for a name, by which the form is told.
+#[derive(Clone, Copy)]
+pub struct Room {
+    pub bytes: usize,
+    pub ghost in_a_row: { bytes ≤ name_room },
+}
+
+impl Room {
+    ghost use Rattle.stored.specs.Lines.{line_size_in};
+
+    // Bytes of a line.
+    pub fn line_size(self) -> usize
+        ensures { result ≡ line_size_in self.bytes }
+    {
+        line_size(self.bytes)
+    }
+}
 
 pub const ZERO_DIGIT: u8 = 48;
 
@@ -30,9 +48,6 @@ pub fn line_at(source: &[u8], at: usize, size: usize) -> &[u8]
     requires { at ≤ length source.now }
     ensures { result.now ≡ take size (drop at source.now) }
 {
-    if source.len() - at < size {
-        return &source[at..];
-    }
-    let end = at + size;
-    &source[at..end]
+    let rest = &source[at..];
+    &rest[..size.min(rest.len())]
 }

@@ -12,7 +12,7 @@ use Rattle.rules.specs.declared.Number.{Number}
 use Rattle.rules.specs.declared.Repr.TheVariants.{Typed}
 use Rattle.rules.specs.declared.Length.{Length}
 use Rattle.rules.specs.declared.Settings.{Settings}
-use Rattle.rules.specs.declared.Whole.{Whole}
+use Rattle.rules.specs.declared.Span.{Span}
 use Rattle.rules.specs.Common.{when◌then◌else◌, between, starts, sees, run, ends}
 use Rattle.rules.specs.NumbersHandedBack.{got, ◌>>=◌}
 use Rattle.rules.specs.ThePartOfTheCrateWeTake.{size, well_formed}
@@ -244,7 +244,7 @@ module _ (card : Card) (good : card_check card ≡ got tt) where
       abbrev point : ℕ
       point = place + 1 + length whole
 
-      abbrev typed : Whole
+      abbrev typed : Span
       typed = record { start = run (eqb 48) text (place + 1); end = point }
 
       module _ (none : l.nanoseconds ≡ 0) where

@@ -1,5 +1,5 @@
 -- A part as it is evaluated, and how it is put together: what it counts, and then its unit. Assumes nothing.
-use Rattle.std.specs.Prelude.{◌≡◌, Bool, false, ℕ, ◌<◌}
+use Rattle.std.specs.Prelude.{◌≡◌, Bool, false, ℕ, ◌<◌, Option, Some, None}
 use Rattle.std.proofs.Math.Path.{refl, sym, ap}
 use Rattle.std.proofs.Common.{◌∙◌}
 use mathlib.Core.List.{List, [], ◌∷◌}
@@ -7,8 +7,6 @@ use Rattle.rules.specs.declared.Settings.{Settings}
 use Rattle.rules.specs.declared.Multiplier.{Multiplier}
 use Rattle.rules.specs.declared.Number.{Number}
 use Rattle.rules.specs.declared.Scaled.{Scaled}
-use Rattle.rules.specs.declared.Found.{Found}
-use Rattle.rules.specs.declared.Found.TheVariants.{Row, Nowhere}
 use Rattle.rules.specs.declared.DurationRepr.{DurationRepr}
 use Rattle.rules.specs.declared.SpokenRepr.{SpokenRepr}
 use Rattle.rules.specs.declared.Repr.{Repr}
@@ -19,36 +17,28 @@ use Rattle.rules.specs.declared.Refusal.TheVariants.{NoUnit}
 use Rattle.rules.specs.Common.{run}
 use Rattle.rules.specs.NumbersHandedBack.{Outcome, got, refused, ◌>>=◌}
 use Rattle.rules.specs.SettingsAndUnitTable.{Card, kind_multiplier, rows, row, kind, row_multiplier, times, product, product_in}
-use Rattle.rules.specs.ReadingOnePart.{gap, number_step, exponent_step, in_stretch, find_unit, unit_found, unit_step, spoken_unit_found, spoken_unit_step, finite, spoken}
+use Rattle.rules.specs.ReadingOnePart.{gap, number_step, exponent_step, in_stretch, find_unit, unit_found, unit_step, spoken_unit_found, spoken_unit_step, finite, spoken, connection, part}
 use Rattle.rules.proofs.Laws.Outcomes.{All, all_got, all_bind, always, bind_got, bind_refused, bind_assoc, not_got}
 use Rattle.value.specs.Sums.{sum_of}
 use Rattle.value.specs.Evaluating.{one}
 use Rattle.spoken.specs.Products.{spoken_product}
+use Rattle.steps.specs.declared.number.SummedNumber.{SummedNumber}
 use Rattle.steps.specs.declared.numeral.FoundNumeral.{FoundNumeral}
+use Rattle.steps.specs.Sums.{with_sum, sums}
 use Rattle.steps.specs.declared.unit.Ago.{Ago}
-use Rattle.steps.specs.declared.unit.AgoRead.{AgoRead}
-use Rattle.steps.specs.declared.unit.AgoRead.TheVariants as AgoRead
 use Rattle.steps.specs.declared.unit.UnitRow.{UnitRow}
-use Rattle.steps.specs.declared.unit.UnitRead.{UnitRead}
-use Rattle.steps.specs.declared.unit.UnitRead.TheVariants as UnitRead
-use Rattle.steps.specs.Units.{negated_if, ago_read, ago_is, unit_row, unit_read}
-use Rattle.steps.specs.Units as units
+use Rattle.steps.specs.Units.{negated_if, agoed, ago_read, ago_is, unit_row, unit_read}
 use Rattle.steps.specs.Numerals.{numeral_row, numeral_within, numeral_of, numeral_is}
 use Rattle.reading.specs.declared.typed.Counted.{Counted}
 use Rattle.reading.specs.declared.typed.SummedPart.{SummedPart}
-use Rattle.reading.specs.Typed.{typed_finite, typed_spoken}
+use Rattle.reading.specs.Typed.{typed_finite, typed_spoken, typed_part, connected, part_connected}
 
 -- ---- as it is evaluated
 
 -- what was typed, beside the sum of its digits; 1 times the product of what was spoken, or that this is out of range
 abbrev pub coded : List ℕ → Repr → ℕ → SummedPart
-coded text (Typed d) next = record { repr = d; number = sum_of text d.whole d.fract; out_of_range = false; next = next }
-coded text (Spoken d) next = record {
-  repr = one d.negative (spoken_product d).multiplier;
-  number = 1;
-  out_of_range = (spoken_product d).out_of_range;
-  next = next;
-}
+coded text (Typed d) next = record { repr = got d; number = sum_of text d.whole d.fract; next = next }
+coded text (Spoken d) next = record { repr = spoken_product d >>= λ m. got (one d.negative m); number = 1; next = next }
 
 unfoldable pub codes : List ℕ → Outcome Part → Outcome SummedPart
 codes text step = step >>= λ p. got (coded text p.repr p.next)
@@ -63,7 +53,7 @@ module _ (text : List ℕ) {step : Outcome Part} where
       {d : DurationRepr} {next number : ℕ}
       → got (record { repr = Typed d; next = next }) ≡ step
       → number ≡ sum_of text d.whole d.fract
-      → got (record { repr = d; number = number; out_of_range = false; next = next }) ≡ codes text step
+      → got (record { repr = got d; number = number; next = next }) ≡ codes text step
   codes_typed e n = rw n (codes_got e)
 
   pub codes_refused : {cause : Refusal} → refused cause ≡ step → refused cause ≡ codes text step
@@ -71,23 +61,15 @@ module _ (text : List ℕ) {step : Outcome Part} where
   codes_refused e = sym (bind_refused _ (sym e))
 
 -- and back
-what : SummedPart → Outcome SummedPart → SummedPart
-what other (got found) = found
-what other (refused cause) = other
-
-why : Refusal → Outcome SummedPart → Refusal
-why other (got found) = other
-why other (refused cause) = cause
-
 pub coded_got : (text : List ℕ) (step : Outcome Part) {found : SummedPart} → codes text step ≡ got found → (p : Part) × (step ≡ got p) × (coded text p.repr p.next ≡ found)
-unfolding codes what ◌>>=◌
-coded_got text (got p) {found} e = (p, refl, ap (what found) e)
+unfolding codes ◌>>=◌
+coded_got text (got p) e = (p, refl, cc)
 coded_got text (refused cause) e = absurd (not_got cause e)
 
 pub coded_refused : (text : List ℕ) (step : Outcome Part) {cause : Refusal} → codes text step ≡ refused cause → step ≡ refused cause
-unfolding codes why ◌>>=◌
+unfolding codes ◌>>=◌
 coded_refused text (got p) {cause} e = absurd (not_got cause (sym e))
-coded_refused text (refused first) e = ap refused (ap (why first) e)
+coded_refused text (refused first) e = cc
 
 -- where the part ends is said beside the rest
 pub coded_end : (text : List ℕ) (d : Repr) (next : ℕ) → (coded text d next).next ≡ next
@@ -98,32 +80,31 @@ coded_end text (Spoken d) next = refl
 pub coded_at :
     (text : List ℕ) (d : Repr) (next after : ℕ) {found : SummedPart}
     → coded text d next ≡ found
-    → got (coded text d after) ≡ got (record { repr = found.repr; number = found.number; out_of_range = found.out_of_range; next = after })
-coded_at text d next after is =
-    ap got (anew d ∙ ap (λ f. record { repr = f.repr; number = f.number; out_of_range = f.out_of_range; next = after }) is)
+    → coded text d after ≡ record { repr = found.repr; number = found.number; next = after }
+coded_at text d next after is = anew d ∙ ap (λ f. record { repr = f.repr; number = f.number; next = after }) is
   where
-    anew : (d : Repr) → coded text d after ≡ record { repr = (coded text d next).repr; number = (coded text d next).number; out_of_range = (coded text d next).out_of_range; next = after }
+    anew : (d : Repr) → coded text d after ≡ record { repr = (coded text d next).repr; number = (coded text d next).number; next = after }
     anew (Typed d) = refl
     anew (Spoken d) = refl
 
 -- ---- what a part counts
 
-abbrev pub typed_counted : List ℕ → Number → Scaled → ℕ → Counted
-typed_counted text number scaled name = record {
-  whole = number.whole;
-  fract = number.fract;
-  number = sum_of text number.whole number.fract;
+abbrev pub typed_counted : SummedNumber → Scaled → ℕ → Counted
+typed_counted summed scaled name = record {
+  whole = summed.typed.whole;
+  fract = summed.typed.fract;
+  number = summed.number;
   exponent = scaled.exponent;
   next = name;
-  numeral = Nowhere;
+  numeral = None;
 }
 
 unfoldable pub typed_count : Settings → List ℕ → ℕ → Outcome Counted
 typed_count s text place = do
-  number ← number_step s text place
-  scaled ← exponent_step s text number.next
+  summed ← sums text (number_step s text place)
+  scaled ← exponent_step s text summed.typed.next
   name ← gap s.before_unit s text scaled.next
-  got (typed_counted text number scaled name)
+  got (typed_counted summed scaled name)
 
 abbrev pub spoken_counted : FoundNumeral → Counted
 spoken_counted found = record {
@@ -132,16 +113,16 @@ spoken_counted found = record {
   number = 1;
   exponent = record { negative = false; power = 0 };
   next = found.next;
-  numeral = Row found.row;
+  numeral = Some found.row;
 }
 
 unfoldable pub spoken_count : Settings → List ℕ → List ℕ → ℕ → Outcome Counted
 spoken_count s numerals text place = numeral_row s numerals text place >>= λ found. got (spoken_counted found)
 
 -- a numeral is one of the table's
-abbrev pub Numbered : List ℕ → Found → Type 0
-Numbered numerals (Row i) = i < rows numerals
-Numbered numerals Nowhere = Unit {0}
+abbrev pub Numbered : List ℕ → Option ℕ → Type 0
+Numbered numerals (Some i) = i < rows numerals
+Numbered numerals None = Unit {0}
 
 pub spoken_numbered : (s : Settings) (numerals text : List ℕ) (place : ℕ) → All (λ counted. Numbered numerals counted.numeral) (spoken_count s numerals text place)
 unfolding spoken_count
@@ -154,20 +135,14 @@ typed_numbered numerals s text place =
 
 -- ---- and its unit
 
-abbrev pub multiplied_part : Bool → Counted → Multiplier → Bool → ℕ → SummedPart
-multiplied_part negative counted m out next = record {
-  repr =
-      record {
-        negative = negative;
-        infinite = false;
-        whole = counted.whole;
-        fract = counted.fract;
-        exponent = counted.exponent;
-        multiplier = m;
-      };
-  number = counted.number;
-  out_of_range = out;
-  next = next;
+abbrev pub finite_repr : Bool → Counted → Multiplier → DurationRepr
+finite_repr negative counted m = record {
+  negative = negative;
+  infinite = false;
+  whole = counted.whole;
+  fract = counted.fract;
+  exponent = counted.exponent;
+  multiplier = m;
 }
 
 -- numeral, kind and row of a spoken number
@@ -180,25 +155,23 @@ spoken_of negative numeral unit ago = record {
 }
 
 -- what comes of the unit that was found, and of none
-abbrev pub with_unit : List ℕ → Bool → Counted → Found → UnitRow → Ago → SummedPart
-with_unit numerals negative counted Nowhere unit ago =
-    multiplied_part negative counted (negated_if ago.negated (times (kind_multiplier unit.kind) unit.own)) false ago.next
-with_unit numerals negative counted (Row i) unit ago =
-    let product = spoken_product (spoken_of negative (row_multiplier (row numerals i)) unit ago) in
-    multiplied_part negative counted product.multiplier product.out_of_range ago.next
+abbrev pub with_unit : List ℕ → Bool → Counted → Option ℕ → UnitRow → Ago → Outcome DurationRepr
+with_unit numerals negative counted None unit ago = got (finite_repr negative counted (negated_if ago.negated (times (kind_multiplier unit.kind) unit.own)))
+with_unit numerals negative counted (Some i) unit ago =
+    spoken_product (spoken_of negative (row_multiplier (row numerals i)) unit ago) >>= λ m. got (finite_repr negative counted m)
 
-abbrev pub unitless : Settings → Bool → Counted → Found → Outcome SummedPart
-unitless s negative counted Nowhere = got (multiplied_part negative counted (kind_multiplier s.default_kind) false counted.next)
-unitless s negative counted (Row i) = refused (NoUnit counted.next)
+abbrev pub counted_part : Counted → Outcome DurationRepr → ℕ → SummedPart
+counted_part counted repr next = record { repr = repr; number = counted.number; next = next }
 
-abbrev pub agoed : List ℕ → Bool → Counted → UnitRow → AgoRead → Outcome SummedPart
-agoed numerals negative counted unit (AgoRead.Got ago) = got (with_unit numerals negative counted counted.numeral unit ago)
-agoed numerals negative counted unit (AgoRead.Refused cause) = refused cause
+abbrev pub unitless : Settings → Bool → Counted → Option ℕ → Outcome SummedPart
+unitless s negative counted None = got (counted_part counted (got (finite_repr negative counted (kind_multiplier s.default_kind))) counted.next)
+unitless s negative counted (Some i) = refused (NoUnit counted.next)
 
-abbrev pub unit_coded : Card → List ℕ → Bool → Counted → UnitRead → Outcome SummedPart
-unit_coded card text negative counted (UnitRead.Found unit) =
-    agoed card.numerals negative counted unit (ago_read card.settings text (run (in_stretch card.settings) text counted.next))
-unit_coded card text negative counted UnitRead.Nowhere = unitless card.settings negative counted counted.numeral
+abbrev pub unit_coded : Card → List ℕ → Bool → Counted → Option UnitRow → Outcome SummedPart
+unit_coded card text negative counted (Some unit) =
+    ago_read card.settings text (run (in_stretch card.settings) text counted.next)
+    >>= λ ago. got (counted_part counted (with_unit card.numerals negative counted counted.numeral unit ago) ago.next)
+unit_coded card text negative counted None = unitless card.settings negative counted counted.numeral
 
 unfoldable pub coded_part : Card → List ℕ → Bool → Counted → Outcome SummedPart
 coded_part card text negative counted = unit_coded card text negative counted (unit_read (find_unit card text counted.next))
@@ -218,23 +191,28 @@ module _ (card : Card) (text : List ℕ) (negative : Bool) (place : ℕ) where
   abbrev s : Settings
   s = card.settings
 
+  -- the digits beside their sum
+  abbrev with_digits : Number → SummedNumber
+  with_digits number = record { typed = number; number = sum_of text number.whole number.fract }
+
   pub finite_coded : codes text (typed_finite card text negative place) ≡ (typed_count s text place >>= coded_part card text negative)
-  unfolding codes typed_finite typed_count coded_part unit_step unit_found unit_read product_in ◌>>=◌
+  unfolding codes typed_finite typed_count with_sum coded_part unit_step unit_found unit_read product_in ◌>>=◌
   finite_coded =
       both_joined (number_step s text place) _ _ _ _
       (λ number. both_joined (exponent_step s text number.next) _ _ _ _
       (λ scaled. both_joined (gap s.before_unit s text scaled.next) _ _ _ _
       (λ name. found number scaled name (find_unit card text name))))
+      ∙ ap (λ m. m >>= coded_part card text negative) (sym (bind_assoc (number_step s text place) (λ number. got (with_digits number)) _))
     where
-      told : (number : Number) (scaled : Scaled) (name : ℕ) (r : List ℕ) (read : AgoRead)
-          → (units.agoed (product r) read >>= (λ unit. got (finite negative number scaled unit unit.next)) >>= λ p. got (coded text p.repr p.next))
-          ≡ agoed card.numerals negative (typed_counted text number scaled name) (unit_row r) read
-      told number scaled name r (AgoRead.Got ago) = refl
-      told number scaled name r (AgoRead.Refused cause) = refl
+      told : (number : Number) (scaled : Scaled) (name : ℕ) (r : List ℕ) (read : Outcome Ago)
+          → ((read >>= λ ago. got (agoed (product r) ago)) >>= (λ unit. got (finite negative number scaled unit unit.next)) >>= λ p. got (coded text p.repr p.next))
+          ≡ (read >>= λ ago. got (counted_part (typed_counted (with_digits number) scaled name) (with_unit card.numerals negative (typed_counted (with_digits number) scaled name) None (unit_row r) ago) ago.next))
+      told number scaled name r (got ago) = refl
+      told number scaled name r (refused cause) = refl
 
       found : (number : Number) (scaled : Scaled) (name : ℕ) (r : List ℕ)
           → (unit_found s text name r >>= (λ unit. got (finite negative number scaled unit unit.next)) >>= λ p. got (coded text p.repr p.next))
-          ≡ unit_coded card text negative (typed_counted text number scaled name) (unit_read r)
+          ≡ unit_coded card text negative (typed_counted (with_digits number) scaled name) (unit_read r)
       found number scaled name [] = refl
       found number scaled name (size ∷ r) =
           ap
@@ -251,14 +229,14 @@ module _ (card : Card) (text : List ℕ) (negative : Bool) (place : ℕ) where
       ∙ ap (λ m. m >>= λ p. got (coded text p.repr p.next)) (bind_assoc (numeral_row s card.numerals text place) _ _)
       ∙ both_joined (numeral_row s card.numerals text place) _ _ _ _ (λ numeral. found numeral (find_unit card text numeral.next))
     where
-      told : (numeral : FoundNumeral) (r : List ℕ) (read : AgoRead)
-          → (units.agoed (row_multiplier r) read
+      told : (numeral : FoundNumeral) (r : List ℕ) (read : Outcome Ago)
+          → ((read >>= λ ago. got (agoed (row_multiplier r) ago))
           >>= (λ unit. got (record { kind = kind_multiplier (kind r); row = unit.multiplier; next = unit.next }))
           >>= (λ unit. got (spoken negative (numeral_of card.numerals numeral) unit unit.next))
           >>= λ p. got (coded text p.repr p.next))
-          ≡ agoed card.numerals negative (spoken_counted numeral) (unit_row r) read
-      told numeral r (AgoRead.Got ago) = refl
-      told numeral r (AgoRead.Refused cause) = refl
+          ≡ (read >>= λ ago. got (counted_part (spoken_counted numeral) (with_unit card.numerals negative (spoken_counted numeral) (Some numeral.row) (unit_row r) ago) ago.next))
+      told numeral r (got ago) = refl
+      told numeral r (refused cause) = refl
 
       found : (numeral : FoundNumeral) (r : List ℕ)
           → (spoken_unit_found s text numeral.next r >>= (λ unit. got (spoken negative (numeral_of card.numerals numeral) unit unit.next)) >>= λ p. got (coded text p.repr p.next))
@@ -273,3 +251,30 @@ module _ (card : Card) (text : List ℕ) (negative : Bool) (place : ℕ) where
           >>= λ p. got (coded text p.repr p.next))
           (ago_is s text (run (in_stretch s) text numeral.next) (row_multiplier (size ∷ r)))
           ∙ told numeral (size ∷ r) (ago_read s text (run (in_stretch s) text numeral.next))
+
+-- ---- and its connection
+
+module _ (card : Card) (text : List ℕ) (place : ℕ) where
+  pub typed_refused : {cause : Refusal} → codes text (typed_part card text place) ≡ refused cause → part card text place ≡ refused cause
+  typed_refused e = part_connected card text place ∙ bind_refused _ (coded_refused text _ e)
+
+  module _ {typed : SummedPart} (e : codes text (typed_part card text place) ≡ got typed) where
+    -- what was typed, as its definition has it, and where it ends
+    it : (p : Part) × (typed_part card text place ≡ got p) × (coded text p.repr p.next ≡ typed)
+    it = coded_got text _ e
+
+    pub connection_refused : {cause : Refusal} → connection card.settings text typed.next ≡ refused cause → part card text place ≡ refused cause
+    unfolding connected
+    connection_refused {cause} asked =
+        let (p, read, is) = it in
+        let end : p.next ≡ typed.next = sym (coded_end text p.repr p.next) ∙ ap (λ f. f.next) is in
+        let there : connection card.settings text p.next ≡ refused cause = rw end asked in
+        part_connected card text place ∙ bind_got _ read ∙ bind_refused _ there
+
+    pub connection_got : {next : ℕ} → connection card.settings text typed.next ≡ got next → codes text (part card text place) ≡ got (record { repr = typed.repr; number = typed.number; next = next })
+    unfolding connected
+    connection_got {next} asked =
+        let (p, read, is) = it in
+        let end : p.next ≡ typed.next = sym (coded_end text p.repr p.next) ∙ ap (λ f. f.next) is in
+        let there : connection card.settings text p.next ≡ got next = rw end asked in
+        sym (ap got (sym (coded_at text p.repr p.next next is)) ∙ codes_got text (sym (part_connected card text place ∙ bind_got _ read ∙ bind_got _ there)))

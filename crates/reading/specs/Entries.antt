@@ -34,47 +34,59 @@ module _ (card : Card) (text : List ℕ) where
     part_card e = rw e
 
     module _ (good : card_check card ≡ got tt) where
+      pub reads_long : longest_text < length text → refused TextTooLong ≡ read_part card text place
+      unfolding read_part unless ◌>>◌
+      reads_long h = rw (good, lt-leb (length text) longest_text h)
+
       pub part_long : longest_text < length text → refusal TextTooLong ≡ part_answer card text place
-      unfolding part_answer read_part answered unless ◌>>◌
-      part_long h = rw (good, lt-leb (length text) longest_text h)
+      unfolding part_answer answered
+      part_long h = rw (← reads_long h)
 
       module _ (short : length text ≤ longest_text) where
+        pub reads_far : length text < place → refused (Beyond place) ≡ read_part card text place
+        unfolding read_part unless ◌>>◌
+        reads_far h = rw (good, le-leb (length text) longest_text short, lt-leb place (length text) h)
+
         pub part_far : length text < place → refusal (Beyond place) ≡ part_answer card text place
-        unfolding part_answer read_part answered unless ◌>>◌
-        part_far h = rw (good, le-leb (length text) longest_text short, lt-leb place (length text) h)
+        unfolding part_answer answered
+        part_far h = rw (← reads_far h)
 
         module _ (within : place ≤ length text) where
           -- the checks have passed
-          part_passed : answered (λ r. done r.next r.length) (part_reading card text place) ≡ part_answer card text place
-          unfolding part_answer read_part unless ◌>>◌
-          part_passed = rw (good, le-leb (length text) longest_text short, le-leb place (length text) within)
+          pub reads_passed : part_reading card text place ≡ read_part card text place
+          unfolding read_part unless ◌>>◌
+          reads_passed = rw (good, le-leb (length text) longest_text short, le-leb place (length text) within)
 
           pub part_refused : {cause : Refusal} → part_reading card text place ≡ refused cause → refusal cause ≡ part_answer card text place
-          unfolding answered
-          part_refused e = rw e at part_passed
+          unfolding part_answer answered
+          part_refused e = rw (← reads_passed, e)
 
           pub part_got : {r : Reading} → part_reading card text place ≡ got r → done r.next r.length ≡ part_answer card text place
-          unfolding answered
-          part_got e = rw e at part_passed
+          unfolding part_answer answered
+          part_got e = rw (← reads_passed, e)
 
   pub total_card : {cause : Refusal} → card_check card ≡ refused cause → refusal cause ≡ total_answer card text
   unfolding total_answer read_total answered ◌>>◌
   total_card e = rw e
 
   module _ (good : card_check card ≡ got tt) where
+    pub totals_long : longest_text < length text → refused TextTooLong ≡ read_total card text
+    unfolding read_total unless ◌>>◌
+    totals_long h = rw (good, lt-leb (length text) longest_text h)
+
     pub total_long : longest_text < length text → refusal TextTooLong ≡ total_answer card text
-    unfolding total_answer read_total answered unless ◌>>◌
-    total_long h = rw (good, lt-leb (length text) longest_text h)
+    unfolding total_answer answered
+    total_long h = rw (← totals_long h)
 
     module _ (short : length text ≤ longest_text) where
-      total_passed : answered (done (length text)) (total card text) ≡ total_answer card text
-      unfolding total_answer read_total unless ◌>>◌
-      total_passed = rw (good, le-leb (length text) longest_text short)
+      pub totals_passed : total card text ≡ read_total card text
+      unfolding read_total unless ◌>>◌
+      totals_passed = rw (good, le-leb (length text) longest_text short)
 
       pub total_refused : {cause : Refusal} → total card text ≡ refused cause → refusal cause ≡ total_answer card text
-      unfolding answered
-      total_refused e = rw e at total_passed
+      unfolding total_answer answered
+      total_refused e = rw (← totals_passed, e)
 
       pub total_got : {l : Length} → total card text ≡ got l → done (length text) l ≡ total_answer card text
-      unfolding answered
-      total_got e = rw e at total_passed
+      unfolding total_answer answered
+      total_got e = rw (← totals_passed, e)

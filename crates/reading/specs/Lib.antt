@@ -1,5 +1,5 @@
 -- What the contracts of reading need besides the definitions of document 01, and laws of those definitions.
-pub mod Outcomes
+pub mod Meant
 pub mod Typed
 pub mod Coded
 pub mod Spans

@@ -3,6 +3,7 @@
 
 pub mod checked;
 pub mod part;
+pub mod ready;
 pub mod shift;
 pub mod start;
 pub mod total;

@@ -1,15 +1,14 @@
 // A length added to by a text's total, under a card that has been checked.
 ghost use Rattle.std.specs.Prelude.{◌≡◌};
-ghost use Rattle.rules.specs.NumbersHandedBack.{got, refusal};
-ghost use Rattle.rules.specs.SettingsAsWords.{card_of};
-ghost use Rattle.rules.specs.SettingsAndUnitTable.{card_check};
-ghost use Rattle.lookup.specs.Searching.{Beside};
-ghost use Rattle.rules.specs.WhatEveryEntryOwes.{shift_answer, shifted_record};
+ghost use Rattle.rules.specs.NumbersHandedBack.{refusal};
+ghost use Rattle.rules.specs.WhatEveryEntryOwes.{add_total, shift_answer, shifted_record};
+ghost use Rattle.reading.specs.Meant.{meant};
 
-use crate::total::parse_multiple;
-use answers::{TotalRead, done, refusal};
+use crate::checked::read_total;
+use crate::ready::AcceptedCard;
+use answers::{done, refusal};
 use lengths::duration::{saturating_add, well_formed};
-use rules::{LONGEST_TEXT, Length, Refusal, ShiftedTotal};
+use rules::{Length, Refusal, ShiftedTotal};
 
 // A refusal leaves the total as it was.
 pub fn kept(total: Length, cause: Refusal) -> ShiftedTotal
@@ -22,34 +21,24 @@ pub fn kept(total: Length, cause: Refusal) -> ShiftedTotal
 }
 
 // A malformed total comes before a text that is too long.
-pub fn shifted_total_checked<'a>(
-    total: Length,
-    settings: &[u64; 25],
-    hall: &'a [u8],
-    hall_index: &[u8],
-    line: &'a [u8],
-    line_index: &[u8],
-    numerals: &[u8],
-    text: &[u8],
-) -> ShiftedTotal
-    requires numerals_value { card_check (card_of settings.now hall.now line.now numerals.now) ≡ got tt }
-    requires beside { Beside hall.now hall_index.now × Beside line.now line_index.now }
-    ensures { (result.answer ≡ shift_answer total (card_of settings.now hall.now line.now numerals.now) text.now) × (result.total ≡ shifted_record total (card_of settings.now hall.now line.now numerals.now) text.now) }
+fn added(total: Length, card: &AcceptedCard, text: &[u8]) -> Result<Length, Refusal>
+    ensures { result ≡ add_total total (meant card.now.ready) text.now }
 {
     if !well_formed(total) {
-        return kept(total, Refusal::Malformed);
+        return Err(Refusal::Malformed);
     }
-    if LONGEST_TEXT < text.len() {
-        return kept(total, Refusal::TextTooLong);
-    }
-    match parse_multiple(settings, hall, hall_index, line, line_index, numerals, text) {
-        TotalRead::Refused(cause) => kept(total, cause),
-        TotalRead::Got(length) => {
-            let sum = saturating_add(total, length);
-            ShiftedTotal {
-                answer: done(text.len(), sum),
-                total: sum,
-            }
-        }
+    let length = read_total(card, text)?;
+    Ok(saturating_add(total, length))
+}
+
+pub fn shifted_total_checked(total: Length, card: &AcceptedCard, text: &[u8]) -> ShiftedTotal
+    ensures { (result.answer ≡ shift_answer total (meant card.now.ready) text.now) × (result.total ≡ shifted_record total (meant card.now.ready) text.now) }
+{
+    match added(total, card, text) {
+        Ok(sum) => ShiftedTotal {
+            answer: done(text.len(), sum),
+            total: sum,
+        },
+        Err(cause) => kept(total, cause),
     }
 }

@@ -1,14 +1,12 @@
 // How a part starts: its sign, and the class of the byte after it, which decides how the part goes on.
 ghost use Rattle.std.specs.Prelude.{◌≡◌};
-ghost use Rattle.rules.specs.NumbersHandedBack.{got};
 ghost use Rattle.rules.specs.SettingsAsWords.{settings_of};
-ghost use Rattle.rules.specs.SettingsAndUnitTable.{settings_check};
-ghost use Rattle.reading.specs.Outcomes.{started};
 ghost use Rattle.reading.specs.Typed.{class_at, signed_start, part_start};
 
+use crate::ready::ReadyCard;
 use rules::Refusal;
 use steps::bytes::is_digit;
-use steps::sign::{SignRead, parse_number_sign};
+use steps::sign::parse_number_sign;
 use tables::{DIGIT, OTHER, SIGN, class_of};
 
 // The typed sign, and the class of the byte at the next place.
@@ -17,12 +15,6 @@ pub struct Start {
     pub negative: bool,
     pub class: u8,
     pub next: usize,
-}
-
-#[derive(Clone, Copy)]
-pub enum StartRead {
-    Got(Start),
-    Refused(Refusal),
 }
 
 // A digit starts nearly every part, and is told first.
@@ -39,31 +31,27 @@ fn class_at(text: &[u8], place: usize) -> u8
     class_of(byte)
 }
 
-fn signed_start(settings: &[u64; 25], text: &[u8], place: usize) -> StartRead
-    requires { settings_check (settings_of settings.now) ≡ got tt }
-    ensures { started result ≡ signed_start (settings_of settings.now) text.now place }
+fn signed_start(card: &ReadyCard, text: &[u8], place: usize) -> Result<Start, Refusal>
+    ensures { result ≡ signed_start (settings_of card.now.settings.now) text.now place }
 {
-    match parse_number_sign(settings, text, place) {
-        SignRead::Refused(cause) => StartRead::Refused(cause),
-        SignRead::Got(signed) => StartRead::Got(Start {
-            negative: signed.negative,
-            class: class_at(text, signed.next),
-            next: signed.next,
-        }),
-    }
+    let signed = parse_number_sign(card.settings, text, place)?;
+    Ok(Start {
+        negative: signed.negative,
+        class: class_at(text, signed.next),
+        next: signed.next,
+    })
 }
 
-pub fn part_start(settings: &[u64; 25], text: &[u8], place: usize) -> StartRead
-    requires { settings_check (settings_of settings.now) ≡ got tt }
-    ensures { started result ≡ part_start (settings_of settings.now) text.now place }
+pub fn part_start(card: &ReadyCard, text: &[u8], place: usize) -> Result<Start, Refusal>
+    ensures { result ≡ part_start (settings_of card.now.settings.now) text.now place }
 {
     if text.len() <= place {
-        return StartRead::Refused(Refusal::Nothing(place));
+        return Err(Refusal::Nothing(place));
     }
     let class = class_at(text, place);
     match class {
-        SIGN => signed_start(settings, text, place),
-        _ => StartRead::Got(Start {
+        SIGN => signed_start(card, text, place),
+        _ => Ok(Start {
             negative: false,
             class,
             next: place,

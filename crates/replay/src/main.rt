@@ -5,17 +5,14 @@
 #![tactic(auto)]
 
 use entries::{read_part, read_total};
-use lists::cards::{MOST_BYTES, Next, next_card};
-use lists::counts::{
-    CARD, COUNTS, DIFFERENCE, ENTRY, MOST, NUMBERS, count, count_answer, print_counts,
-};
+use lists::cards::{Lent, Room};
+use lists::counts::{Counts, MOST, NUMBERS, count};
 use lists::fields::{byte_at, flag_at, half_at, length_at, word_at};
-use lists::lines::{first_bytes, read_line};
-use lists::printed::{print_answer, same_answer};
+use lists::lines::{first_bytes, read_line, until_end};
+use lists::printed::{print_answer, print_number};
 use lists::streams::STDOUT;
-use lists::texts::{Text, next_text};
+use lists::texts::next_text;
 use rules::Answer;
-use settings::fields::words_of;
 
 // Bytes of the line that says how many requests follow.
 const COUNT: usize = 9;
@@ -36,7 +33,7 @@ const LENGTH_AT: usize = 48;
 const REQUEST: usize = 75;
 
 // Room for the longest run of a list and the line behind it.
-const ROOM: usize = 81_920;
+const TEXT_ROOM: usize = 81_920;
 
 // So many differing requests are shown.
 const SHOWN: u64 = 10;
@@ -51,144 +48,73 @@ fn stored_answer(request: &[u8]) -> Answer {
 }
 
 // The request of a line, made again under a card.
-fn ask<'a>(
-    settings: &[u64; 25],
-    hall: &'a [u8],
-    line: &'a [u8],
-    numerals: &[u8],
-    text: &[u8],
-    request: &[u8],
-) -> Answer {
+fn ask(card: Lent<'_>, text: &[u8], request: &[u8]) -> Answer {
     if flag_at(request, ENTRY_AT) {
+        let place = word_at(request, PLACE_AT) as usize;
         read_part(
-            settings,
-            hall,
-            line,
-            numerals,
+            card.settings,
+            card.hall,
+            card.line,
+            card.numerals,
             text,
-            word_at(request, PLACE_AT) as usize,
+            place,
         )
     } else {
-        read_total(settings, hall, line, numerals, text)
+        read_total(card.settings, card.hall, card.line, card.numerals, text)
     }
 }
 
 // A request that differs, by its place in the list, and the answer that was found. The first of them are shown.
-fn show(answer: Answer, counts: &[u64; COUNTS]) {
-    if counts[DIFFERENCE] <= SHOWN {
+fn show(answer: Answer, counts: &Counts) {
+    if counts.differ <= SHOWN {
         io::write_all(STDOUT, b"request ");
-        io::print_decimal(STDOUT, counts[ENTRY]);
-        io::write_all(STDOUT, b" differs: ");
+        print_number(counts.entries, b" differs: ");
         print_answer(answer);
     }
 }
 
-fn compare(answer: Answer, stored: Answer, counts: &mut [u64; COUNTS]) {
-    let agrees = same_answer(answer, stored);
-    count(ENTRY, counts);
-    count_answer(answer.number, agrees, counts);
+fn compare(answer: Answer, stored: Answer, counts: &mut Counts) {
+    let agrees = answer == stored;
+    count(&mut counts.entries);
+    counts.count_answer(answer.number, agrees);
     if !agrees {
         show(answer, counts);
     }
 }
 
-// The next request of the list, made again under a card. False where the list ends.
-fn replay_next<'a>(
-    settings: &[u64; 25],
-    hall: &'a [u8],
-    line: &'a [u8],
-    numerals: &[u8],
-    text: &mut [u8],
-    counts: &mut [u64; COUNTS],
-) -> bool {
+// The next request of the list, made again under a card. None where the list ends.
+fn replay_next(card: Lent<'_>, text: &mut [u8], counts: &mut Counts) -> Option<()> {
     let mut request = [0u8; REQUEST];
-    let Text::Bytes(size) = next_text(&mut request, TEXT_AT, text) else {
-        return false;
-    };
-    let answer = ask(
-        settings,
-        hall,
-        line,
-        numerals,
-        first_bytes(text, size),
-        &request,
-    );
+    let size = next_text(&mut request, TEXT_AT, text)?;
+    let answer = ask(card, first_bytes(text, size), &request);
     compare(answer, stored_answer(&request), counts);
-    true
+    Some(())
 }
 
-// The requests under a card, of which a line says how many there are. False where the list ends.
-fn replay_requests<'a>(
-    settings: &[u64; 25],
-    hall: &'a [u8],
-    line: &'a [u8],
-    numerals: &[u8],
-    text: &mut [u8],
-    counts: &mut [u64; COUNTS],
-) -> bool {
+// The next card of the list, and the requests under it, of which a line says how many there are. None where the list ends.
+fn replay_card(room: &mut Room, text: &mut [u8], counts: &mut Counts) -> Option<()> {
+    let card = room.next_card()?;
     let mut head = [0u8; COUNT];
-    if !read_line(&mut head) {
-        return false;
+    read_line(&mut head)?;
+    count(&mut counts.cards);
+    for _ in 0..half_at(&head, 0) {
+        replay_next(card, text, counts)?;
     }
-    count(CARD, counts);
-    let mut left = half_at(&head, 0);
-    while left > 0 {
-        if !replay_next(settings, hall, line, numerals, text, counts) {
-            return false;
-        }
-        left -= 1;
-    }
-    true
-}
-
-// The next card of the list, and the requests under it. False where the list ends.
-fn replay_card(
-    hall: &mut [u8],
-    line: &mut [u8],
-    numerals: &mut [u8],
-    text: &mut [u8],
-    counts: &mut [u64; COUNTS],
-) -> bool {
-    let Next::Card(card) = next_card(hall, line, numerals) else {
-        return false;
-    };
-    replay_requests(
-        &words_of(card.settings),
-        first_bytes(hall, card.hall_size),
-        first_bytes(line, card.line_size),
-        first_bytes(numerals, card.numerals_size),
-        text,
-        counts,
-    )
+    Some(())
 }
 
 // Every card of the list.
-fn replay_all(text: &mut [u8], counts: &mut [u64; COUNTS]) {
-    let mut hall = [0u8; MOST_BYTES];
-    let mut line = [0u8; MOST_BYTES];
-    let mut numerals = [0u8; MOST_BYTES];
-    let mut left = MOST;
-    while left > 0 {
-        if !replay_card(&mut hall, &mut line, &mut numerals, text, counts) {
-            return;
-        }
-        left -= 1;
-    }
-}
-
-fn print_all(counts: &[u64; COUNTS]) {
-    io::print_decimal(STDOUT, counts[ENTRY]);
-    io::write_all(STDOUT, b" requests under ");
-    io::print_decimal(STDOUT, counts[CARD]);
-    io::write_all(STDOUT, b" cards, ");
-    io::print_decimal(STDOUT, counts[DIFFERENCE]);
-    io::write_all(STDOUT, b" differ\n");
-    print_counts(b": ", counts, NUMBERS);
+fn replay_all(counts: &mut Counts) {
+    let mut room = Room::new();
+    let mut text = [0u8; TEXT_ROOM];
+    until_end(MOST, || replay_card(&mut room, &mut text, counts));
 }
 
 fn main() {
-    let mut counts = [0u64; COUNTS];
-    let mut text = [0u8; ROOM];
-    replay_all(&mut text, &mut counts);
-    print_all(&counts);
+    let mut counts = Counts::new();
+    replay_all(&mut counts);
+    print_number(counts.entries, b" requests under ");
+    print_number(counts.cards, b" cards, ");
+    print_number(counts.differ, b" differ\n");
+    counts.print_answers(b": ", NUMBERS);
 }

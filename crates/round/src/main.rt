@@ -5,16 +5,13 @@
 
 use entries::{read_part, read_total, write_length};
 use lengths::duration::zero;
-use lists::cards::{MOST_BYTES, Next, next_card};
-use lists::counts::{
-    COUNTS, DIFFERENCE, added, count_answer, one_more, print_count, print_counts, unless,
-};
-use lists::edges::{BEFORE, BEYOND, EDGE, untouched};
-use lists::fields::same_length;
-use lists::lines::first_bytes;
+use lists::cards::{Lent, Room};
+use lists::counts::{Counts, count, print_count};
+use lists::edges::{BEYOND, EDGE, try_edge, untouched};
+use lists::lines::{MOST_ENTRIES, first_bytes, until_end};
+use lists::printed::print_number;
 use lists::streams::STDOUT;
 use rules::{Answer, LONGEST_TEXT, Length};
-use settings::fields::words_of;
 use tables::pow10;
 
 // Room for one length, the longest of which has 31 bytes.
@@ -23,7 +20,7 @@ const ONE: usize = 32;
 // Lists under each card. The longest is as long as a line may be.
 const LISTS: u64 = 200;
 
-// More lengths than are made, and more cards than there are, since a proved loop has to end.
+// More lengths than are made.
 const MOST: u64 = 1_000_000;
 
 // What was written of a list: how many lengths, and how many bytes they take.
@@ -33,8 +30,8 @@ struct Line {
     size: usize,
 }
 
-// Lengths that were written and read, and how often something was not what it should be.
-#[derive(Clone, Copy)]
+// Cards, lengths that were written and read, and how often something was not what it should be.
+#[derive(Drop)]
 struct Tally {
     cards: u64,
     lengths: u64,
@@ -50,13 +47,8 @@ const MALFORMED: u8 = 11;
 
 // Zero has no minus.
 fn signed(negative: bool, seconds: u64, nanoseconds: u32) -> Length {
-    if seconds == 0 {
-        if nanoseconds == 0 {
-            return zero();
-        }
-    }
     Length {
-        negative,
+        negative: negative && (seconds > 0 || nanoseconds > 0),
         seconds,
         nanoseconds,
     }
@@ -67,7 +59,7 @@ fn extreme(negative: bool, turn: u64) -> Length {
     if turn % 16 < 2 {
         return Length {
             negative,
-            seconds: 18_446_744_073_709_551_615,
+            seconds: u64::MAX,
             nanoseconds: 999_999_999,
         };
     }
@@ -103,64 +95,67 @@ fn nth(number: u64) -> Length {
 
 // So many lengths from a number on, one after another, or as many as there is room for.
 fn write_list(buffer: &mut [u8], first: u64, most: u64) -> Line {
-    let mut lengths = 0;
     let mut size = 0;
-    while lengths < most {
-        let answer = write_length(nth(added(first, lengths)), buffer, size);
+    for lengths in 0..most {
+        let answer = write_length(nth(first.saturating_add(lengths)), buffer, size);
         if answer.number != 0 {
             return Line { lengths, size };
         }
         size = answer.position;
-        lengths += 1;
     }
-    Line { lengths, size }
+    Line {
+        lengths: most,
+        size,
+    }
 }
 
-fn agrees(answer: Answer, length: Length) -> bool {
-    (answer.number == 0) & same_length(answer.length, length)
+// One difference more, unless all agrees.
+fn tell(agrees: bool, tally: &mut Tally) {
+    if !agrees {
+        count(&mut tally.differ);
+    }
 }
 
-// How many parts of a line differ from the lengths that were written, and whether the last one ends elsewhere.
-fn read_list<'a>(
-    settings: &[u64; 25],
-    hall: &'a [u8],
-    line: &'a [u8],
-    numerals: &[u8],
-    text: &[u8],
-    first: u64,
-    lengths: u64,
-) -> u64 {
+// Each part of a line is a length that was written, and the last one ends where the line ends.
+fn read_list(card: Lent<'_>, text: &[u8], lengths: u64, tally: &mut Tally) {
     let mut place = 0;
-    let mut read = 0;
-    let mut differ = 0;
-    while read < lengths {
-        let answer = read_part(settings, hall, line, numerals, text, place);
-        differ = unless(agrees(answer, nth(added(first, read))), differ);
+    for read in 0..lengths {
+        let answer = read_part(
+            card.settings,
+            card.hall,
+            card.line,
+            card.numerals,
+            text,
+            place,
+        );
+        let written = nth(tally.lengths.saturating_add(read));
+        tell(answer.number == 0 && answer.length == written, tally);
         place = answer.position;
-        read += 1;
     }
-    unless(place == text.len(), differ)
+    tell(place == text.len(), tally);
 }
 
 // A length that is refused at a place of a buffer. Nothing changes.
-fn try_refused(length: Length, place: usize, number: u8, counts: &mut [u64; COUNTS]) {
-    let mut buffer = [BEFORE; EDGE];
-    let answer = write_length(length, &mut buffer, place);
-    let agrees = (answer.number == number) & untouched(&buffer, EDGE);
-    count_answer(answer.number, agrees, counts);
+fn try_refused(length: Length, place: usize, number: u8, counts: &mut Counts) {
+    try_edge(
+        counts,
+        |buffer| write_length(length, buffer, place),
+        |answer, buffer| answer.number == number && untouched(buffer, EDGE),
+    );
 }
 
 // A length for which a buffer has exactly the room from a place on. No byte before it changes.
-fn try_exact(length: Length, place: usize, counts: &mut [u64; COUNTS]) {
-    let mut buffer = [BEFORE; EDGE];
-    let answer = write_length(length, &mut buffer, place);
-    let agrees = (answer.number == 0) & (answer.position == EDGE) & untouched(&buffer, place);
-    count_answer(answer.number, agrees, counts);
+fn try_exact(length: Length, place: usize, counts: &mut Counts) {
+    try_edge(
+        counts,
+        |buffer| write_length(length, buffer, place),
+        |answer, buffer| answer.number == 0 && answer.position == EDGE && untouched(buffer, place),
+    );
 }
 
 // One length in a buffer: with a byte less than it needs, at the end, beyond it, with nanoseconds that no length has, and with exactly the
 // room.
-fn try_edges(length: Length, counts: &mut [u64; COUNTS]) {
+fn try_edges(length: Length, counts: &mut Counts) {
     let mut one = [0u8; ONE];
     let size = write_length(length, &mut one, 0).position % EDGE;
     let at = EDGE - size;
@@ -175,107 +170,57 @@ fn try_edges(length: Length, counts: &mut [u64; COUNTS]) {
 
 // How many lengths and bytes a list has, and its total as it is written.
 fn print_list(line: Line, total: Length) {
-    io::print_decimal(STDOUT, line.lengths);
-    io::write_all(STDOUT, b" ");
-    io::print_decimal(STDOUT, line.size as u64);
-    io::write_all(STDOUT, b" ");
+    print_number(line.lengths, b" ");
+    print_number(line.size as u64, b" ");
     let mut one = [0u8; ONE];
     let answer = write_length(total, &mut one, 0);
     io::write_all(STDOUT, first_bytes(&one, answer.position));
     io::write_all(STDOUT, b"\n");
 }
 
-// A list written, read part by part and in total, and printed.
-fn round<'a>(
-    settings: &[u64; 25],
-    hall: &'a [u8],
-    line: &'a [u8],
-    numerals: &[u8],
-    first: u64,
-    most: u64,
-    before: Tally,
-) -> Tally {
+// A list of at most so many lengths written, read part by part and in total, and printed.
+fn round(card: Lent<'_>, most: u64, tally: &mut Tally) {
     let mut buffer = [0u8; LONGEST_TEXT];
-    let list = write_list(&mut buffer, first, most);
+    let list = write_list(&mut buffer, tally.lengths, most);
     let text = first_bytes(&buffer, list.size);
-    let parts = read_list(settings, hall, line, numerals, text, first, list.lengths);
-    let total = read_total(settings, hall, line, numerals, text);
+    read_list(card, text, list.lengths, tally);
+    let total = read_total(card.settings, card.hall, card.line, card.numerals, text);
     print_list(list, total.length);
-    Tally {
-        cards: before.cards,
-        lengths: added(before.lengths, list.lengths),
-        differ: added(before.differ, unless(total.number == 0, parts)),
-    }
+    tell(total.number == 0, tally);
+    tally.lengths = tally.lengths.saturating_add(list.lengths);
 }
 
-// Lists of one length, of two and so on under a card, each beginning where the one before it ended.
-fn round_card<'a>(
-    settings: &[u64; 25],
-    hall: &'a [u8],
-    line: &'a [u8],
-    numerals: &[u8],
-    before: Tally,
-) -> Tally {
-    let mut tally = before;
-    let mut lists = 0;
-    while lists < LISTS {
-        tally = round(
-            settings,
-            hall,
-            line,
-            numerals,
-            tally.lengths,
-            2 * lists + 1,
-            tally,
-        );
-        lists += 1;
+// Lists of one length, of three and so on under a card, each beginning where the one before it ended. None where the list of cards ends.
+fn round_card(room: &mut Room, tally: &mut Tally) -> Option<()> {
+    let card = room.next_card()?;
+    count(&mut tally.cards);
+    for lists in 0..LISTS {
+        round(card, 2 * lists + 1, tally);
     }
-    tally
+    Some(())
 }
 
 // Every card of the list of cards.
 fn round_all() -> Tally {
-    let mut hall = [0u8; MOST_BYTES];
-    let mut line = [0u8; MOST_BYTES];
-    let mut numerals = [0u8; MOST_BYTES];
+    let mut room = Room::new();
     let mut tally = Tally {
         cards: 0,
         lengths: 0,
         differ: 0,
     };
-    let mut left = MOST;
-    while left > 0 {
-        let Next::Card(card) = next_card(&mut hall, &mut line, &mut numerals) else {
-            return tally;
-        };
-        tally.cards = one_more(tally.cards);
-        tally = round_card(
-            &words_of(card.settings),
-            first_bytes(&hall, card.hall_size),
-            first_bytes(&line, card.line_size),
-            first_bytes(&numerals, card.numerals_size),
-            tally,
-        );
-        left -= 1;
-    }
+    until_end(MOST_ENTRIES, || round_card(&mut room, &mut tally));
     tally
 }
 
-// The edges of a buffer, tried with so many lengths.
-fn try_all(lengths: u64, counts: &mut [u64; COUNTS]) {
-    let mut tried = 0;
-    while tried < lengths {
-        try_edges(nth(tried), counts);
-        tried += 1;
-    }
-}
-
-// Which numbers the writer gave at the edges, and how often another than was wanted, or a byte was changed.
+// Which numbers the writer gave at the edges of a buffer, tried with so many lengths, and how often another than was wanted, or a byte was
+// changed.
 fn print_edges(lengths: u64) {
-    let mut counts = [0u64; COUNTS];
-    try_all(lengths, &mut counts);
-    print_counts(b" at the edges: ", &counts, 0);
-    print_count(b"that differ: ", counts[DIFFERENCE]);
+    let mut counts = Counts::new();
+    for tried in 0..lengths {
+        try_edges(nth(tried), &mut counts);
+    }
+    counts.print_answers(b" at the edges: ", 0);
+    print_count(b"that differ: ", counts.differ);
 }
 
 fn main() {

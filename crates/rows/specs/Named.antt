@@ -1,7 +1,5 @@
 -- The row of one table that has a name, and what the lookup asks of a table. Assumes nothing.
-use Rattle.std.specs.Prelude.{◌≡◌, Bool, true, ◌&&◌, List, [], ℕ, ◌<◌, eqb}
-use Rattle.rules.specs.declared.Found.{Found}
-use Rattle.rules.specs.declared.Found.TheVariants.{Row, Nowhere}
+use Rattle.std.specs.Prelude.{◌≡◌, Bool, true, ◌&&◌, List, [], ℕ, ◌<◌, eqb, Option, Some, None}
 use Rattle.rules.specs.Common.{all, between}
 use Rattle.rules.specs.SettingsAndUnitTable.{name_room, rows, row, name_size, after_name, lookup}
 
@@ -13,9 +11,9 @@ padded r = between 1 name_room (name_size r) && all (eqb 0) (after_name r)
 abbrev pub Padded : List ℕ → Type 0
 Padded table = (i : ℕ) → i < rows table → padded (row table i) ≡ true
 
-unfoldable pub found_row : List ℕ → Found → List ℕ
-found_row table (Row i) = row table i
-found_row table Nowhere = []
+unfoldable pub found_row : List ℕ → Option ℕ → List ℕ
+found_row table (Some i) = row table i
+found_row table None = []
 
 -- nothing, if no row has it
 unfoldable pub row_named : List ℕ → List ℕ → List ℕ

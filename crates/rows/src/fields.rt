@@ -57,31 +57,21 @@ pub fn name_of(row: &[u8]) -> &[u8]
     &row[NAME_AT..]
 }
 
-// The magnitude of a coefficient in two's complement: 9223372036854775808 and above stand below zero.
+// The magnitude of a coefficient in two's complement.
 fn coefficient_magnitude(x: u64) -> u64
     ensures { result ≡ magnitude coefficient_size x }
 {
-    if x < 9_223_372_036_854_775_808 {
-        x
-    } else {
-        18_446_744_073_709_551_615 - x + 1
-    }
+    x.cast_signed().unsigned_abs()
 }
 
 // How far a power in two's complement stands above zero, and how far below.
-fn risen(power: u16) -> u16
-    ensures { result ≡ risen power }
-{
-    if power < 32_768 { power } else { 0 }
-}
-
-fn fallen(power: u16) -> u16
-    ensures { result ≡ fallen power }
+fn risen_and_fallen(power: u16) -> (u16, u16)
+    ensures { (result.0 ≡ risen power) × (result.1 ≡ fallen power) }
 {
     if power < 32_768 {
-        0
+        (power, 0)
     } else {
-        65_535 - power + 1
+        (0, power.cast_signed().unsigned_abs())
     }
 }
 
@@ -91,12 +81,12 @@ pub fn row_multiplier(row: &[u8]) -> Multiplier
     ensures { result ≡ row_multiplier row.now }
 {
     let coefficient = word_at(row, COEFFICIENT_AT);
-    let power = short_at(row, POWER_AT);
+    let (up, down) = risen_and_fallen(short_at(row, POWER_AT));
     Multiplier {
         negative: coefficient >= 9_223_372_036_854_775_808,
         coefficient: coefficient_magnitude(coefficient),
-        up: risen(power),
-        down: fallen(power),
+        up,
+        down,
     }
 }
 
@@ -105,10 +95,7 @@ pub fn row_multiplier(row: &[u8]) -> Multiplier
 pub fn within(factor: u64, magnitude: u64) -> bool
     ensures { result ≡ ltb (factor * magnitude) (2 ^ 63) }
 {
-    if factor == 0 {
-        return true;
-    }
-    magnitude <= 9_223_372_036_854_775_807 / factor
+    factor == 0 || magnitude <= 9_223_372_036_854_775_807 / factor
 }
 
 // Whether no kind takes the row out of the range.
@@ -144,10 +131,7 @@ pub fn product_in_range(row: &[u8]) -> bool
         return true;
     }
     let unit = kind_multiplier(row[KIND_AT]);
-    if !within(unit.coefficient, own.coefficient) {
-        return false;
-    }
-    unit.down + own.down <= own.up + 32_768
+    within(unit.coefficient, own.coefficient) && unit.down + own.down <= own.up + 32_768
 }
 
 // Kind times row, of a row for which that is in range.

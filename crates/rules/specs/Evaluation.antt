@@ -4,8 +4,7 @@ use Rattle.std.specs.Bool.{xor, beq}
 use Rattle.std.proofs.Math.Seq.{slice}
 use Rattle.rules.specs.declared.Length.{Length}
 use Rattle.rules.specs.declared.Settings.{Settings}
-use Rattle.rules.specs.declared.Whole.{Whole}
-use Rattle.rules.specs.declared.Fract.{Fract}
+use Rattle.rules.specs.declared.Span.{Span}
 use Rattle.rules.specs.declared.Exponent.{Exponent}
 use Rattle.rules.specs.declared.Multiplier.{Multiplier}
 use Rattle.rules.specs.declared.DurationRepr.{DurationRepr}
@@ -28,7 +27,7 @@ spelled n [] = n
 spelled n (d ∷ digits) = spelled (n * 10 + (d - 48)) digits
 
 -- whole and fraction digits together
-unfoldable pub digits_of : List ℕ → Whole → Fract → List ℕ
+unfoldable pub digits_of : List ℕ → Span → Span → List ℕ
 digits_of text whole fract = slice whole.start whole.end text ++ slice fract.start fract.end text
 
 -- the powers of ten collected: those above zero, and those below

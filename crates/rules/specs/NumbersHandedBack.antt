@@ -5,11 +5,12 @@ use Rattle.rules.specs.declared.Answer.{Answer}
 use Rattle.rules.specs.declared.Refusal.{Refusal}
 use Rattle.rules.specs.declared.Refusal.TheVariants.{Nothing, SignEnds, DelimiterEnds, FractionOff, FractionEmpty, ExponentOff, ExponentByte, ExponentEnds, ExponentAbove, ExponentBelow, InfinityByte, InfinityEnds, InfinityGoesOn, ConjunctionEnds, ConjunctionGoesOn, NegativeForbidden, NoNumber, NoUnit, OutOfRange, Delimiters, Conjunctions, DefaultKind, TableSize, BadRow, LineSize, BadLineRow, NumeralsSize, BadNumeral, WrongIndex, WrongLineIndex, TextTooLong, NoRoom, Beyond, Malformed, NotIso, YearOrMonth, TooLarge, NoStoredRow, NameTooLong}
 use Rattle.rules.specs.ThePartOfTheCrateWeTake.{longest_text, zero_length}
+use Rattle.std.specs.Prelude.{Result, ⊤}
+pub use Rattle.std.specs.Prelude.{Ok as got, Err as refused}
 
 -- what a step, a check or an entry comes to: something, or a refusal
-pub data Outcome (A : Type 0) : Type 0 where
-  got : A → Outcome A
-  refused : Refusal → Outcome A
+abbrev pub Outcome : Type 0 → Type 0
+Outcome A = Result A Refusal
 
 infixl 20 ◌>>=◌ ◌>>◌
 -- one after another: the first refusal stands

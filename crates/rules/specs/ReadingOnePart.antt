@@ -1,14 +1,12 @@
 -- "Reading one part": steps 1 to 8, each with its refusals and places. A byte is written as its number: 45 is `-`, 48 `0`, 101 `e`.
 -- A step that another goes through stands before it, so 3 comes before 2. Assumes nothing.
-use Rattle.std.specs.Prelude.{Bool, true, false, not, ◌&&◌, ◌||◌, List, [], ◌∷◌, ℕ, suc, ◌+◌, ◌*◌, ◌-◌, leb, eqb, length, drop}
+use Rattle.std.specs.Prelude.{Bool, true, false, not, ◌&&◌, ◌||◌, List, [], ◌∷◌, ℕ, suc, ◌+◌, ◌*◌, ◌-◌, leb, eqb, length, drop, Option, Some, None}
 use Rattle.std.proofs.Math.Seq.{slice}
 use Rattle.rules.specs.declared.ByteSet.{ByteSet}
 use Rattle.rules.specs.declared.Conjunction.{Conjunction}
 use Rattle.rules.specs.declared.Settings.{Settings}
 use Rattle.rules.specs.declared.Multiplier.{Multiplier}
-use Rattle.rules.specs.declared.Found.{Found}
-use Rattle.rules.specs.declared.Found.TheVariants.{Row, Nowhere}
-use Rattle.rules.specs.declared.Whole.{Whole}
+use Rattle.rules.specs.declared.Span.{Span}
 use Rattle.rules.specs.declared.Signed.{Signed}
 use Rattle.rules.specs.declared.Number.{Number}
 use Rattle.rules.specs.declared.Scaled.{Scaled}
@@ -61,7 +59,7 @@ sign_step s text place =
 
 -- ---- 3. a point: fractions off, 20 at it; no digit after it: fine if there was a whole part, else 20 at it
 
-unfoldable pub fraction_step : Settings → List ℕ → Bool → Whole → ℕ → Outcome Number
+unfoldable pub fraction_step : Settings → List ℕ → Bool → Span → ℕ → Outcome Number
 fraction_step s text any_whole whole place =
     when not (sees (is POINT) text place)
     then got (record { whole = whole; fract = record { start = place; end = place }; next = place })
@@ -206,14 +204,14 @@ unfoldable pub numeral_end : Settings → List ℕ → ℕ → ℕ
 numeral_end s text place = run (λ b. not (holds s.inner b)) text place
 
 -- found, and inner delimiters follow that do not end the text; otherwise 6 at its first byte
-unfoldable pub numeral_found : Card → List ℕ → ℕ → Found → Outcome Numeral
-numeral_found card text place (Row i) =
+unfoldable pub numeral_found : Card → List ℕ → ℕ → Option ℕ → Outcome Numeral
+numeral_found card text place (Some i) =
     when sees (holds card.settings.inner) text (numeral_end card.settings text place)
     then
     (delimiters card.settings.inner text (numeral_end card.settings text place)
     >>= λ next. got (record { multiplier = row_multiplier (row card.numerals i); next = next }))
     else refused (NoNumber place)
-numeral_found card text place Nowhere = refused (NoNumber place)
+numeral_found card text place None = refused (NoNumber place)
 
 unfoldable pub numeral_step : Card → List ℕ → ℕ → Outcome Numeral
 numeral_step card text place =

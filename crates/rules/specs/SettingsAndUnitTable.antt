@@ -1,13 +1,11 @@
 -- "Settings and unit table": byte classes, delimiters, conjunctions, kinds, rows, numerals, what is accepted, and lookup.
 -- Assumes nothing.
-use Rattle.std.specs.Prelude.{Bool, false, not, ◌&&◌, ◌||◌, List, [], ◌∷◌, ◌++◌, ℕ, zero, suc, ◌+◌, ◌*◌, ◌-◌, ◌/◌, ◌%◌, ◌^◌, leb, ltb, eqb, length, get_or, take, drop}
+use Rattle.std.specs.Prelude.{Bool, false, not, ◌&&◌, ◌||◌, List, [], ◌∷◌, ◌++◌, ℕ, zero, suc, ◌+◌, ◌*◌, ◌-◌, ◌/◌, ◌%◌, ◌^◌, leb, ltb, eqb, length, get_or, take, drop, Option, Some, None}
 use Rattle.std.specs.Bool.{xor}
 use Rattle.rules.specs.declared.ByteSet.{ByteSet}
 use Rattle.rules.specs.declared.Conjunction.{Conjunction}
 use Rattle.rules.specs.declared.Settings.{Settings}
 use Rattle.rules.specs.declared.Multiplier.{Multiplier}
-use Rattle.rules.specs.declared.Found.{Found}
-use Rattle.rules.specs.declared.Found.TheVariants.{Row, Nowhere}
 use Rattle.rules.specs.declared.Refusal.{Refusal}
 use Rattle.rules.specs.declared.Refusal.TheVariants.{Delimiters, Conjunctions, DefaultKind, TableSize, BadRow, LineSize, BadLineRow, NumeralsSize, BadNumeral}
 use Rattle.rules.specs.Common.{when◌then◌else◌, between, all, runs, same, starts}
@@ -285,12 +283,12 @@ module _ (room : ℕ) where
     rows_check (numeral_accepted_in numerals) BadNumeral 0 (rows_in numerals)
 
   -- lookup, byte for byte: the first of the n rows from i on that has the name
-  unfoldable pub lookup_from_in : List ℕ → List ℕ → ℕ → ℕ → Found
-  lookup_from_in table wanted i zero = Nowhere
+  unfoldable pub lookup_from_in : List ℕ → List ℕ → ℕ → ℕ → Option ℕ
+  lookup_from_in table wanted i zero = None
   lookup_from_in table wanted i (suc n) =
-      let more = lookup_from_in table wanted (suc i) n in when same (name (row_in table i)) wanted then Row i else more
+      let more = lookup_from_in table wanted (suc i) n in when same (name (row_in table i)) wanted then Some i else more
 
-  unfoldable pub lookup_in : List ℕ → List ℕ → Found
+  unfoldable pub lookup_in : List ℕ → List ℕ → Option ℕ
   lookup_in table wanted = lookup_from_in table wanted 0 (rows_in table)
 
 -- the rows of all tables have a room of 32 bytes; the old form had 16
@@ -363,10 +361,10 @@ units_check = units_check_in name_room
 abbrev pub numerals_check : List ℕ → Outcome (Unit {0})
 numerals_check = numerals_check_in name_room
 
-abbrev pub lookup_from : List ℕ → List ℕ → ℕ → ℕ → Found
+abbrev pub lookup_from : List ℕ → List ℕ → ℕ → ℕ → Option ℕ
 lookup_from = lookup_from_in name_room
 
-abbrev pub lookup : List ℕ → List ℕ → Found
+abbrev pub lookup : List ℕ → List ℕ → Option ℕ
 lookup = lookup_in name_room
 
 -- the hall's table
@@ -401,10 +399,10 @@ pub data Holder : Type 0 where
   Neither : Holder
 
 -- the line's rows win
-unfoldable pub line_first : Found → Found → Holder
-line_first (Row i) in_hall = Line i
-line_first Nowhere (Row i) = Hall i
-line_first Nowhere Nowhere = Neither
+unfoldable pub line_first : Option ℕ → Option ℕ → Holder
+line_first (Some i) in_hall = Line i
+line_first None (Some i) = Hall i
+line_first None None = Neither
 
 unfoldable pub stands : List ℕ → List ℕ → List ℕ → Holder
 stands hall line wanted = line_first (lookup line wanted) (lookup hall wanted)

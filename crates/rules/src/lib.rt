@@ -6,7 +6,7 @@
 pub const LONGEST_TEXT: usize = 4_096;
 
 // A length of time. Zero always has a plus sign.
-#[derive(Clone, Copy)]
+#[derive(Clone, Copy, PartialEq, Eq)]
 pub struct Length {
     pub negative: bool,
     pub seconds: u64,
@@ -14,7 +14,7 @@ pub struct Length {
 }
 
 // What an entry hands back: a number of document 01's table, a position, and a length, which is zero on a refusal.
-#[derive(Clone, Copy)]
+#[derive(Clone, Copy, PartialEq, Eq)]
 pub struct Answer {
     pub number: u8,
     pub position: usize,
@@ -75,23 +75,9 @@ pub struct Multiplier {
     pub down: u16,
 }
 
-// What a lookup finds: the number of a row, or none.
+// Digits of a text, from a place up to another.
 #[derive(Clone, Copy)]
-pub enum Found {
-    Row(usize),
-    Nowhere,
-}
-
-// The digits before the point, leading zeros dropped, as a span of the text.
-#[derive(Clone, Copy)]
-pub struct Whole {
-    pub start: usize,
-    pub end: usize,
-}
-
-// The digits after the point, as a span of the text.
-#[derive(Clone, Copy)]
-pub struct Fract {
+pub struct Span {
     pub start: usize,
     pub end: usize,
 }
@@ -110,11 +96,11 @@ pub struct Signed {
     pub next: usize,
 }
 
-// What steps 2 and 3 find: the typed digits, and the place after them.
+// What steps 2 and 3 find: the digits before the point, leading zeros dropped, those after it, and the place after them.
 #[derive(Clone, Copy)]
 pub struct Number {
-    pub whole: Whole,
-    pub fract: Fract,
+    pub whole: Span,
+    pub fract: Span,
     pub next: usize,
 }
 
@@ -152,8 +138,8 @@ pub struct SpokenUnit {
 pub struct DurationRepr {
     pub negative: bool,
     pub infinite: bool,
-    pub whole: Whole,
-    pub fract: Fract,
+    pub whole: Span,
+    pub fract: Span,
     pub exponent: Exponent,
     pub multiplier: Multiplier,
 }

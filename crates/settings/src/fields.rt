@@ -1,13 +1,21 @@
 // The settings as they are lent: the 25 words that C passes. Each field is read by its name, and nothing else knows where a field
 // stands. What the words mean is the definitions' `settings_of`.
-ghost use Rattle.std.specs.Prelude.{◌≡◌, get_or};
-ghost use Rattle.rules.specs.SettingsAsWords.{held_to, most_of_a_byte, bit, settings_of, settings_words};
+ghost use Rattle.std.specs.Prelude.{◌≡◌, ◌+◌, ◌<◌, get_or};
+ghost use Rattle.rules.specs.SettingsAsWords.{held_to, most_of_a_byte, bit, set_of, settings_of, settings_words};
 ghost use Rattle.settings.specs.Conjunctions.{conjunctions_listed};
 
 use rules::{ByteSet, Conjunction, Settings};
 
-const LARGEST_BYTE: u64 = 255;
+// Where the two sets and the conjunctions stand, and the last of the four conjunctions.
+const INNER_AT: usize = 7;
 
+const OUTER_AT: usize = 11;
+
+const FIRST_AT: usize = 16;
+
+const LAST_CONJUNCTION: u8 = 3;
+
+// Each switch is a word at a place of its own. Nothing shared would be plainer than the one expression.
 pub fn negatives(settings: &[u64; 25]) -> bool
     ensures { result ≡ (settings_of settings.now).negatives }
 {
@@ -50,26 +58,29 @@ pub fn before_unit(settings: &[u64; 25]) -> bool
     settings[6] != 0
 }
 
+// The set whose first word stands at this place.
+fn set_at(settings: &[u64; 25], at: usize) -> ByteSet
+    requires { at + 3 < 25 }
+    ensures { result ≡ set_of settings.now at }
+{
+    ByteSet {
+        word0: settings[at],
+        word1: settings[at + 1],
+        word2: settings[at + 2],
+        word3: settings[at + 3],
+    }
+}
+
 pub fn inner(settings: &[u64; 25]) -> ByteSet
     ensures { result ≡ (settings_of settings.now).inner }
 {
-    ByteSet {
-        word0: settings[7],
-        word1: settings[8],
-        word2: settings[9],
-        word3: settings[10],
-    }
+    set_at(settings, INNER_AT)
 }
 
 pub fn outer(settings: &[u64; 25]) -> ByteSet
     ensures { result ≡ (settings_of settings.now).outer }
 {
-    ByteSet {
-        word0: settings[11],
-        word1: settings[12],
-        word2: settings[13],
-        word3: settings[14],
-    }
+    set_at(settings, OUTER_AT)
 }
 
 // A count, a size or a kind. What is no byte is 255, which is refused as all that is too large: cut to eight bits it could pass for
@@ -77,7 +88,7 @@ pub fn outer(settings: &[u64; 25]) -> ByteSet
 fn held_to_byte(word: u64) -> u8
     ensures { result ≡ held_to most_of_a_byte word }
 {
-    if word > LARGEST_BYTE { 255 } else { word as u8 }
+    u8::try_from(word).unwrap_or(u8::MAX)
 }
 
 pub fn conjunctions(settings: &[u64; 25]) -> u8
@@ -86,51 +97,14 @@ pub fn conjunctions(settings: &[u64; 25]) -> u8
     held_to_byte(settings[15])
 }
 
-fn first(settings: &[u64; 25]) -> Conjunction
-    ensures { result ≡ (settings_of settings.now).first }
-{
-    Conjunction {
-        size: held_to_byte(settings[16]),
-        letters: settings[17],
-    }
-}
-
-fn second(settings: &[u64; 25]) -> Conjunction
-    ensures { result ≡ (settings_of settings.now).second }
-{
-    Conjunction {
-        size: held_to_byte(settings[18]),
-        letters: settings[19],
-    }
-}
-
-fn third(settings: &[u64; 25]) -> Conjunction
-    ensures { result ≡ (settings_of settings.now).third }
-{
-    Conjunction {
-        size: held_to_byte(settings[20]),
-        letters: settings[21],
-    }
-}
-
-fn fourth(settings: &[u64; 25]) -> Conjunction
-    ensures { result ≡ (settings_of settings.now).fourth }
-{
-    Conjunction {
-        size: held_to_byte(settings[22]),
-        letters: settings[23],
-    }
-}
-
-// The conjunction at this place of the four.
+// The conjunction at this place of the four. Each is a size and its letters.
 pub fn conjunction_at(settings: &[u64; 25], i: u8) -> Conjunction
     ensures { result ≡ get_or (conjunctions_listed (settings_of settings.now)) i (settings_of settings.now).fourth }
 {
-    match i {
-        0 => first(settings),
-        1 => second(settings),
-        2 => third(settings),
-        _ => fourth(settings),
+    let at = FIRST_AT + 2 * i.min(LAST_CONJUNCTION) as usize;
+    Conjunction {
+        size: held_to_byte(settings[at]),
+        letters: settings[at + 1],
     }
 }
 
@@ -144,7 +118,7 @@ pub fn default_kind(settings: &[u64; 25]) -> u8
 pub fn bit(b: bool) -> u64
     ensures { result ≡ bit b }
 {
-    if b { 1 } else { 0 }
+    u64::from(b)
 }
 
 // The words of a record, for a caller in Rattle.

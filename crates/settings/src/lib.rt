@@ -4,10 +4,3 @@
 pub mod check;
 pub mod fields;
 pub mod sets;
-
-// What a check comes to.
-#[derive(Clone, Copy)]
-pub enum Checked {
-    Accepted,
-    Refused(rules::Refusal),
-}

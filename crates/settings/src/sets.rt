@@ -20,25 +20,14 @@ pub struct AsciiSet {
 pub fn delimits(set: ByteSet) -> bool
     ensures { result ≡ delimits set 0 256 }
 {
-    // `+`; `-` and `.`; the ten digits
-    if (set.word0 >> 43) % 2 != 0 {
-        return false;
-    }
-    if (set.word0 >> 45) % 4 != 0 {
-        return false;
-    }
-    if (set.word0 >> 48) % 1_024 != 0 {
-        return false;
-    }
-    // `A` to `Z`, and `a` to `z`
-    if (set.word1 >> 1) % 67_108_864 != 0 {
-        return false;
-    }
-    if (set.word1 >> 33) % 67_108_864 != 0 {
-        return false;
-    }
-    // 128 and above
-    set.word2 == 0 && set.word3 == 0
+    // `+`; `-` and `.`; the ten digits; `A` to `Z`, and `a` to `z`; 128 and above
+    (set.word0 >> 43) % 2 == 0
+        && (set.word0 >> 45) % 4 == 0
+        && (set.word0 >> 48) % 1_024 == 0
+        && (set.word1 >> 1) % 67_108_864 == 0
+        && (set.word1 >> 33) % 67_108_864 == 0
+        && set.word2 == 0
+        && set.word3 == 0
 }
 
 // A set of delimiters as two words: no byte from 128 on delimits.

@@ -11,18 +11,11 @@ pub fn keep(buffer: &mut [u8], from: usize, end: usize) -> usize
     ensures value { result ≡ length (kept buffer.old from end) }
     ensures buffer_after { buffer.new ≡ laid buffer.old 0 (kept buffer.old from end) }
 {
-    let mut count = 0;
-    let mut place = from;
-    while place < end {
-        if buffer.len() <= place {
-            return count;
-        }
-        if LONGEST_TEXT < count {
-            return count;
-        }
-        buffer[count] = buffer[place];
-        count += 1;
-        place += 1;
+    let there = end.min(buffer.len());
+    if there <= from {
+        return 0;
     }
+    let count = (there - from).min(LONGEST_TEXT + 1);
+    buffer.copy_within(from..from + count, 0);
     count
 }

@@ -1,5 +1,5 @@
 -- Whatever the reading of a part is refused with, by one of the six numbers it names what stands there: step by step. Assumes nothing.
-use Rattle.std.specs.Prelude.{◌≡◌, Bool, ℕ, ◌+◌, length, drop}
+use Rattle.std.specs.Prelude.{◌≡◌, Bool, ℕ, ◌+◌, length, drop, Option, Some, None}
 use Rattle.std.proofs.Math.Path.{refl, ap}
 use Rattle.std.proofs.Common.{sym, ◌∙◌, arith, length-drop}
 use Rattle.std.proofs.Math.Bool.{true, false, not, false≢true}
@@ -7,8 +7,6 @@ use mathlib.Core.List.{List, [], ◌∷◌}
 use borrow.Author.Tests.{eqb-false, ne_eqb, le-leb, not-true, not-false}
 use Rattle.std.proofs.Math.Seq.{slice}
 use Rattle.rules.specs.declared.ByteSet.{ByteSet}
-use Rattle.rules.specs.declared.Found.{Found}
-use Rattle.rules.specs.declared.Found.TheVariants.{Row, Nowhere}
 use Rattle.rules.specs.declared.Multiplier.{Multiplier}
 use Rattle.rules.specs.declared.Refusal.{Refusal}
 use Rattle.rules.specs.declared.Refusal.TheVariants.{SignEnds, DelimiterEnds, FractionOff, FractionEmpty, ExponentOff, ExponentByte, ExponentEnds, InfinityGoesOn, ConjunctionEnds, ConjunctionGoesOn}
@@ -139,10 +137,10 @@ module _ (card : Card) (text : List ℕ) (from : ℕ) where
   unfolding numeral_step numeral_found Says where_it_is by_test numbers.number position
   numeral_told {p} c = go (lookup card.numerals (slice p (numeral_end s text p) text)) refl
     where
-      go : (row : Found) → lookup card.numerals (slice p (numeral_end s text p) text) ≡ row → Refused Told (numeral_found card text p row)
-      go (Row i) found =
+      go : (row : Option ℕ) → lookup card.numerals (slice p (numeral_end s text p) text) ≡ row → Refused Told (numeral_found card text p row)
+      go (Some i) found =
           refused_if (λ _. refused_bind (delimiters s.inner text _) (delimiters_told (behind_numeral c found)) (λ next _. not_refused)) (λ _. refused_by tt)
-      go Nowhere found = refused_by tt
+      go None found = refused_by tt
 
   conjunction_told : {word size : ℕ} → Conjoins card text from word size → Refused Told (after_conjunction s text word (word + size))
   unfolding after_conjunction Says where_it_is by_test numbers.number position

@@ -1,9 +1,8 @@
 -- Request six: what each of the six numbers names, in the request's words and by the reader's steps, at the place that is handed back with it.
 -- Assumes nothing.
-use Rattle.std.specs.Prelude.{◌≡◌, Bool, true, false, not, ◌||◌, List, ◌∷◌, ◌++◌, ℕ, ◌+◌, ◌≤◌, eqb, length}
+use Rattle.std.specs.Prelude.{◌≡◌, Bool, true, false, not, ◌||◌, List, ◌∷◌, ◌++◌, ℕ, ◌+◌, ◌≤◌, eqb, length, Some}
 use Rattle.std.proofs.Math.Seq.{slice}
 use Rattle.rules.specs.declared.ByteSet.{ByteSet}
-use Rattle.rules.specs.declared.Found.TheVariants.{Row}
 use Rattle.rules.specs.declared.Settings.{Settings}
 use Rattle.rules.specs.Common.{ascii, ends, sees, run}
 use Rattle.rules.specs.NumbersHandedBack.{got}
@@ -58,7 +57,7 @@ module _ (card : Card) (text : List ℕ) (from : ℕ) where
     between_number_and_unit : {p : ℕ} → At before_a_unit p → s.before_unit ≡ true → Takes s.inner p
     before_ago : {p size : ℕ} {r : List ℕ} → At unit p → find_unit card text p ≡ size ∷ r → s.ago ≡ true → Takes s.inner (run (in_stretch s) text p)
     before_spoken_ago : {p size : ℕ} {r : List ℕ} → At spoken_unit p → find_unit card text p ≡ size ∷ r → s.ago ≡ true → Takes s.inner (run (in_stretch s) text p)
-    behind_numeral : {p i : ℕ} → At numeral p → lookup card.numerals (slice p (numeral_end s text p) text) ≡ Row i → Takes s.inner (numeral_end s text p)
+    behind_numeral : {p i : ℕ} → At numeral p → lookup card.numerals (slice p (numeral_end s text p) text) ≡ Some i → Takes s.inner (numeral_end s text p)
     of_connection : {p : ℕ} → At connection p → Takes s.outer p
     behind_conjunction : {word size : ℕ} → Conjoins word size → Takes s.outer (word + size)
 

@@ -6,6 +6,5 @@ pub mod Checks
 pub mod Sifting
 pub mod Making
 pub mod Replacing
-pub mod PuttingRows
 pub mod Allowed
 pub mod Indexed

@@ -1,11 +1,14 @@
 -- A row replaced: the table's other rows stay, the new one may come in or not, and the index is changed with it. Assumes nothing.
-use Rattle.std.specs.Prelude.{◌≡◌, Bool, List, ◌++◌, ◌≢◌, eqb, ltb, length, set}
+use Rattle.std.specs.Prelude.{◌≡◌, Bool, List, [], ◌∷◌, ◌++◌, ◌≢◌, eqb, ltb, length}
 use Rattle.std.proofs.Math.Path.{refl, ap}
-use Rattle.std.proofs.Common.{sym, ◌∙◌, ⊎_elim, add-one, arith, length-set, length-drop, length-append, get_or-set_same, get_or-set_other, ext_get_or, eqb-true, eq-eqb, ltb-true, ltb-false}
+use Rattle.std.proofs.Common.{sym, ◌∙◌, ⊎_elim, arith, length-drop, length-append, ext_get_or, eqb-true, eq-eqb, ltb-true, ltb-false}
 use Rattle.std.proofs.Math.Bool.{true, false, false≢true}
-use Prim.Native.Nat.{ℕ, suc, ◌+◌, ◌*◌, ◌-◌, ◌/◌, ◌%◌, ◌≤◌, ◌<◌}
+use Prim.Native.Nat.{ℕ, suc, ◌+◌, ◌*◌, ◌-◌, ◌/◌, ◌%◌, ◌<◌}
 use Rattle.std.proofs.Math.ListN.{get_or, take, drop, length-take, get_or-append}
-use Rattle.std.proofs.Math.Seq.{get_or-take, get_or-drop, get_or-append-add, take_all}
+use Rattle.std.proofs.Math.Seq.{get_or-take, get_or-drop, get_or-append-add, take_all, drop-drop}
+use Rattle.std.specs.List.{remove}
+use Rattle.std.proofs.lemmas.List.Edits.{length-remove}
+use borrow.Rule.Slice.PartMut.{put_mid}
 use Rattle.std.proofs.lemmas.Bool.{eqb-false}
 use Rattle.rules.specs.declared.Settings.{Settings}
 use Rattle.rules.specs.declared.Refusal.TheVariants.{TableSize, BadRow}
@@ -320,45 +323,39 @@ module _
         right_only (with_row table i new) own index_then
         (rising_right (with_row table i new) index_then (s.long ∙ m.long ∙ right.long ∙ sym (with_rows table i new below sized)) s.rising)
 
--- ---- an entry on its way to the end
+-- ---- an entry taken out and put behind all others
 
-pub record Moving (index : List ℕ) (at : ℕ) (now : List ℕ) (k : ℕ) : Type 0 where
-  pub long : length now ≡ length index
-  pub from : at ≤ k
-  pub within : k < length index
-  pub passed : (j : ℕ) → j < k → entry now j ≡ entry index (skip at j)
-  pub ahead : (j : ℕ) → k ≤ j → entry now j ≡ entry index j
-
-pub move_starts : (index : List ℕ) (at : ℕ) → at < length index → Moving index at index at
-move_starts index at within = record {
-  long = refl;
-  from = omega arith;
-  within = within;
-  passed = λ j less. ⊎_elim (λ p. ap (entry index) (sym p.1)) (λ p. absurd (omega arith)) (skipped at j);
-  ahead = λ j more. refl;
+pub taken_last : (index : List ℕ) (at : ℕ) → at < length index → {moved : List ℕ} → moved ≡ remove index at ++ (entry index at ∷ []) → Moved index at moved
+taken_last index at here e = rw e record {
+  long = length-append (remove index at) (entry index at ∷ []) ∙ left;
+  others = λ k less. get_or-append (remove index at) (entry index at ∷ []) 0 k (omega (arith, left)) ∙ other k less;
+  last = ap (entry (remove index at ++ (entry index at ∷ []))) (omega (arith, left)) ∙ get_or-append-add (remove index at) (entry index at ∷ []) 0 0;
 }
+  where
+    left : length (remove index at) + 1 ≡ length index
+    left = length-remove index at here
 
-module _ {index : List ℕ} {at : ℕ} {now : List ℕ} {k : ℕ} (m : Moving index at now k) where
-  pub move_next : k + 1 < length index → Moving index at (set now k (entry now (k + 1))) (k + 1)
-  move_next less = record {
-    long = length-set now k (entry now (k + 1)) ∙ m.long;
-    from = omega (arith, m.from);
-    within = less;
-    passed = λ j under. moved j under (eqb j k) refl;
-    ahead = λ j more. get_or-set_other now k j (entry now (k + 1)) 0 (λ e. omega arith) ∙ m.ahead j (omega arith);
-  }
-    where
-      moved : (j : ℕ) → j < k + 1 → (t : Bool) → eqb j k ≡ t → entry (set now k (entry now (k + 1))) j ≡ entry index (skip at j)
-      moved j under true e =
-          let is : j ≡ k = eqb-true j k e in
-          let next : skip at k ≡ k + 1 = ⊎_elim (λ p. absurd (omega (arith, m.from))) (λ p. p.1 ∙ sym (add-one k)) (skipped at k) in
-          rw (is, next) (get_or-set_same now k (entry now (k + 1)) 0 (omega (arith, m.long, m.within)) ∙ m.ahead (k + 1) (omega arith))
-      moved j under false e =
-          get_or-set_other now k j (entry now (k + 1)) 0 (eqb-false j k e) ∙ m.passed j (omega (arith, eqb-false j k e))
+    front : length (take at index) ≡ at
+    front = simp length-take (omega arith)
 
-  pub move_ends : length index - 1 ≤ k → Moved index at (set now (length index - 1) (entry index at))
-  move_ends all = record {
-    long = length-set now (length index - 1) (entry index at) ∙ m.long;
-    others = λ j less. get_or-set_other now (length index - 1) j (entry index at) 0 (λ e. omega arith) ∙ m.passed j (omega arith);
-    last = get_or-set_same now (length index - 1) (entry index at) 0 (omega (arith, m.long, m.within));
-  }
+    other : (k : ℕ) → k + 1 < length index → entry (take at index ++ drop (suc at) index) k ≡ entry index (skip at k)
+    other k less =
+        ⊎_elim
+        (λ p. get_or-append (take at index) (drop (suc at) index) 0 k (omega (arith, front)) ∙ get_or-take at index k 0 p.0 ∙ ap (entry index) (sym p.1))
+        (λ p.
+        let place : length (take at index) + (k - at) ≡ k = omega (arith, front) in
+        let there : suc at + (k - at) ≡ skip at k = omega (arith, p.1) in
+        ap (entry (take at index ++ drop (suc at) index)) (sym place)
+        ∙ get_or-append-add (take at index) (drop (suc at) index) (k - at) 0
+        ∙ get_or-drop (suc at) index (k - at) 0
+        ∙ ap (entry index) there)
+        (skipped at k)
+
+-- a row put in one piece
+pub put_whole :
+    (table : List ℕ) (i : ℕ) {k : ℕ} {put new : List ℕ} → put ≡ new → k ≡ row_size → put_mid (row_size * i) k table put ≡ with_row table i new
+unfolding with_row
+put_whole table i {k} {put} {new} e sized =
+    let place : row_size * i + k ≡ row_size * suc i = omega arith in
+    ap (λ p. take (row_size * i) table ++ (p ++ drop k (drop (row_size * i) table))) e
+    ∙ ap (λ d. take (row_size * i) table ++ (new ++ d)) (drop-drop k (row_size * i) table ∙ ap (λ n. drop n table) place)

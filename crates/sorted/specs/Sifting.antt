@@ -5,8 +5,8 @@ use Rattle.std.proofs.Common.{sym, ap, ◌∙◌, arith, length-set, get_or-set_
 use Rattle.std.proofs.Math.Bool.{true}
 use Rattle.std.proofs.lemmas.Bool.{false≢true, eqb-false}
 use Rattle.rules.specs.SettingsAndUnitTable.{rows}
-use Rattle.index.specs.declared.Order.{Order}
-use Rattle.index.specs.declared.Order.TheVariants.{Before, Same, After}
+use Rattle.std.specs.declared.cmp.Ordering.{Ordering}
+use Rattle.std.specs.declared.cmp.Ordering.TheVariants.{Less, Equal, Greater}
 use Rattle.index.specs.TheSortedIndex.{order, is_before, before}
 use Rattle.index.proofs.Laws.Order.{Compared, comes_before, is_same, comes_after, compared, before_trans}
 use Rattle.index.specs.Laws.Right.{entry, entry_name, Rising, Own}
@@ -52,15 +52,15 @@ module _ (table index : List ℕ) (at : ℕ) (s : Sifting table index at) where
         below = go (order (entry_name table index at) (entry_name table index (at - 1))) refl (compared _ _)
           where
             go :
-                (o : Order) → order (entry_name table index at) (entry_name table index (at - 1)) ≡ o
+                (o : Ordering) → order (entry_name table index at) (entry_name table index (at - 1)) ≡ o
                 → Compared (entry_name table index at) (entry_name table index (at - 1)) o
                 → before (entry_name table index (at - 1)) (entry_name table index at) ≡ true
-            go Before e (comes_before h) = absurd (false≢true (sym not_before ∙ h))
-            go Same e (is_same h) =
+            go Less e (comes_before h) = absurd (false≢true (sym not_before ∙ h))
+            go Equal e (is_same h) =
                 absurd
                 (s.alone (at - 1) (omega (arith, s.here)) (λ is. omega arith)
                 (sym (different table own (entry index at) (entry index (at - 1)) (omega (arith, s.short, s.within at s.here)) (omega (arith, s.short, s.within (at - 1) (omega (arith, s.here)))) h)))
-            go After e (comes_after h) = h
+            go Greater e (comes_after h) = h
 
         by : (j : ℕ) → j < at → (t : Bool) → eqb j (at - 1) ≡ t → before (entry_name table index j) (entry_name table index at) ≡ true
         by j less true e = rw (eqb-true j (at - 1) e) below

@@ -5,7 +5,6 @@ ghost use Rattle.index.specs.TheSortedIndex.{index_of};
 ghost use Rattle.index.specs.Laws.Right.{Own};
 ghost use Rattle.sorted.specs.Sifting.{Sifting, Sifted};
 
-use lookup::names::before;
 use rows::fields::{name_of, row_at};
 
 // The entry at this place sinks until the name before it comes first. All other names rise, and those behind it come after its own.
@@ -13,18 +12,12 @@ pub fn sift_down(table: &[u8], index: &mut [u8], at: usize)
     requires { Own table.now × Sifting table.now index.old at }
     ensures { Sifted table.now index.old index.new }
 {
-    let own = index[at];
-    let wanted = name_of(row_at(table, own as usize));
-    let mut place = at;
-    while place > 0 {
-        let below = place - 1;
-        let other = index[below];
-        if !before(wanted, name_of(row_at(table, other as usize))) {
+    let wanted = name_of(row_at(table, index[at] as usize));
+    for below in (0..at).rev() {
+        if wanted >= name_of(row_at(table, index[below] as usize)) {
             return;
         }
-        index[place] = other;
-        index[below] = own;
-        place = below;
+        index.swap(below + 1, below);
     }
 }
 
@@ -33,12 +26,8 @@ pub fn make(table: &[u8], index: &mut [u8])
     requires { Own table.now × (length index.old ≡ rows table.now) × (rows table.now ≤ most_rows) }
     ensures { index.new ≡ index_of table.now }
 {
-    let count = index.len();
-    let mut i = 0;
-    while i < count {
+    for i in 0..index.len() {
         index[i] = i as u8;
-        let end = i + 1;
-        sift_down(table, &mut index[..end], i);
-        i = end;
+        sift_down(table, &mut index[..=i], i);
     }
 }

@@ -6,11 +6,11 @@ ghost use Rattle.rules.specs.SettingsAndUnitTable.{settings_check, row_size, row
 ghost use Rattle.rows.specs.Named.{padded};
 ghost use Rattle.index.specs.TheSortedIndex.{with_row, may_replace, index_of};
 ghost use Rattle.index.specs.Laws.Right.{Own, Right};
-ghost use Rattle.sorted.specs.Replacing.{Elsewhere, NotElsewhere, Stands, Moved};
+ghost use Rattle.sorted.specs.Replacing.{Elsewhere, NotElsewhere, Stands};
 
 use crate::made::sift_down;
 use card::row::same_name;
-use card::table::{RowsFound, rows_found, unit_rule};
+use card::table::{rows_found, unit_rule};
 use rows::fields::{ROW_SIZE, row_at};
 
 // The new row by itself is tested as a table of one row.
@@ -23,15 +23,10 @@ fn named_elsewhere(table: &[u8], i: usize, new: &[u8]) -> bool
     ensures elsewhere { result ≡ true → Elsewhere table.now i new.now }
     ensures not_elsewhere { result ≡ false → NotElsewhere table.now i new.now }
 {
-    let count = table.len() / ROW_SIZE;
-    let mut j = 0;
-    while j < count {
-        if j != i {
-            if same_name(row_at(table, j), new) {
-                return true;
-            }
+    for j in 0..table.len() / ROW_SIZE {
+        if j != i && same_name(row_at(table, j), new) {
+            return true;
         }
-        j += 1;
     }
     false
 }
@@ -45,11 +40,7 @@ pub fn row_fits(settings: &[u64; 25], table: &[u8], i: usize, new: &[u8]) -> boo
     if new.len() != ROW_SIZE {
         return false;
     }
-    match rows_found(ONE_ROW, unit_rule(settings), false, new) {
-        RowsFound::Good => !named_elsewhere(table, i, new),
-        RowsFound::WrongSize => false,
-        RowsFound::Bad(_) => false,
-    }
+    rows_found(ONE_ROW, unit_rule(settings), false, new).is_ok() && !named_elsewhere(table, i, new)
 }
 
 // The new row's bytes, in the place of the old one's.
@@ -58,12 +49,7 @@ fn put_row(table: &mut [u8], i: usize, new: &[u8])
     ensures { table.new ≡ with_row table.old i new.now }
 {
     let start = ROW_SIZE * i;
-    let mut k = 0;
-    while k < ROW_SIZE {
-        let at = start + k;
-        table[at] = new[k];
-        k += 1;
-    }
+    table[start..start + ROW_SIZE].copy_from_slice(new);
 }
 
 // The entry at which a row stands.
@@ -71,33 +57,13 @@ fn place_of(index: &[u8], row: usize) -> usize
     requires { Stands index.now row }
     ensures { (result < length index.now) × (get_or index.now result 0 ≡ row) }
 {
-    let mut k = 0;
-    while k < index.len() {
-        if index[k] as usize == row {
-            return k;
-        }
-        k += 1;
-    }
-    0
+    index
+        .iter()
+        .position(|entry| *entry as usize == row)
+        .unwrap()
 }
 
-// The entry at this place put behind all others, which stay in their order.
-fn move_last(index: &mut [u8], at: usize)
-    requires { at < length index.old }
-    ensures { Moved index.old at index.new }
-{
-    let own = index[at];
-    let last = index.len() - 1;
-    let mut k = at;
-    while k < last {
-        let next = k + 1;
-        index[k] = index[next];
-        k = next;
-    }
-    index[last] = own;
-}
-
-// The new row into the table, and its entry to its new place: behind all others, from where it sinks.
+// The new row into the table, and its entry to its new place: behind all others, which stay in their order, and from where it sinks.
 pub fn put_in(table: &mut [u8], index: &mut [u8], i: usize, new: &[u8])
     requires i_bound { (i < rows table.old) × (length new.now ≡ row_size) }
     requires right { Right table.old index.old × Own (with_row table.old i new.now) }
@@ -106,7 +72,7 @@ pub fn put_in(table: &mut [u8], index: &mut [u8], i: usize, new: &[u8])
 {
     put_row(table, i, new);
     let place = place_of(index, i);
-    move_last(index, place);
+    index[place..].rotate_left(1);
     let last = index.len() - 1;
     sift_down(table, index, last);
 }

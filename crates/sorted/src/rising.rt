@@ -10,7 +10,7 @@ ghost use Rattle.index.specs.TheSortedIndex.{before};
 ghost use Rattle.index.specs.Laws.Right.{Right, Rising};
 ghost use Rattle.sorted.specs.Rooms.{Alike};
 
-use card::table::{MOST_ROWS, RowsFound, rows_found, unit_rule};
+use card::table::{MOST_ROWS, rows_found, unit_rule};
 use rows::fields::{KIND_AT, NAME_AT, ROW_SIZE, row_at};
 use words::{WORD, word_at};
 
@@ -19,14 +19,12 @@ fn alike_until(row: &[u8], other: &[u8]) -> usize
     requires { (length row.now ≡ row_size) × (length other.now ≡ row_size) }
     ensures { (1 ≤ result) × (result ≤ kind_at) × Alike row.now other.now result }
 {
-    let mut at = NAME_AT;
-    while at < KIND_AT {
+    for at in (NAME_AT..KIND_AT).step_by(WORD) {
         if word_at(row, at) != word_at(other, at) {
             return at;
         }
-        at += WORD;
     }
-    at
+    KIND_AT
 }
 
 // Whether one row's name comes before another's. Both have zeros after it, so that the name's whole room decides, and where it is the same the
@@ -36,12 +34,10 @@ fn comes_before(row: &[u8], other: &[u8]) -> bool
     requires other_len { (length other.now ≡ row_size) × (padded other.now ≡ true) }
     ensures { result ≡ true → before (name row.now) (name other.now) ≡ true }
 {
-    let mut at = alike_until(row, other);
-    while at < KIND_AT {
+    for at in alike_until(row, other)..KIND_AT {
         if row[at] != other[at] {
             return row[at] < other[at];
         }
-        at += 1;
     }
     row[0] < other[0]
 }
@@ -53,24 +49,19 @@ fn names_rise(table: &[u8], index: &[u8]) -> bool
     ensures { result ≡ true → Rising table.now index.now }
 {
     let count = index.len();
-    if count == 0 {
+    if index.is_empty() {
         return true;
     }
     let mut last = index[0] as usize;
     if last >= count {
         return false;
     }
-    let mut k = 1;
-    while k < count {
-        let entry = index[k] as usize;
-        if entry >= count {
-            return false;
-        }
-        if !comes_before(row_at(table, last), row_at(table, entry)) {
+    for next in &index[1..] {
+        let entry = *next as usize;
+        if entry >= count || !comes_before(row_at(table, last), row_at(table, entry)) {
             return false;
         }
         last = entry;
-        k += 1;
     }
     true
 }
@@ -80,12 +71,8 @@ pub fn told_right(settings: &[u64; 25], table: &[u8], index: &[u8]) -> bool
     requires { settings_check (settings_of settings.now) ≡ got tt }
     ensures { result ≡ true → UnitsGood (settings_of settings.now) table.now × Right table.now index.now }
 {
-    let RowsFound::Good = rows_found(MOST_ROWS, unit_rule(settings), false, table) else {
-        return false;
-    };
-    let count = table.len() / ROW_SIZE;
-    if index.len() != count {
+    if index.len() != table.len() / ROW_SIZE {
         return false;
     }
-    names_rise(table, index)
+    rows_found(MOST_ROWS, unit_rule(settings), false, table).is_ok() && names_rise(table, index)
 }

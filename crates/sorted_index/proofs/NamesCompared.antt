@@ -1,8 +1,6 @@
 -- Both searches over the two tables of an accepted card with accepted indexes: what they find, and how many names they compare. Assumes nothing.
-use Rattle.std.specs.Prelude.{◌≡◌, List, ℕ, ◌≤◌}
+use Rattle.std.specs.Prelude.{◌≡◌, List, ℕ, ◌≤◌, Option, Some, None}
 use native.Mathlib.Omega.{arith}
-use Rattle.rules.specs.declared.Found.{Found}
-use Rattle.rules.specs.declared.Found.TheVariants.{Row, Nowhere}
 use Rattle.rules.specs.declared.Refusal.TheVariants.{WrongIndex, WrongLineIndex}
 use Rattle.rules.specs.NumbersHandedBack.{got}
 use Rattle.rules.specs.SettingsAndUnitTable.{stands, card_check}
@@ -15,10 +13,10 @@ use Rattle.sorted_index.specs.NamesCompared.{at_most_seven}
 
 -- ---- both tables: the two lookups of an accepted card with accepted indexes find the same, each with its own count
 
-behind_most : (f : Found) (n : ℕ) → behind f n ≤ n
+behind_most : (f : Option ℕ) (n : ℕ) → behind f n ≤ n
 unfolding behind
-behind_most (Row i) n = omega arith
-behind_most Nowhere n = omega arith
+behind_most (Some i) n = omega arith
+behind_most None n = omega arith
 
 module _ (c : Indexed) (wanted : List ℕ) (good : indexed_check c ≡ got tt) where
   card_good : card_check c.card ≡ got tt

@@ -3,7 +3,6 @@ use Rattle.std.specs.Prelude.{◌≡◌, Bool, ℕ, ◌+◌, ◌-◌, leb}
 use Rattle.std.proofs.Math.Path.{refl}
 use Rattle.std.proofs.Common.{sym, arith, le-leb, leb-true}
 use Rattle.std.proofs.Math.Bool.{true, false}
-use Rattle.std.proofs.lemmas.Bool.{false≢true}
 use Rattle.rules.specs.declared.Multiplier.{Multiplier}
 use Rattle.rules.specs.declared.SpokenRepr.{SpokenRepr}
 use Rattle.rules.specs.declared.Refusal.{Refusal}
@@ -11,10 +10,10 @@ use Rattle.rules.specs.declared.Refusal.TheVariants.{OutOfRange}
 use Rattle.rules.specs.NumbersHandedBack.{Outcome, got, refused, ◌>>=◌, ◌>>◌, unless}
 use Rattle.rules.specs.SettingsAndUnitTable.{times, in_range}
 use Rattle.rules.specs.Evaluation.{multiplied, spoken_multiplier}
-use Rattle.rules.proofs.Laws.Outcomes.{Refused, not_refused, refused_then, refused_bind, refused_unless}
+use Rattle.rules.proofs.Laws.Outcomes.{Refused, not_got, not_refused, refused_then, refused_bind, refused_unless}
 use Rattle.rules.specs.Laws.Powers.{net}
 use Rattle.rules.proofs.Laws.Tests.{same_test}
-use Rattle.spoken.specs.Products.{handed_on, no_product, product, spoken_product}
+use Rattle.spoken.specs.Products.{product, spoken_product}
 
 -- ---- powers taken off each other
 
@@ -32,14 +31,6 @@ leave a b x y = omega arith
 -- ---- one product
 
 module _ (m n : Multiplier) where
-  pub product_in : in_range (times m n) ≡ true → product (multiplied m n) ≡ handed_on (times m n)
-  unfolding multiplied product unless ◌>>◌
-  product_in e = rw e
-
-  pub product_out : in_range (times m n) ≡ false → product (multiplied m n) ≡ no_product
-  unfolding multiplied product unless ◌>>◌
-  product_out e = rw e
-
   in_range_net : in_range (times (net m) n) ≡ in_range (times m n)
   unfolding in_range times net
   in_range_net = rw (as_far m.up m.down n.up n.down 32767, as_far m.down m.up n.down n.up 32768)
@@ -57,18 +48,19 @@ module _ (m n : Multiplier) where
       go true = rw net_times
       go false = refl
 
--- ---- one after another
+-- ---- one after another: what is handed on is multiplied once more, and nothing follows a product out of range
+
+module _ (n : Multiplier) where
+  pub product_goes_on : (first : Outcome Multiplier) {m : Multiplier} → product first ≡ got m → product (multiplied m n) ≡ product (first >>= λ m. multiplied m n)
+  unfolding product ◌>>=◌
+  product_goes_on (got k) {m = m} e = let same : net k ≡ m = cc in rw (← same) (product_net k n)
+  product_goes_on (refused first) {m = m} e = absurd (not_got first e)
 
 -- nothing follows a product out of range
-pub product_stops : (first : Outcome Multiplier) (next : Multiplier → Outcome Multiplier) → (product first).out_of_range ≡ true → product first ≡ product (first >>= next)
+pub product_stops : (first : Outcome Multiplier) (next : Multiplier → Outcome Multiplier) {cause : Refusal} → product first ≡ refused cause → refused cause ≡ product (first >>= next)
 unfolding product ◌>>=◌
-product_stops (got m) next e = absurd (false≢true e)
-product_stops (refused cause) next e = refl
-
-pub product_goes_on : (first : Outcome Multiplier) (n : Multiplier) → (product first).out_of_range ≡ false → product (multiplied (product first).multiplier n) ≡ product (first >>= λ m. multiplied m n)
-unfolding product ◌>>=◌
-product_goes_on (got m) n e = product_net m n
-product_goes_on (refused cause) n e = absurd (false≢true (sym e))
+product_stops (got k) next {cause = cause} e = absurd (not_got cause (sym e))
+product_stops (refused first) next e = sym e
 
 -- ---- a spoken number
 
@@ -84,10 +76,10 @@ module _ (d : SpokenRepr) where
       refused_bind (multiplied d.numeral d.kind) (multiplied_refused d.numeral d.kind) (λ m _. multiplied_refused m d.row)
 
   -- what is handed on of it
-  pub product_got : {m : Multiplier} → spoken_multiplier d ≡ got m → spoken_product d ≡ handed_on m
+  pub product_got : {m : Multiplier} → spoken_multiplier d ≡ got m → spoken_product d ≡ got (net m)
   unfolding spoken_product product
   product_got e = rw e
 
-  pub product_refused : (c : Refusal) → spoken_multiplier d ≡ refused c → spoken_product d ≡ no_product
+  pub product_refused : {c : Refusal} → spoken_multiplier d ≡ refused c → spoken_product d ≡ refused c
   unfolding spoken_product product
-  product_refused c e = rw e
+  product_refused e = rw e

@@ -8,20 +8,13 @@ ghost use Rattle.rules.specs.Laws.Powers.{net};
 ghost use Rattle.spoken.specs.Products.{product, spoken_product};
 
 use rows::fields::within;
-use rules::{Multiplier, SpokenRepr};
-
-// What a spoken number is multiplied by, its powers of ten taken off each other; or that a product is out of range.
-#[derive(Clone, Copy)]
-pub struct Product {
-    pub multiplier: Multiplier,
-    pub out_of_range: bool,
-}
+use rules::{Multiplier, Refusal, SpokenRepr};
 
 // Two powers together. 16 bits need not hold them: two of 32768 make 65536.
 fn together(a: u16, b: u16) -> u32
     ensures { result ≡ a + b }
 {
-    a as u32 + b as u32
+    u32::from(a) + u32::from(b)
 }
 
 // How far one power stands above the other. In range that is at most 32768, which 16 bits hold again.
@@ -29,22 +22,16 @@ fn above(a: u32, b: u32) -> u16
     requires { a ≤ b + 32768 }
     ensures { result ≡ a - b }
 {
-    if a <= b {
-        return 0;
-    }
-    (a - b) as u16
+    a.saturating_sub(b) as u16
 }
 
 // Whether a product lies in the range. The coefficient is not made, since 64 bits need not hold it.
 fn product_in_range(m: Multiplier, n: Multiplier) -> bool
     ensures { result ≡ in_range (times m n) }
 {
-    if !within(m.coefficient, n.coefficient) {
-        return false;
-    }
     let up = together(m.up, n.up);
     let down = together(m.down, n.down);
-    up <= down + 32_767 && down <= up + 32_768
+    within(m.coefficient, n.coefficient) && up <= down + 32_767 && down <= up + 32_768
 }
 
 // A product in range. Its powers are taken off each other, so that it can be multiplied once more.
@@ -62,32 +49,19 @@ fn times(m: Multiplier, n: Multiplier) -> Multiplier
     }
 }
 
-fn multiplied(m: Multiplier, n: Multiplier) -> Product
+fn multiplied(m: Multiplier, n: Multiplier) -> Result<Multiplier, Refusal>
     ensures { result ≡ product (multiplied m n) }
 {
     if product_in_range(m, n) {
-        return Product {
-            multiplier: times(m, n),
-            out_of_range: false,
-        };
-    }
-    Product {
-        multiplier: Multiplier {
-            negative: false,
-            coefficient: 0,
-            up: 0,
-            down: 0,
-        },
-        out_of_range: true,
+        Ok(times(m, n))
+    } else {
+        Err(Refusal::OutOfRange)
     }
 }
 
-pub fn spoken_product(d: SpokenRepr) -> Product
+pub fn spoken_product(d: SpokenRepr) -> Result<Multiplier, Refusal>
     ensures { result ≡ spoken_product d }
 {
-    let first = multiplied(d.numeral, d.kind);
-    if first.out_of_range {
-        return first;
-    }
-    multiplied(first.multiplier, d.row)
+    let first = multiplied(d.numeral, d.kind)?;
+    multiplied(first, d.row)
 }

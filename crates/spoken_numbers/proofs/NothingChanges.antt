@@ -1,13 +1,11 @@
 -- With an empty numeral table nothing changes: whatever its other arguments, every entry answers as before request four, when a line had no
 -- table of its own. The writer did not move. Assumes nothing.
-use Rattle.std.specs.Prelude.{◌≡◌, Bool, true, false}
+use Rattle.std.specs.Prelude.{◌≡◌, Bool, true, false, Option, Some, None}
 use Rattle.std.proofs.Math.Path.{refl}
 use mathlib.Core.List.{List, []}
 use Prim.Native.Nat.{ℕ, zero, suc, zero-le}
 use Rattle.std.proofs.Common.{le-leb, arith, drop-cons}
 use Rattle.std.proofs.Math.Seq.{slice}
-use Rattle.rules.specs.declared.Found.{Found}
-use Rattle.rules.specs.declared.Found.TheVariants.{Row, Nowhere}
 use Rattle.rules.specs.declared.Length.{Length}
 use Rattle.rules.specs.declared.Part.{Part}
 use Rattle.rules.specs.declared.Refusal.TheVariants.{BadRow}
@@ -67,9 +65,9 @@ module _ (s : Settings) (table : List ℕ) where
         name : List ℕ
         name = slice place (run (in_stretch s) text place) text
 
-        go : (found : Found) → lookup table name ≡ found → unit_found s text place (held_row table [] (line_first Nowhere found)) ≡ before.unit_found s table text place found
-        go (Row i) at = rw (drop-cons (row table i) 0 0 (omega (arith, length_row table i (lookup_found table name i at).0)))
-        go Nowhere at = refl
+        go : (found : Option ℕ) → lookup table name ≡ found → unit_found s text place (held_row table [] (line_first None found)) ≡ before.unit_found s table text place found
+        go (Some i) at = rw (drop-cons (row table i) 0 0 (omega (arith, length_row table i (lookup_found table name i at).0)))
+        go None at = refl
 
     finite_as_before : (negative : Bool) (place : ℕ) → finite_part (unspoken s table) text negative place ≡ (before.finite_part s table text negative place >>= λ p. got (typed p))
     unfolding unspoken finite_part before.finite_part ◌>>=◌

@@ -1,13 +1,11 @@
 -- A part is refused by 15 exactly if it is a spoken one without a unit. Assumes nothing.
-use Rattle.std.specs.Prelude.{◌≡◌, true, false, not, ◌↔◌, ℕ}
+use Rattle.std.specs.Prelude.{◌≡◌, true, false, not, ◌↔◌, ℕ, Option, Some, None}
 use Rattle.std.proofs.Math.Path.{refl, ap}
 use Rattle.std.proofs.Common.{sym, ◌∙◌, arith}
 use Rattle.std.proofs.lemmas.Bool.{false≢true, not-true}
 use mathlib.Core.List.{List, [], ◌∷◌}
 use Rattle.std.proofs.Math.Seq.{slice}
 use Rattle.rules.specs.declared.ByteSet.{ByteSet}
-use Rattle.rules.specs.declared.Found.{Found}
-use Rattle.rules.specs.declared.Found.TheVariants.{Row, Nowhere}
 use Rattle.rules.specs.declared.Refusal.{Refusal}
 use Rattle.rules.specs.declared.Refusal.TheVariants.{NoUnit}
 use Rattle.rules.specs.Common.{when◌then◌else◌, all, ends, sees, run}
@@ -35,14 +33,14 @@ module _ (card : Card) (text : List ℕ) where
   unfolding numeral_step numeral_found
   numeral_got place = go (lookup card.numerals (slice place (numeral_end card.settings text place) text)) refl
     where
-      go : (f : Found) → lookup card.numerals (slice place (numeral_end card.settings text place) text) ≡ f → All (λ n. (i : ℕ) × (n.multiplier ≡ row_multiplier (row card.numerals i)) × NumeralAt card text place i n.next) (numeral_found card text place f)
-      go (Row i) found =
+      go : (f : Option ℕ) → lookup card.numerals (slice place (numeral_end card.settings text place) text) ≡ f → All (λ n. (i : ℕ) × (n.multiplier ≡ row_multiplier (row card.numerals i)) × NumeralAt card text place i n.next) (numeral_found card text place f)
+      go (Some i) found =
           all_if
           (λ followed.
           all_bind (delimiters_behind card.settings.inner text (numeral_end card.settings text place) followed)
           (λ q (behind, goes_on). all_got (i, refl, record { found = found; followed = followed; behind = behind; goes_on = goes_on })))
           (λ _. all_refused)
-      go Nowhere found = all_refused
+      go None found = all_refused
 
   -- and it gets every numeral
   numeral_gets : (place i q : ℕ) → NumeralAt card text place i q → numeral_step card text place ≡ got (record { multiplier = row_multiplier (row card.numerals i); next = q })

@@ -1,11 +1,9 @@
 -- The definitions that request four moved, as they were before it, under the names that they had. Written out, so that they do not follow
 -- those of now; what did not move is cited. Assumes nothing.
-use Rattle.std.specs.Prelude.{Bool, true, false, not, ◌&&◌, ◌||◌, List, [], ◌∷◌, ℕ, zero, suc, ◌%◌, leb, eqb, length, drop}
+use Rattle.std.specs.Prelude.{Bool, true, false, not, ◌&&◌, ◌||◌, List, [], ◌∷◌, ℕ, zero, suc, ◌%◌, leb, eqb, length, drop, Option, Some, None}
 use Rattle.std.proofs.Math.Seq.{slice}
 use Rattle.rules.specs.declared.Answer.{Answer}
 use Rattle.rules.specs.declared.DurationRepr.{DurationRepr}
-use Rattle.rules.specs.declared.Found.{Found}
-use Rattle.rules.specs.declared.Found.TheVariants.{Row, Nowhere}
 use Rattle.rules.specs.declared.Length.{Length}
 use Rattle.rules.specs.declared.Number.{Number}
 use Rattle.rules.specs.declared.Reading.{Reading}
@@ -51,9 +49,9 @@ card_check s table = settings_check s >> table_check s table
 
 -- ---- one part: with digits, or infinite
 
-unfoldable pub unit_found : Settings → List ℕ → List ℕ → ℕ → Found → Outcome declared_unit.Unit
-unit_found s table text place (Row i) = ago_step s text (product (row table i)) (run (in_stretch s) text place)
-unit_found s table text place Nowhere = got (record { multiplier = kind_multiplier s.default_kind; next = place })
+unfoldable pub unit_found : Settings → List ℕ → List ℕ → ℕ → Option ℕ → Outcome declared_unit.Unit
+unit_found s table text place (Some i) = ago_step s text (product (row table i)) (run (in_stretch s) text place)
+unit_found s table text place None = got (record { multiplier = kind_multiplier s.default_kind; next = place })
 
 unfoldable pub unit_step : Settings → List ℕ → List ℕ → ℕ → Outcome declared_unit.Unit
 unit_step s table text place = unit_found s table text place (lookup table (slice place (run (in_stretch s) text place) text))

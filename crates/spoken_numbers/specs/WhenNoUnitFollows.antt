@@ -1,9 +1,8 @@
 -- A part is refused by 15 exactly if the steps come to the numeral lookup, it finds a row, a run of inner delimiters that does not end the
 -- text follows, and the stretch of step 6 from the byte after it names no row, of the line's table nor of the hall's; and 15 is at that byte. Assumes nothing.
-use Rattle.std.specs.Prelude.{◌≡◌, true, false, ◌&&◌, ◌||◌, ℕ}
+use Rattle.std.specs.Prelude.{◌≡◌, true, false, ◌&&◌, ◌||◌, ℕ, Some}
 use mathlib.Core.List.{List, []}
 use Rattle.std.proofs.Math.Seq.{slice}
-use Rattle.rules.specs.declared.Found.TheVariants.{Row}
 use Rattle.rules.specs.declared.Signed.{Signed}
 use Rattle.rules.specs.Common.{ascii, ends, sees, run}
 use Rattle.rules.specs.NumbersHandedBack.{got}
@@ -22,7 +21,7 @@ pub record NumeralAsked (card : Card) (text : List ℕ) (place : ℕ) (signed : 
 -- the stretch from a place on is the name of row i of the numerals; a run of inner delimiters follows, which does not end the text: q is
 -- the byte after it
 pub record NumeralAt (card : Card) (text : List ℕ) (place i q : ℕ) : Type 0 where
-  pub found : lookup card.numerals (slice place (numeral_end card.settings text place) text) ≡ Row i
+  pub found : lookup card.numerals (slice place (numeral_end card.settings text place) text) ≡ Some i
   pub followed : sees (holds card.settings.inner) text (numeral_end card.settings text place) ≡ true
   pub behind : run (holds card.settings.inner) text (numeral_end card.settings text place) ≡ q
   pub goes_on : ends text q ≡ false

@@ -1,8 +1,8 @@
 -- What the contracts of the steps need besides the definitions of document 01, and laws of those definitions.
-pub mod Outcomes
 pub mod Joined
-pub mod Bytes
+pub mod Sights
 pub mod Sets
+pub mod Bytes
 pub mod Delimiters
 pub mod Letters
 pub mod Signs

@@ -5,7 +5,7 @@ use Rattle.std.proofs.Math.Bool.{true, false}
 use Rattle.std.proofs.Common.{arith, ltb-true, ltb-false}
 use Rattle.std.proofs.Math.Dec.{ltb}
 use Rattle.rules.specs.declared.Settings.{Settings}
-use Rattle.rules.specs.declared.Whole.{Whole}
+use Rattle.rules.specs.declared.Span.{Span}
 use Rattle.rules.specs.declared.Refusal.TheVariants.{FractionOff, FractionEmpty}
 use Rattle.rules.specs.Common.{when◌then◌else◌, sees, run}
 use Rattle.rules.specs.NumbersHandedBack.{got, refused}
@@ -15,7 +15,7 @@ use Rattle.rules.proofs.Laws.Tests.{or_true}
 use Rattle.rules.proofs.Laws.Texts.{run_from}
 use Rattle.steps.specs.Delimiters.{sees_run, sees_none}
 
-module _ (s : Settings) (text : List ℕ) (any_whole : Bool) (whole : Whole) (place : ℕ) where
+module _ (s : Settings) (text : List ℕ) (any_whole : Bool) (whole : Span) (place : ℕ) where
   pub fraction_absent :
       sees (is POINT) text place ≡ false
       → got (record { whole = whole; fract = record { start = place; end = place }; next = place })
@@ -55,7 +55,7 @@ module _ (s : Settings) (text : List ℕ) (any_whole : Bool) (whole : Whole) (pl
 
 module _
     (s : Settings) (text : List ℕ) (place : ℕ)
-    {whole : Whole} (w : whole ≡ record { start = run (eqb 48) text place; end = run (is DIGIT) text place }) where
+    {whole : Span} (w : whole ≡ record { start = run (eqb 48) text place; end = run (is DIGIT) text place }) where
   -- there are digits before the point exactly if their run goes on
   pub number_whole : fraction_step s text (ltb place whole.end) whole whole.end ≡ number_step s text place
   unfolding number_step

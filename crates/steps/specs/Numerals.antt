@@ -1,5 +1,5 @@
 -- Laws of the numeral step: the stretch, what the lookup finds, and the delimiters behind it. Assumes nothing.
-use Rattle.std.specs.Prelude.{◌≡◌, Bool, ℕ, ◌≤◌, ◌<◌, get_or}
+use Rattle.std.specs.Prelude.{◌≡◌, Bool, ℕ, ◌≤◌, ◌<◌, get_or, Option, Some, None}
 use Rattle.std.proofs.Math.Path.{refl, sym, ap}
 use Rattle.std.proofs.Common.{◌∙◌, arith}
 use Rattle.std.proofs.Math.Bool.{true, false, not, beq}
@@ -10,8 +10,6 @@ use Rattle.std.proofs.Math.Seq.{slice}
 use Rattle.rules.specs.declared.ByteSet.{ByteSet}
 use Rattle.rules.specs.declared.Settings.{Settings}
 use Rattle.rules.specs.declared.Numeral.{Numeral}
-use Rattle.rules.specs.declared.Found.{Found}
-use Rattle.rules.specs.declared.Found.TheVariants.{Row, Nowhere}
 use Rattle.rules.specs.declared.Refusal.{Refusal}
 use Rattle.rules.specs.declared.Refusal.TheVariants.{NoNumber}
 use Rattle.rules.specs.Common.{when◌then◌else◌, starts, sees, run}
@@ -22,32 +20,26 @@ use Rattle.rules.proofs.Laws.Outcomes.{All, all_got, all_refused, all_if, all_bi
 use Rattle.rules.proofs.Laws.Texts.{sees_here, sees_end, run_from, run_ends}
 use Rattle.rows.specs.Named.{Padded}
 use Rattle.rows.specs.Laws.Lookup.{lookup_found}
-use Rattle.settings.specs.declared.sets.AsciiSet.{AsciiSet}
 use Rattle.settings.specs.Sets.{passes}
 use Rattle.steps.specs.declared.numeral.FoundNumeral.{FoundNumeral}
-use Rattle.steps.specs.Units.{Ready, run_alike}
+use Rattle.steps.specs.Units.{run_alike}
 
 -- what accepted numerals have: zeros after each name, and what begins with no letter is none of them
 pub record Sayable (numerals : List ℕ) : Type 0 where
   pub rooms : Padded numerals
-  pub lettered : (wanted : List ℕ) → starts (is LETTER) wanted ≡ false → lookup numerals wanted ≡ Nowhere
-
--- what a part is read under: what its unit is, and numerals
-pub record CardReady (card : Card) (hall_index line_index : List ℕ) (stops : AsciiSet) : Type 0 where
-  pub ready : Ready card.settings stops card.hall hall_index card.line line_index
-  pub sayable : Sayable card.numerals
+  pub lettered : (wanted : List ℕ) → starts (is LETTER) wanted ≡ false → lookup numerals wanted ≡ None
 
 -- ---- the step, with the row in place of what it multiplies by
 
 abbrev row_and_place : ℕ → ℕ → FoundNumeral
 row_and_place i next = record { row = i; next = next }
 
-unfoldable pub numeral_here : Settings → List ℕ → ℕ → Found → Outcome FoundNumeral
-numeral_here s text place (Row i) =
+unfoldable pub numeral_here : Settings → List ℕ → ℕ → Option ℕ → Outcome FoundNumeral
+numeral_here s text place (Some i) =
     when sees (holds s.inner) text (numeral_end s text place)
     then (delimiters s.inner text (numeral_end s text place) >>= λ next. got (row_and_place i next))
     else refused (NoNumber place)
-numeral_here s text place Nowhere = refused (NoNumber place)
+numeral_here s text place None = refused (NoNumber place)
 
 unfoldable pub numeral_row : Settings → List ℕ → List ℕ → ℕ → Outcome FoundNumeral
 numeral_row s numerals text place = numeral_here s text place (lookup numerals (slice place (numeral_end s text place) text))
@@ -73,9 +65,9 @@ numeral_is card text place = go (lookup card.numerals (slice place end text))
     told i true (refused cause) = refl
     told i false run = refl
 
-    go : (f : Found) → numeral_found card text place f ≡ (numeral_here card.settings text place f >>= λ found. got (numeral_of card.numerals found))
-    go (Row i) = told i (sees (holds card.settings.inner) text end) (delimiters card.settings.inner text end)
-    go Nowhere = refl
+    go : (f : Option ℕ) → numeral_found card text place f ≡ (numeral_here card.settings text place f >>= λ found. got (numeral_of card.numerals found))
+    go (Some i) = told i (sees (holds card.settings.inner) text end) (delimiters card.settings.inner text end)
+    go None = refl
 
 module _ (s : Settings) (numerals text : List ℕ) (place : ℕ) where
   -- a row that is found is one of the numerals'
@@ -83,9 +75,9 @@ module _ (s : Settings) (numerals text : List ℕ) (place : ℕ) where
   unfolding numeral_row numeral_here
   numeral_within = go (lookup numerals (slice place (numeral_end s text place) text)) refl
     where
-      go : (f : Found) → lookup numerals (slice place (numeral_end s text place) text) ≡ f → All (λ found. found.row < rows numerals) (numeral_here s text place f)
-      go (Row i) e = all_if (λ _. all_bind (always _) (λ next _. all_got (lookup_found numerals _ i e).0)) (λ _. all_refused)
-      go Nowhere e = all_refused
+      go : (f : Option ℕ) → lookup numerals (slice place (numeral_end s text place) text) ≡ f → All (λ found. found.row < rows numerals) (numeral_here s text place f)
+      go (Some i) e = all_if (λ _. all_bind (always _) (λ next _. all_got (lookup_found numerals _ i e).0)) (λ _. all_refused)
+      go None e = all_refused
 
   -- ---- case by case
 
@@ -117,15 +109,15 @@ module _ (s : Settings) (numerals text : List ℕ) (place : ℕ) where
     unfolding numeral_row numeral_here when◌then◌else◌
     numeral_ends h = go (lookup numerals (slice place (numeral_end s text place) text))
       where
-        go : (f : Found) → refused (NoNumber place) ≡ numeral_here s text place f
-        go (Row k) = rw (end_is, sees_end (holds s.inner) text end h)
-        go Nowhere = refl
+        go : (f : Option ℕ) → refused (NoNumber place) ≡ numeral_here s text place f
+        go (Some k) = rw (end_is, sees_end (holds s.inner) text end h)
+        go None = refl
 
-    module _ {found : Found} (f : found ≡ lookup numerals (slice place end text)) where
+    module _ {found : Option ℕ} (f : found ≡ lookup numerals (slice place end text)) where
       looked : lookup numerals (slice place (numeral_end s text place) text) ≡ found
       looked = ap (λ n. lookup numerals (slice place n text)) end_is ∙ sym f
 
-      pub numeral_nowhere : found ≡ Nowhere → refused (NoNumber place) ≡ numeral_row s numerals text place
+      pub numeral_nowhere : found ≡ None → refused (NoNumber place) ≡ numeral_row s numerals text place
       unfolding numeral_row numeral_here
       numeral_nowhere n = rw (looked, n)
 
@@ -142,7 +134,7 @@ module _ (s : Settings) (numerals text : List ℕ) (place : ℕ) where
             held true e = refl
             held false e = absurd (false≢true (sym e))
 
-        module _ {k : ℕ} (r : found ≡ Row k) where
+        module _ {k : ℕ} (r : found ≡ Some k) where
           asked : numeral_row s numerals text place ≡ (delimiters inner text end >>= λ next. got (row_and_place k next))
           unfolding numeral_row numeral_here when◌then◌else◌
           asked = rw (looked, r, end_is, ← i, delimiter_behind)

@@ -1,5 +1,5 @@
 -- Laws of the unit step: the stretch, `ago`, and what the lookup finds. Assumes nothing.
-use Rattle.std.specs.Prelude.{◌≡◌, Bool, ◌&&◌, ◌||◌, List, [], ◌∷◌, ◌⊎◌, ℕ, suc, ◌+◌, ◌≤◌, ◌<◌, leb, length, get_or, take, drop}
+use Rattle.std.specs.Prelude.{◌≡◌, Bool, ◌&&◌, ◌||◌, List, [], ◌∷◌, ◌⊎◌, ℕ, suc, ◌+◌, ◌≤◌, ◌<◌, leb, length, get_or, take, drop, Option, Some, None}
 use Rattle.std.proofs.Math.Path.{refl, ap}
 use Rattle.std.proofs.Common.{sym, ◌∙◌, inl, inr, arith, le-leb, leb-true, leb-false, length-take, drop_of_length-le, get_or-drop}
 use Rattle.std.proofs.Math.Bool.{true, false, not}
@@ -10,11 +10,10 @@ use Rattle.rules.specs.declared.ByteSet.{ByteSet}
 use Rattle.rules.specs.declared.Settings.{Settings}
 use Rattle.rules.specs.declared.Multiplier.{Multiplier}
 use Rattle.rules.specs.declared.Unit as declared_unit
-use Rattle.rules.specs.declared.Found.TheVariants.{Nowhere}
 use Rattle.rules.specs.declared.Refusal.{Refusal}
 use Rattle.rules.specs.Common.{when◌then◌else◌, between, ascii, ends, sees, front, run}
 use Rattle.rules.specs.NumbersHandedBack.{Outcome, got, refused, ◌>>=◌}
-use Rattle.rules.specs.SettingsAndUnitTable.{settings_check, class, is, is_next_duration, holds, rows, row, kind, row_multiplier, product, in_range, lookup, line_first, stands, held_row, find_row}
+use Rattle.rules.specs.SettingsAndUnitTable.{class, is, is_next_duration, holds, rows, row, kind, row_multiplier, product, in_range, lookup, line_first, stands, held_row, find_row}
 use Rattle.rules.specs.ReadingOnePart.{says, delimiters, in_stretch, closes_unit, negated, ago_step}
 use Rattle.rules.proofs.Laws.Ahead.{says_within}
 use Rattle.rules.specs.Laws.Lists.{Bytes}
@@ -25,21 +24,16 @@ use Rattle.rows.specs.Named.{Padded}
 use Rattle.rows.specs.Powers.{Fitting}
 use Rattle.rows.specs.Laws.Rows.{row_fitting}
 use Rattle.rows.specs.Laws.Lookup.{found_holds}
-use Rattle.lookup.specs.Searching.{Beside}
-use Rattle.settings.specs.declared.sets.AsciiSet.{AsciiSet}
-use Rattle.settings.specs.Sets.{bytes_of, either, passes}
+use Rattle.settings.specs.Sets.{either, passes}
 use Rattle.settings.specs.Laws.Sets.{runs, either_holds, first_word}
-use Rattle.steps.specs.declared.unit.AgoRead.{AgoRead}
-use Rattle.steps.specs.declared.unit.AgoRead.TheVariants as AgoRead
+use Rattle.steps.specs.declared.unit.Ago.{Ago}
 use Rattle.steps.specs.declared.unit.UnitRow.{UnitRow}
-use Rattle.steps.specs.declared.unit.UnitRead.{UnitRead}
-use Rattle.steps.specs.declared.unit.UnitRead.TheVariants as UnitRead
 
 -- what an accepted table has: zeros after each row's name, kind times row in range, of each row, and none has an empty name
 pub record Readable (table : List ℕ) : Type 0 where
   pub rooms : Padded table
   pub products : (i : ℕ) → i < rows table → in_range (product (row table i)) ≡ true
-  pub named : lookup table [] ≡ Nowhere
+  pub named : lookup table [] ≡ None
 
 -- between two places that do not ascend nothing stands, and nothing has no name
 pub nothing_found : (hall line text : List ℕ) (place end : ℕ) → Readable hall × Readable line → end ≤ place → [] ≡ find_row hall line (slice place end text)
@@ -101,13 +95,6 @@ outside true false e = refl
 outside false true e = refl
 outside false false e = absurd (false≢true e)
 
--- what a part's unit is read under: accepted settings, their stop set, tables that can be read, and the indexes beside them
-pub record Ready (s : Settings) (stops : AsciiSet) (hall hall_index line line_index : List ℕ) : Type 0 where
-  pub accepted : settings_check s ≡ got tt
-  pub stopped : bytes_of stops ≡ stops_of s
-  pub units : Readable hall × Readable line
-  pub indexes : Beside hall hall_index × Beside line line_index
-
 -- the bytes that do not stop a name are those of the stretch
 pub stretch_ends : (s : Settings) (text : List ℕ) (place : ℕ) → Bytes text → run (passes (stops_of s) false) text place ≡ run (in_stretch s) text place
 unfolding passes
@@ -141,35 +128,33 @@ unfolding ascii
 ago_within text word h w = says_within (ascii "ago") text word h w
 
 -- the place before the delimiters
-abbrev pub back : ℕ → AgoRead
-back place = AgoRead.Got (record { negated = false; next = place })
+abbrev pub back : ℕ → Outcome Ago
+back place = got (record { negated = false; next = place })
 
-unfoldable pub ago_after : Settings → List ℕ → ℕ → Outcome ℕ → AgoRead
-ago_after s text place (got word) =
-    when says (ascii "ago") text word && closes_unit s text (word + 3) then AgoRead.Got (record { negated = true; next = word + 3 }) else back place
-ago_after s text place (refused cause) = AgoRead.Refused cause
+unfoldable pub ago_after : Settings → List ℕ → ℕ → ℕ → Outcome Ago
+ago_after s text place word =
+    when says (ascii "ago") text word && closes_unit s text (word + 3) then got (record { negated = true; next = word + 3 }) else back place
 
 -- what follows a unit's name, whatever the unit
-unfoldable pub ago_read : Settings → List ℕ → ℕ → AgoRead
+unfoldable pub ago_read : Settings → List ℕ → ℕ → Outcome Ago
 ago_read s text place =
-    when not (s.ago && sees (holds s.inner) text place) then back place else ago_after s text place (delimiters s.inner text place)
+    when not (s.ago && sees (holds s.inner) text place) then back place else (delimiters s.inner text place >>= ago_after s text place)
 
 -- a multiplier as it is, or negated
 abbrev pub negated_if : Bool → Multiplier → Multiplier
 negated_if negate m = when negate then negated m else m
 
-abbrev pub agoed : Multiplier → AgoRead → Outcome declared_unit.Unit
-agoed m (AgoRead.Got found) = got (record { multiplier = negated_if found.negated m; next = found.next })
-agoed m (AgoRead.Refused cause) = refused cause
+abbrev pub agoed : Multiplier → Ago → declared_unit.Unit
+agoed m found = record { multiplier = negated_if found.negated m; next = found.next }
 
 -- is document 01's step, of each
-pub ago_is : (s : Settings) (text : List ℕ) (place : ℕ) (m : Multiplier) → ago_step s text m place ≡ agoed m (ago_read s text place)
+pub ago_is : (s : Settings) (text : List ℕ) (place : ℕ) (m : Multiplier) → ago_step s text m place ≡ (ago_read s text place >>= λ found. got (agoed m found))
 unfolding ago_step ago_read ago_after when◌then◌else◌ ◌>>=◌
 ago_is s text place m = go (not (s.ago && sees (holds s.inner) text place)) (delimiters s.inner text place)
   where
     said : (b : Bool) (word : ℕ)
         → (when b then got (record { multiplier = negated m; next = word + 3 }) else got (record { multiplier = m; next = place }))
-        ≡ agoed m (when b then AgoRead.Got (record { negated = true; next = word + 3 }) else back place)
+        ≡ ((when b then got (record { negated = true; next = word + 3 }) else back place) >>= λ found. got (agoed m found))
     said true word = refl
     said false word = refl
 
@@ -182,7 +167,7 @@ ago_is s text place m = go (not (s.ago && sees (holds s.inner) text place)) (del
         when says (ascii "ago") text word && closes_unit s text (word + 3)
         then got (record { multiplier = negated m; next = word + 3 })
         else got (record { multiplier = m; next = place })))
-        ≡ agoed m (when b then back place else ago_after s text place run)
+        ≡ ((when b then back place else (run >>= ago_after s text place)) >>= λ found. got (agoed m found))
     go true run = refl
     go false (got word) = said (says (ascii "ago") text word && closes_unit s text (word + 3)) word
     go false (refused cause) = refl
@@ -203,22 +188,22 @@ module _ (s : Settings) {inner : ByteSet} (i : s.inner ≡ inner) (text : List �
   ago_none e = rw (a, inner_sees e)
 
   module _ (e : sees (holds inner) text place ≡ true) where
-    pub ago_refused : {cause : Refusal} → delimiters inner text place ≡ refused cause → AgoRead.Refused cause ≡ ago_read s text place
-    unfolding ago_read ago_after when◌then◌else◌
+    pub ago_refused : {cause : Refusal} → delimiters inner text place ≡ refused cause → refused cause ≡ ago_read s text place
+    unfolding ago_read when◌then◌else◌ ◌>>=◌
     ago_refused d = rw (a, inner_sees e, taken d)
 
     module _ {word : ℕ} (d : delimiters inner text place ≡ got word) where
       pub ago_other : says (ascii "ago") text word ≡ false → back place ≡ ago_read s text place
-      unfolding ago_read ago_after when◌then◌else◌
+      unfolding ago_read ago_after when◌then◌else◌ ◌>>=◌
       ago_other w = rw (a, inner_sees e, taken d, w)
 
       module _ (w : says (ascii "ago") text word ≡ true) where
         pub ago_open : closes_unit s text (word + 3) ≡ false → back place ≡ ago_read s text place
-        unfolding ago_read ago_after when◌then◌else◌ closes_unit
+        unfolding ago_read ago_after when◌then◌else◌ closes_unit ◌>>=◌
         ago_open c = rw (a, inner_sees e, taken d, w, c)
 
-        pub ago_there : closes_unit s text (word + 3) ≡ true → AgoRead.Got (record { negated = true; next = word + 3 }) ≡ ago_read s text place
-        unfolding ago_read ago_after when◌then◌else◌ closes_unit
+        pub ago_there : closes_unit s text (word + 3) ≡ true → got (record { negated = true; next = word + 3 }) ≡ ago_read s text place
+        unfolding ago_read ago_after when◌then◌else◌ closes_unit ◌>>=◌
         ago_there c = rw (a, inner_sees e, taken d, w, c)
 
 -- ---- what the lookup finds
@@ -227,24 +212,24 @@ module _ (s : Settings) {inner : ByteSet} (i : s.inner ≡ inner) (text : List �
 abbrev pub unit_row : List ℕ → UnitRow
 unit_row r = record { kind = kind r; own = row_multiplier r }
 
-unfoldable pub unit_read : List ℕ → UnitRead
-unit_read [] = UnitRead.Nowhere
-unit_read (size ∷ r) = UnitRead.Found (unit_row (size ∷ r))
+unfoldable pub unit_read : List ℕ → Option UnitRow
+unit_read [] = None
+unit_read (size ∷ r) = Some (unit_row (size ∷ r))
 
-pub read_nothing : (r : List ℕ) → length r ≡ 0 → UnitRead.Nowhere ≡ unit_read r
+pub read_nothing : (r : List ℕ) → length r ≡ 0 → None ≡ unit_read r
 unfolding unit_read
 read_nothing [] h = refl
 read_nothing (size ∷ r) h = absurd (omega arith)
 
-pub read_row : (r : List ℕ) → (length r ≡ 0 → ⊥) → UnitRead.Found (unit_row r) ≡ unit_read r
+pub read_row : (r : List ℕ) → (length r ≡ 0 → ⊥) → Some (unit_row r) ≡ unit_read r
 unfolding unit_read
 read_row [] h = absurd (h refl)
 read_row (size ∷ r) h = refl
 
 -- kind times row is in range
-abbrev pub Fits : UnitRead → Type 0
-Fits (UnitRead.Found unit) = Fitting unit.kind unit.own
-Fits UnitRead.Nowhere = Unit {0}
+abbrev pub Fits : Option UnitRow → Type 0
+Fits (Some unit) = Fitting unit.kind unit.own
+Fits None = Unit {0}
 
 -- of what is found in two tables that can be read
 pub found_fits : (hall line wanted : List ℕ) → Readable hall × Readable line → Fits (unit_read (find_row hall line wanted))

@@ -4,69 +4,64 @@ ghost use Rattle.rules.specs.NumbersHandedBack.{got};
 ghost use Rattle.rules.specs.SettingsAsWords.{settings_of};
 ghost use Rattle.rules.specs.SettingsAndUnitTable.{conjunctions_of, settings_check};
 ghost use Rattle.rules.specs.ReadingOnePart.{conjunction_size, after_conjunction, connection};
-ghost use Rattle.steps.specs.Outcomes.{next};
+ghost use Rattle.steps.specs.Connections.{some_size};
 
-use crate::Next;
 use crate::bytes::is_next_duration;
 use crate::delimiters::{is_delimiter, try_consume_delimiter};
-use crate::letters::next_is_letters;
+use crate::letters::next_is_conjunction;
 use rules::Refusal;
 use settings::fields::{conjunction_at, conjunctions};
-use settings::sets::outer_delimiters;
+use settings::sets::{holds, outer_delimiters};
 
-// How many letters the first listed conjunction that stands at the place has; none has 0.
-fn conjunction_size(settings: &[u64; 25], text: &[u8], place: usize) -> u8
+// How many letters the first listed conjunction that stands at the place has, if one does.
+fn conjunction_size(settings: &[u64; 25], text: &[u8], place: usize) -> Option<u8>
     requires { settings_check (settings_of settings.now) ≡ got tt }
-    ensures { result ≡ conjunction_size (conjunctions_of (settings_of settings.now)) text.now place }
+    ensures { result ≡ some_size (conjunction_size (conjunctions_of (settings_of settings.now)) text.now place) }
 {
-    let count = conjunctions(settings);
-    let mut i = 0;
-    while i < count {
+    for i in 0..conjunctions(settings) {
         let conjunction = conjunction_at(settings, i);
-        if next_is_letters(conjunction.size, conjunction.letters, text, place) {
-            return conjunction.size;
+        if next_is_conjunction(conjunction, text, place) {
+            return Some(conjunction.size);
         }
-        i += 1;
     }
-    0
+    None
 }
 
 // What follows a conjunction: delimiters, or at once the next part.
-fn after_conjunction(settings: &[u64; 25], text: &[u8], word: usize, place: usize) -> Next
+fn after_conjunction(
+    settings: &[u64; 25],
+    text: &[u8],
+    word: usize,
+    place: usize,
+) -> Result<usize, Refusal>
     requires { settings_check (settings_of settings.now) ≡ got tt }
-    ensures { next result ≡ after_conjunction (settings_of settings.now) text.now word place }
+    ensures { result ≡ after_conjunction (settings_of settings.now) text.now word place }
 {
     let outer = outer_delimiters(settings);
-    if text.len() <= place {
-        return Next::Refused(Refusal::ConjunctionEnds(word));
+    match text.get(place) {
+        None => Err(Refusal::ConjunctionEnds(word)),
+        Some(byte) if holds(outer, *byte) => try_consume_delimiter(outer, text, place),
+        Some(byte) if is_next_duration(*byte) => Ok(place),
+        Some(_) => Err(Refusal::ConjunctionGoesOn(place)),
     }
-    if is_delimiter(outer, text, place) {
-        return try_consume_delimiter(outer, text, place);
-    }
-    if is_next_duration(text[place]) {
-        return Next::At(place);
-    }
-    Next::Refused(Refusal::ConjunctionGoesOn(place))
 }
 
 // At an outer delimiter: the run, and a conjunction if one is there.
-pub fn try_consume_connection(settings: &[u64; 25], text: &[u8], place: usize) -> Next
+pub fn try_consume_connection(
+    settings: &[u64; 25],
+    text: &[u8],
+    place: usize,
+) -> Result<usize, Refusal>
     requires { settings_check (settings_of settings.now) ≡ got tt }
-    ensures { next result ≡ connection (settings_of settings.now) text.now place }
+    ensures { result ≡ connection (settings_of settings.now) text.now place }
 {
     let outer = outer_delimiters(settings);
     if !is_delimiter(outer, text, place) {
-        return Next::At(place);
+        return Ok(place);
     }
-    let run = try_consume_delimiter(outer, text, place);
-    match run {
-        Next::Refused(_) => run,
-        Next::At(word) => {
-            let size = conjunction_size(settings, text, word) as usize;
-            if size == 0 {
-                return Next::At(word);
-            }
-            after_conjunction(settings, text, word, word + size)
-        }
+    let word = try_consume_delimiter(outer, text, place)?;
+    match conjunction_size(settings, text, word) {
+        None => Ok(word),
+        Some(size) => after_conjunction(settings, text, word, word + size as usize),
     }
 }

@@ -7,9 +7,7 @@ ghost use Rattle.rules.specs.SettingsAndUnitTable.{holds, settings_check};
 ghost use Rattle.rules.specs.ReadingOnePart.{delimiters, gap};
 ghost use Rattle.settings.specs.Sets.{bytes_of};
 ghost use Rattle.settings.specs.Sets.{passes};
-ghost use Rattle.steps.specs.Outcomes.{next};
 
-use crate::Next;
 use rules::Refusal;
 use settings::sets::{AsciiSet, holds, inner_delimiters};
 
@@ -17,49 +15,50 @@ use settings::sets::{AsciiSet, holds, inner_delimiters};
 pub fn is_delimiter(set: AsciiSet, text: &[u8], place: usize) -> bool
     ensures { result ≡ sees (holds (bytes_of set)) text.now place }
 {
-    if text.len() <= place {
-        return false;
-    }
-    holds(set, text[place])
+    text.get(place).is_some_and(|byte| holds(set, *byte))
 }
 
 // The place after the bytes from here on that are all in the set or, with held false, all outside it.
+// A flag and no test that is passed in: inside and outside one set is all that is asked for, and so the clause is an equation.
 pub fn past(set: AsciiSet, held: bool, text: &[u8], place: usize) -> usize
     ensures { result ≡ run (passes (bytes_of set) held) text.now place }
 {
-    let mut next = place;
-    while next < text.len() {
+    for next in place..text.len() {
         if holds(set, text[next]) != held {
             return next;
         }
-        next += 1;
     }
-    next
+    text.len().max(place)
 }
 
 // The run of delimiters that begins at the place. One that ends the text is refused at its first byte.
-pub fn try_consume_delimiter(set: AsciiSet, text: &[u8], place: usize) -> Next
+pub fn try_consume_delimiter(set: AsciiSet, text: &[u8], place: usize) -> Result<usize, Refusal>
     requires { sees (holds (bytes_of set)) text.now place ≡ true }
-    ensures { next result ≡ delimiters (bytes_of set) text.now place }
+    ensures { result ≡ delimiters (bytes_of set) text.now place }
 {
     let end = past(set, true, text, place + 1);
     if text.len() <= end {
-        return Next::Refused(Refusal::DelimiterEnds(place));
+        return Err(Refusal::DelimiterEnds(place));
     }
-    Next::At(end)
+    Ok(end)
 }
 
 // Inner delimiters, if switched on.
-pub fn parse_number_delimiter(on: bool, settings: &[u64; 25], text: &[u8], place: usize) -> Next
+pub fn parse_number_delimiter(
+    on: bool,
+    settings: &[u64; 25],
+    text: &[u8],
+    place: usize,
+) -> Result<usize, Refusal>
     requires { settings_check (settings_of settings.now) ≡ got tt }
-    ensures { next result ≡ gap on (settings_of settings.now) text.now place }
+    ensures { result ≡ gap on (settings_of settings.now) text.now place }
 {
     if !on {
-        return Next::At(place);
+        return Ok(place);
     }
     let inner = inner_delimiters(settings);
     if !is_delimiter(inner, text, place) {
-        return Next::At(place);
+        return Ok(place);
     }
     try_consume_delimiter(inner, text, place)
 }

@@ -1,21 +1,16 @@
 // Step 4: the exponent.
 ghost use Rattle.std.specs.Prelude.{◌≡◌, drop};
+ghost use Rattle.rules.specs.NumbersHandedBack.{got};
 ghost use Rattle.rules.specs.SettingsAsWords.{settings_of};
 ghost use Rattle.rules.specs.Common.{sees};
 ghost use Rattle.rules.specs.ReadingOnePart.{same_letter, exponent_limit, exponent_passed, exponent_digits, exponent_number, exponent_step};
-ghost use Rattle.steps.specs.Outcomes.{scaled};
 
-use crate::bytes::{is_digit, same_letter};
+use crate::bytes::is_digit;
 use crate::sign::sign_at;
 use rules::{Exponent, Refusal, Scaled};
 use settings::fields::exponents;
 
-#[derive(Clone, Copy)]
-pub enum ScaledRead {
-    Got(Scaled),
-    Refused(Refusal),
-}
-
+// The largest power of a sign, and what a power beyond it is refused with, each as its definition has it.
 fn exponent_limit(negative: bool) -> u32
     ensures { result ≡ exponent_limit negative }
 {
@@ -32,66 +27,63 @@ fn exponent_passed(negative: bool, place: usize) -> Refusal
     }
 }
 
-fn exponent_at(negative: bool, power: u16, next: usize) -> ScaledRead
-    ensures { result ≡ ScaledRead.Got (record { exponent = record { negative = negative; power = power }; next = next }) }
+fn exponent_at(negative: bool, power: u16, next: usize) -> Result<Scaled, Refusal>
+    ensures { result ≡ got (record { exponent = record { negative = negative; power = power }; next = next }) }
 {
-    ScaledRead::Got(Scaled {
+    Ok(Scaled {
         exponent: Exponent { negative, power },
         next,
     })
 }
 
 // The first digit at which the power passes its limit decides, so the power stays small.
-fn exponent_digits(text: &[u8], negative: bool, place: usize) -> ScaledRead
-    ensures { scaled result ≡ exponent_digits negative (drop place text.now) 0 place }
+fn exponent_digits(text: &[u8], negative: bool, place: usize) -> Result<Scaled, Refusal>
+    ensures { result ≡ exponent_digits negative (drop place text.now) 0 place }
 {
     let limit = exponent_limit(negative);
     let mut power: u32 = 0;
-    let mut next = place;
-    while next < text.len() {
+    for next in place..text.len() {
         let byte = text[next];
         if !is_digit(byte) {
             return exponent_at(negative, power as u16, next);
         }
-        let more = power * 10 + (byte - b'0') as u32;
-        if limit < more {
-            return ScaledRead::Refused(exponent_passed(negative, next));
+        power = power * 10 + u32::from(byte - b'0');
+        if limit < power {
+            return Err(exponent_passed(negative, next));
         }
-        power = more;
-        next += 1;
     }
-    exponent_at(negative, power as u16, next)
+    exponent_at(negative, power as u16, text.len().max(place))
 }
 
-fn parse_exponent(text: &[u8], negative: bool, place: usize) -> ScaledRead
-    ensures { scaled result ≡ exponent_number text.now negative place }
+fn parse_exponent(text: &[u8], negative: bool, place: usize) -> Result<Scaled, Refusal>
+    ensures { result ≡ exponent_number text.now negative place }
 {
-    if text.len() <= place {
-        return ScaledRead::Refused(Refusal::ExponentEnds(place));
+    match text.get(place) {
+        None => Err(Refusal::ExponentEnds(place)),
+        Some(byte) if is_digit(*byte) => exponent_digits(text, negative, place),
+        Some(_) => Err(Refusal::ExponentByte(place)),
     }
-    if !is_digit(text[place]) {
-        return ScaledRead::Refused(Refusal::ExponentByte(place));
-    }
-    exponent_digits(text, negative, place)
 }
 
 fn is_exponent(text: &[u8], place: usize) -> bool
     ensures { result ≡ sees (same_letter 101) text.now place }
 {
-    if text.len() <= place {
-        return false;
-    }
-    same_letter(b'e', text[place])
+    text.get(place)
+        .is_some_and(|byte| *byte == b'e' || *byte == b'E')
 }
 
-pub fn parse_number_exponent(settings: &[u64; 25], text: &[u8], place: usize) -> ScaledRead
-    ensures { scaled result ≡ exponent_step (settings_of settings.now) text.now place }
+pub fn parse_number_exponent(
+    settings: &[u64; 25],
+    text: &[u8],
+    place: usize,
+) -> Result<Scaled, Refusal>
+    ensures { result ≡ exponent_step (settings_of settings.now) text.now place }
 {
     if !is_exponent(text, place) {
         return exponent_at(false, 0, place);
     }
     if !exponents(settings) {
-        return ScaledRead::Refused(Refusal::ExponentOff(place));
+        return Err(Refusal::ExponentOff(place));
     }
     let sign = sign_at(text, place + 1);
     parse_exponent(text, sign.negative, sign.next)

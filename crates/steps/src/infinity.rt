@@ -4,61 +4,60 @@ ghost use Rattle.rules.specs.NumbersHandedBack.{got};
 ghost use Rattle.rules.specs.SettingsAsWords.{settings_of};
 ghost use Rattle.rules.specs.SettingsAndUnitTable.{settings_check};
 ghost use Rattle.rules.specs.ReadingOnePart.{closes_infinity};
-ghost use Rattle.steps.specs.Outcomes.{next};
 ghost use Rattle.steps.specs.Infinity.{infinity_long, infinity_word};
 
-use crate::Next;
-use crate::delimiters::is_delimiter;
 use crate::letters::letters_matching;
 use rules::Refusal;
-use settings::sets::outer_delimiters;
+use settings::sets::{holds, outer_delimiters};
 
-// Letters of `inf`, and of `inity`.
+// Letters of `inf`, and those that may follow it.
 const INF: usize = 3;
 
-const INITY: usize = 5;
+const INITY: &[u8; 5] = b"inity";
 
 // What the word must be followed by: the text's end, or a connection.
 fn closes_infinity(settings: &[u64; 25], text: &[u8], place: usize) -> bool
     requires { settings_check (settings_of settings.now) ≡ got tt }
     ensures { result ≡ closes_infinity (settings_of settings.now) text.now place }
 {
-    if text.len() <= place {
-        return true;
-    }
-    is_delimiter(outer_delimiters(settings), text, place)
+    let outer = outer_delimiters(settings);
+    text.get(place).is_none_or(|byte| holds(outer, *byte))
 }
 
 // The place after `infinity`, of which `inf` has been read.
-fn parse_inity(settings: &[u64; 25], text: &[u8], inf: usize) -> Next
+fn parse_inity(settings: &[u64; 25], text: &[u8], inf: usize) -> Result<usize, Refusal>
     requires settings_value { settings_check (settings_of settings.now) ≡ got tt }
     requires inf_in_bounds { inf + 3 ≤ length text.now }
-    ensures { next result ≡ infinity_long (settings_of settings.now) text.now inf }
+    ensures { result ≡ infinity_long (settings_of settings.now) text.now inf }
 {
     let start = inf + INF;
-    let letters = letters_matching(b"inity", text, start);
+    let letters = letters_matching(INITY, text, start);
     let end = start + letters;
-    if letters < INITY {
+    if letters < INITY.len() {
         if text.len() <= end {
-            return Next::Refused(Refusal::InfinityEnds(inf));
+            return Err(Refusal::InfinityEnds(inf));
         }
-        return Next::Refused(Refusal::InfinityByte(end));
+        return Err(Refusal::InfinityByte(end));
     }
     if closes_infinity(settings, text, end) {
-        return Next::At(end);
+        return Ok(end);
     }
-    Next::Refused(Refusal::InfinityGoesOn(end))
+    Err(Refusal::InfinityGoesOn(end))
 }
 
 // The place after `inf` or `infinity`.
-pub fn parse_infinity_remainder(settings: &[u64; 25], text: &[u8], inf: usize) -> Next
+pub fn parse_infinity_remainder(
+    settings: &[u64; 25],
+    text: &[u8],
+    inf: usize,
+) -> Result<usize, Refusal>
     requires settings_value { settings_check (settings_of settings.now) ≡ got tt }
     requires inf_in_bounds { inf + 3 ≤ length text.now }
-    ensures { next result ≡ infinity_word (settings_of settings.now) text.now inf }
+    ensures { result ≡ infinity_word (settings_of settings.now) text.now inf }
 {
     let end = inf + INF;
     if closes_infinity(settings, text, end) {
-        return Next::At(end);
+        return Ok(end);
     }
     parse_inity(settings, text, inf)
 }

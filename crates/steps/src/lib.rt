@@ -11,10 +11,3 @@ pub mod number;
 pub mod numeral;
 pub mod sign;
 pub mod unit;
-
-// Where a step ends, or why it refuses.
-#[derive(Clone, Copy)]
-pub enum Next {
-    At(usize),
-    Refused(rules::Refusal),
-}

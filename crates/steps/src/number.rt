@@ -6,10 +6,9 @@ ghost use Rattle.rules.specs.Common.{sees};
 ghost use Rattle.rules.specs.SettingsAndUnitTable.{POINT, is};
 ghost use Rattle.rules.specs.ReadingOnePart.{fraction_step, number_step};
 ghost use Rattle.value.specs.Numbers.{summed};
-ghost use Rattle.steps.specs.Outcomes.{number};
 ghost use Rattle.steps.specs.Sums.{sums};
 
-use rules::{Fract, Number, Refusal, Whole};
+use rules::{Number, Refusal, Span};
 use settings::fields::fractions;
 use value::digits::{parse_digits_strip_zeros, sum_digits};
 
@@ -20,19 +19,10 @@ pub struct SummedNumber {
     pub number: u64,
 }
 
-#[derive(Clone, Copy)]
-pub enum NumberRead {
-    Got(SummedNumber),
-    Refused(Refusal),
-}
-
 fn is_point(text: &[u8], place: usize) -> bool
     ensures { result ≡ sees (is POINT) text.now place }
 {
-    if text.len() <= place {
-        return false;
-    }
-    text[place] == b'.'
+    text.get(place) == Some(&b'.')
 }
 
 // A point may have no digits after it where there are some before it.
@@ -40,18 +30,18 @@ fn parse_number_fraction(
     settings: &[u64; 25],
     text: &[u8],
     any_whole: bool,
-    whole: Whole,
+    whole: Span,
     so_far: u64,
     place: usize,
-) -> NumberRead
+) -> Result<SummedNumber, Refusal>
     requires { so_far ≡ summed 0 (slice whole.start whole.end text.now) }
-    ensures { number result ≡ sums text.now (fraction_step (settings_of settings.now) text.now any_whole whole place) }
+    ensures { result ≡ sums text.now (fraction_step (settings_of settings.now) text.now any_whole whole place) }
 {
     if !is_point(text, place) {
-        return NumberRead::Got(SummedNumber {
+        return Ok(SummedNumber {
             typed: Number {
                 whole,
-                fract: Fract {
+                fract: Span {
                     start: place,
                     end: place,
                 },
@@ -61,20 +51,18 @@ fn parse_number_fraction(
         });
     }
     if !fractions(settings) {
-        return NumberRead::Refused(Refusal::FractionOff(place));
+        return Err(Refusal::FractionOff(place));
     }
     let after = place + 1;
     let digits = sum_digits(so_far, text, after);
     let next = digits.end;
-    if next == after {
-        if !any_whole {
-            return NumberRead::Refused(Refusal::FractionEmpty(place));
-        }
+    if next == after && !any_whole {
+        return Err(Refusal::FractionEmpty(place));
     }
-    NumberRead::Got(SummedNumber {
+    Ok(SummedNumber {
         typed: Number {
             whole,
-            fract: Fract {
+            fract: Span {
                 start: after,
                 end: next,
             },
@@ -84,8 +72,12 @@ fn parse_number_fraction(
     })
 }
 
-pub fn parse_number(settings: &[u64; 25], text: &[u8], place: usize) -> NumberRead
-    ensures { number result ≡ sums text.now (number_step (settings_of settings.now) text.now place) }
+pub fn parse_number(
+    settings: &[u64; 25],
+    text: &[u8],
+    place: usize,
+) -> Result<SummedNumber, Refusal>
+    ensures { result ≡ sums text.now (number_step (settings_of settings.now) text.now place) }
 {
     let digits = parse_digits_strip_zeros(text, place);
     let whole = digits.whole;

@@ -8,20 +8,18 @@ ghost use Rattle.rules.specs.SettingsAsWords.{settings_of};
 ghost use Rattle.rules.specs.SettingsAndUnitTable.{settings_check, low_first, find_row};
 ghost use Rattle.rules.specs.ReadingOnePart.{in_stretch, closes_unit};
 ghost use Rattle.settings.specs.Sets.{bytes_of};
-ghost use Rattle.lookup.specs.Searching.{Beside};
 ghost use Rattle.steps.specs.Stretches.{Scanned};
 ghost use Rattle.steps.specs.Units.{Readable, stops_of, ago_read, unit_read};
 
-use crate::Next;
 use crate::bytes::is_next_duration;
 use crate::delimiters::{is_delimiter, past, try_consume_delimiter};
 use crate::letters::next_is_ignore_ascii_case;
-use lookup::both_tables::find_row;
+use lookup::both_tables::UnitTables;
 use rows::fields::{KIND_AT, row_multiplier};
 use rules::{Multiplier, Refusal};
 use settings::fields::ago;
 use settings::sets::{AsciiSet, either, holds, inner_delimiters, outer_delimiters};
-use words::{BYTE_BITS, WORD_BITS, with_byte};
+use words::{BYTE_BITS, WORD, with_byte};
 
 // What follows a unit's name: where the unit ends, and whether `ago` negates it.
 #[derive(Clone, Copy)]
@@ -30,24 +28,11 @@ pub struct Ago {
     pub next: usize,
 }
 
-#[derive(Clone, Copy)]
-pub enum AgoRead {
-    Got(Ago),
-    Refused(Refusal),
-}
-
 // What a part takes of the row that its unit's name finds: the kind, and what the row itself multiplies by.
 #[derive(Clone, Copy)]
 pub struct UnitRow {
     pub kind: u8,
     pub own: Multiplier,
-}
-
-// An enum cannot hold the row, which is a part of a lent table: it holds what is taken of it.
-#[derive(Clone, Copy)]
-pub enum UnitRead {
-    Found(UnitRow),
-    Nowhere,
 }
 
 // A unit's name in a text, which begins at a known place: where it ends, and its first word.
@@ -93,7 +78,7 @@ fn closes_unit(settings: &[u64; 25], text: &[u8], place: usize) -> bool
 }
 
 // With ago on, delimiters and `ago` after a unit negate it; otherwise the place goes back to before the delimiters.
-pub fn parse_ago(settings: &[u64; 25], text: &[u8], place: usize) -> AgoRead
+pub fn parse_ago(settings: &[u64; 25], text: &[u8], place: usize) -> Result<Ago, Refusal>
     requires { settings_check (settings_of settings.now) ≡ got tt }
     ensures { result ≡ ago_read (settings_of settings.now) text.now place }
 {
@@ -102,28 +87,24 @@ pub fn parse_ago(settings: &[u64; 25], text: &[u8], place: usize) -> AgoRead
         next: place,
     };
     if !ago(settings) {
-        return AgoRead::Got(back);
+        return Ok(back);
     }
     let inner = inner_delimiters(settings);
     if !is_delimiter(inner, text, place) {
-        return AgoRead::Got(back);
+        return Ok(back);
     }
-    match try_consume_delimiter(inner, text, place) {
-        Next::Refused(cause) => AgoRead::Refused(cause),
-        Next::At(word) => {
-            if !next_is_ignore_ascii_case(b"ago", text, word) {
-                return AgoRead::Got(back);
-            }
-            let end = word + AGO;
-            if !closes_unit(settings, text, end) {
-                return AgoRead::Got(back);
-            }
-            AgoRead::Got(Ago {
-                negated: true,
-                next: end,
-            })
-        }
+    let word = try_consume_delimiter(inner, text, place)?;
+    if !next_is_ignore_ascii_case(b"ago", text, word) {
+        return Ok(back);
     }
+    let end = word + AGO;
+    if !closes_unit(settings, text, end) {
+        return Ok(back);
+    }
+    Ok(Ago {
+        negated: true,
+        next: end,
+    })
 }
 
 // Where a unit's name ends, and its first eight bytes as a number, or as many as it has: they go into a word while they are scanned.
@@ -131,77 +112,53 @@ pub fn unit_stretch(stops: AsciiSet, text: &[u8], place: usize) -> Stretch
     ensures end_value { (s : Settings) → bytes_of stops ≡ stops_of s → result.end ≡ run (in_stretch s) text.now place }
     ensures first_value { result.first ≡ low_first (take 8 (slice place result.end text.now)) }
 {
-    let mut first: u64 = 0;
-    let mut bits: u64 = 0;
-    let mut next = place;
-    while bits < WORD_BITS {
+    let mut first = 0;
+    for scanned in 0..WORD {
+        let next = place + scanned;
         if text.len() <= next {
             return Stretch { end: next, first };
         }
         if holds(stops, text[next]) {
             return Stretch { end: next, first };
         }
-        first = with_byte(first, bits, text[next]);
-        bits += BYTE_BITS;
-        next += 1;
+        first = with_byte(first, BYTE_BITS * scanned as u64, text[next]);
     }
     Stretch {
-        end: past(stops, false, text, next),
+        end: past(stops, false, text, place + WORD),
         first,
     }
 }
 
 // The row that has the stretch as its name. A number often has no unit, and then no row is asked.
-fn find_unit<'a>(
-    hall: &'a [u8],
-    hall_index: &[u8],
-    line: &'a [u8],
-    line_index: &[u8],
-    text: &[u8],
-    place: usize,
-    stretch: Stretch,
-) -> &'a [u8]
-    requires readable { Readable hall.now × Readable line.now }
-    requires beside { Beside hall.now hall_index.now × Beside line.now line_index.now }
+fn find_unit<'a>(units: &UnitTables<'a>, text: &[u8], place: usize, stretch: Stretch) -> &'a [u8]
+    requires readable { Readable units.now.hall.now × Readable units.now.line.now }
     requires scanned { Scanned text.now place stretch }
-    ensures { result.now ≡ find_row hall.now line.now (slice place stretch.end text.now) }
+    ensures { result.now ≡ find_row units.now.hall.now units.now.line.now (slice place stretch.end text.now) }
 {
     let end = stretch.end;
     if end <= place {
-        return &hall[..0];
+        return &units.hall[..0];
     }
     let mut compared = 0;
-    find_row(
-        hall,
-        hall_index,
-        line,
-        line_index,
-        &text[place..end],
-        stretch.first,
-        &mut compared,
-    )
+    units.find_row(&text[place..end], stretch.first, &mut compared)
 }
 
 // The stretch looked up. For a typed number and for a spoken one, so that what is read of most parts is one piece of code.
-pub fn parse_time_unit<'a>(
-    hall: &'a [u8],
-    hall_index: &[u8],
-    line: &'a [u8],
-    line_index: &[u8],
+pub fn parse_time_unit(
+    units: &UnitTables,
     text: &[u8],
     place: usize,
     stretch: Stretch,
-) -> UnitRead
-    requires readable { Readable hall.now × Readable line.now }
-    requires beside { Beside hall.now hall_index.now × Beside line.now line_index.now }
+) -> Option<UnitRow>
+    requires readable { Readable units.now.hall.now × Readable units.now.line.now }
     requires scanned { Scanned text.now place stretch }
-    ensures { result ≡ unit_read (find_row hall.now line.now (slice place stretch.end text.now)) }
+    ensures { result ≡ unit_read (find_row units.now.hall.now units.now.line.now (slice place stretch.end text.now)) }
 {
-    let row = find_unit(hall, hall_index, line, line_index, text, place, stretch);
-    if row.len() == 0 {
-        return UnitRead::Nowhere;
+    let row = find_unit(units, text, place, stretch);
+    if row.is_empty() {
+        return None;
     }
-    UnitRead::Found(UnitRow {
+    Some(UnitRow {
         kind: row[KIND_AT],
         own: row_multiplier(row),
     })

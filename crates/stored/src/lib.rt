@@ -25,19 +25,18 @@ fn hexadecimal(d: u8) -> u8
     if d < 10 { 48 + d } else { 87 + d }
 }
 
-// Two digits for each byte of the row, from the line's start on.
+// Two digits for each byte of the row, from the line's start on. They are written by index: of what is written through parts that are lent a proof knows
+// the length alone.
 fn put_digits(row: &[u8], line: &mut [u8])
     requires { (length row.now ≡ row_size) × (digits_size ≤ length line.old) }
     ensures { line.new ≡ two_digits row.now ++ drop digits_size line.old }
 {
-    let mut i = 0;
-    while i < ROW_SIZE {
+    for i in 0..ROW_SIZE {
         let b = row[i];
         let high = 2 * i;
         let low = high + 1;
         line[high] = hexadecimal(b / 16);
         line[low] = hexadecimal(b % 16);
-        i += 1;
     }
 }
 
@@ -57,7 +56,7 @@ pub fn store_row(row: &[u8], line: &mut [u8]) -> bool
     true
 }
 
-// What a hexadecimal digit stands for, and 16 for a byte that is none.
+// What a hexadecimal digit stands for, and 16 for a byte that is none: a number, and no option, as the definition has it.
 pub fn digit_value(b: u8) -> u8
     ensures { result ≡ digit_value b }
 {
@@ -71,14 +70,7 @@ pub fn digit_value(b: u8) -> u8
 fn spells(part: &[u8]) -> bool
     ensures { result ≡ all spells part.now }
 {
-    let mut i = 0;
-    while i < part.len() {
-        if digit_value(part[i]) > 15 {
-            return false;
-        }
-        i += 1;
-    }
-    true
+    part.iter().all(|digit| digit_value(*digit) < 16)
 }
 
 // The bytes of a line, by the room that its rows have for a name.
@@ -105,18 +97,16 @@ pub fn line_accepted(line: &[u8], room: usize) -> bool
     spells(&line[..digits])
 }
 
-// A byte for each two digits of the line, from the row's start on.
+// A byte for each two digits of the line, from the row's start on; by index too.
 fn put_bytes(line: &[u8], row: &mut [u8])
     requires digits_size_in_bounds { (digits_size ≤ length line.now) × (row_size ≤ length row.old) }
     requires line_value { all spells (take digits_size line.now) ≡ true }
     ensures { row.new ≡ paired (take digits_size line.now) ++ drop row_size row.old }
 {
-    let mut i = 0;
-    while i < ROW_SIZE {
+    for i in 0..ROW_SIZE {
         let high = 2 * i;
         let low = high + 1;
         row[i] = digit_value(line[high]) * 16 + digit_value(line[low]);
-        i += 1;
     }
 }
 

@@ -14,11 +14,10 @@ use answers::{done, refusal};
 use card::table::card_check;
 use index::LookedUp;
 use lengths::duration::zero;
-use lookup::both_tables::{NEITHER, looked_up};
+use lookup::both_tables::{NEITHER, UnitTables};
 use lookup::names::first_word;
 use rows::fields::ROW_SIZE;
 use rules::{Answer, Refusal};
-use settings::Checked;
 use sorted::allowed::{may_make, may_replace};
 use sorted::checked::{indexed_check, table_and_index_check};
 use sorted::made::make;
@@ -37,8 +36,8 @@ pub fn make_index(settings: &[u64; 25], table: &[u8], index: &mut [u8]) -> Answe
     ensures index_after { index.new ≡ made_index (settings_of settings.now) table.now index.old }
 {
     match may_make(settings, table, index) {
-        Checked::Refused(cause) => refusal(cause),
-        Checked::Accepted => {
+        Err(cause) => refusal(cause),
+        Ok(()) => {
             make(table, index);
             rows_done(table)
         }
@@ -50,8 +49,8 @@ pub fn check_index(settings: &[u64; 25], table: &[u8], index: &[u8]) -> Answer
     ensures { result ≡ check_answer (settings_of settings.now) table.now index.now }
 {
     match table_and_index_check(settings, table, index) {
-        Checked::Refused(cause) => refusal(cause),
-        Checked::Accepted => rows_done(table),
+        Err(cause) => refusal(cause),
+        Ok(()) => rows_done(table),
     }
 }
 
@@ -68,8 +67,8 @@ pub fn replace_row(
     ensures index_after { index.new ≡ replaced_index (settings_of settings.now) table.old index.old row new.now }
 {
     match may_replace(settings, table, index, row, new) {
-        Checked::Refused(cause) => refusal(cause),
-        Checked::Accepted => {
+        Err(cause) => refusal(cause),
+        Ok(()) => {
             put_in(table, index, row, new);
             rows_done(table)
         }
@@ -96,8 +95,16 @@ pub fn look_up(settings: &[u64; 25], hall: &[u8], line: &[u8], name: &[u8]) -> L
 {
     let none = &name[..0];
     match card_check(settings, hall, line, none) {
-        Checked::Refused(cause) => not_looked_up(cause),
-        Checked::Accepted => looked_up(hall, none, line, none, name, first_word(name)),
+        Err(cause) => not_looked_up(cause),
+        Ok(()) => {
+            let row_by_row = UnitTables {
+                hall,
+                hall_index: none,
+                line,
+                line_index: none,
+            };
+            row_by_row.looked_up(name, first_word(name))
+        }
     }
 }
 
@@ -114,7 +121,15 @@ pub fn look_up_indexed(
 {
     let none = &name[..0];
     match indexed_check(settings, hall, hall_index, line, line_index, none) {
-        Checked::Refused(cause) => not_looked_up(cause),
-        Checked::Accepted => looked_up(hall, hall_index, line, line_index, name, first_word(name)),
+        Err(cause) => not_looked_up(cause),
+        Ok(()) => {
+            let indexed = UnitTables {
+                hall,
+                hall_index,
+                line,
+                line_index,
+            };
+            indexed.looked_up(name, first_word(name))
+        }
     }
 }

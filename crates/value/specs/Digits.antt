@@ -1,15 +1,16 @@
 -- Laws of document 01's digits: the bytes of a run, the number that digits spell, and the parts of a span.
 -- Assumes nothing.
-use Rattle.std.specs.Prelude.{◌≡◌, refl, Bool, true, false, ◌&&◌, ◌||◌, List, [], ◌∷◌, ◌++◌, ℕ, zero, suc, ◌+◌, ◌*◌, ◌-◌, ◌^◌, ◌≤◌, ◌<◌, min, leb, ltb, eqb, length, get_or, take, drop}
-use Rattle.std.proofs.Common.{ap, ◌∙◌, add_assoc, add-zero, zero-add, suc-add, add-suc, mul_assoc, zero-mul, add-mul, le_refl, le_trans, lt_of_lt_of_le, add-one, arith, le-leb, leb-true, leb-false, lt-ltb, le-ltb, ltb-true, ltb-false, eqb-true, lit<, length-take, length-drop, take-append-drop, drop_of_length-le, pow-add, length-take-le, drop-drop}
+use Rattle.std.specs.Prelude.{◌≡◌, refl, Bool, true, false, ◌&&◌, ◌||◌, List, [], ◌∷◌, ◌++◌, ℕ, zero, suc, ◌+◌, ◌*◌, ◌-◌, ◌^◌, ◌≤◌, ◌<◌, ◌⊎◌, min, max, leb, ltb, eqb, length, get_or, take, drop}
+use Rattle.std.proofs.Common.{inl, inr, ap, ◌∙◌, add_assoc, add-zero, zero-add, suc-add, add-suc, mul_assoc, zero-mul, add-mul, le_refl, le_trans, lt_of_lt_of_le, add-one, arith, le-leb, leb-true, leb-false, lt-ltb, le-ltb, ltb-true, ltb-false, eqb-true, lit<, length-take, length-drop, take-append-drop, drop_of_length-le, drop-cons, pow-add, length-take-le, drop-drop}
 use Rattle.std.proofs.Math.Path.{sym}
-use Rattle.std.proofs.Math.Nat.{pow-succ', one-le-pow, pow-le-pow_right, min-eq_left, zero-min, min-zero, suc-min-suc, sub-zero, zero-sub, suc-sub-suc}
+use Rattle.std.proofs.Math.Nat.{pow-succ', one-le-pow, pow-le-pow_right, min-eq_left, sub-zero, zero-sub, suc-sub-suc}
 use Rattle.std.proofs.lemmas.Bool.{eqb-false}
 use Rattle.std.proofs.Math.Seq.{slice, slice_empty, slice-cons, take-nil, drop-nil}
 use Rattle.rules.specs.Common.{when◌then◌else◌, between, all, front, run}
 use Rattle.rules.specs.SettingsAndUnitTable.{DIGIT, class, is}
 use Rattle.rules.specs.Evaluation.{spelled}
 use Rattle.rules.proofs.Laws.Choices.{and_left, and_right, and_both, if_either, all_first, all_others}
+use Rattle.rules.proofs.Laws.Tests.{between_below, between_above}
 use Rattle.rules.proofs.Laws.Texts.{sees_here, sees_end, run_more, run_stop, run_from, run_within, slice_shift}
 use Rattle.value.specs.Numbers.{summed, Counts, typed, spoken, counted}
 
@@ -36,6 +37,22 @@ run_off test text place h e = run_stop test text place (sees_here test text plac
 pub run_end : (test : ℕ → Bool) (text : List ℕ) (place : ℕ) → length text ≤ place → run test text place ≡ place
 run_end test text place h = run_stop test text place (sees_end test text place h)
 
+-- a run that has gone on to the text's end ends there, or where it began, if that is beyond
+pub run_over : (test : ℕ → Bool) (text : List ℕ) (place next : ℕ) → length text ≤ next → (place ≤ length text → next ≤ length text) → run test text next ≡ run test text place → {end : ℕ} → end ≡ max place (length text) → end ≡ run test text place
+run_over test text place next h k e {end} f = go (leb (length text) place) refl
+  where
+    go : (c : Bool) → leb (length text) place ≡ c → end ≡ run test text place
+    go true l = let here : end ≡ place = omega (arith, leb-true (length text) place l) in here ∙ sym (run_end test text place (leb-true (length text) place l))
+    go false l =
+        let inside : place < length text = leb-false (length text) place l in
+        let here : end ≡ next = omega (arith, k (omega arith)) in
+        here ∙ sym (run_end test text next h) ∙ e
+
+-- a byte that is below low, or above high
+pub between_off : (low high b : ℕ) → (b < low) ⊎ ((low ≤ b) × (high < b)) → between low high b ≡ false
+between_off low high b (inl h) = between_below low high b h
+between_off low high b (inr h) = between_above low high b h.1
+
 -- so many bytes that pass go on with it at once
 front_many : (test : ℕ → Bool) (n : ℕ) (rest : List ℕ) → n ≤ length rest → all test (take n rest) ≡ true → front test rest ≡ n + front test (drop n rest)
 unfolding front all when◌then◌else◌
@@ -50,10 +67,6 @@ unfolding run
 run_many test text place n h e =
     let long : n ≤ length (drop place text) = rw (length-drop place text) (omega arith) in
     rw (front_many test n (drop place text) long e, drop-drop n place text) (omega arith)
-
--- the last byte that goes on with a run of zeros, and of digits
-unfoldable pub last : Bool → ℕ
-last zeros = when zeros then 48 else 57
 
 -- what passes a test that is as strict stands in as long a run
 front_same : (test other : ℕ → Bool) → ((b : ℕ) → test b ≡ other b) → (rest : List ℕ) → front test rest ≡ front other rest
@@ -116,15 +129,6 @@ run_digits text place = run_same (between 48 57) (is DIGIT) digit_between text p
 pub run_zeros : (text : List ℕ) (place : ℕ) → run (between 48 48) text place ≡ run (eqb 48) text place
 run_zeros text place = run_same (between 48 48) (eqb 48) (between_itself 48) text place
 
--- what a run that was passed by eights comes to, of digits and of zeros
-pub digits_end : (text : List ℕ) (place next end : ℕ) → run (between 48 (last false)) text next ≡ run (between 48 (last false)) text place → end ≡ run (between 48 57) text next → end ≡ run (is DIGIT) text place
-unfolding last when◌then◌else◌
-digits_end text place next end e h = h ∙ e ∙ run_digits text place
-
-pub zeros_end : (text : List ℕ) (place next end : ℕ) → run (between 48 (last true)) text next ≡ run (between 48 (last true)) text place → end ≡ run (between 48 48) text next → end ≡ run (eqb 48) text place
-unfolding last when◌then◌else◌
-zeros_end text place next end e h = h ∙ e ∙ run_zeros text place
-
 zero_digit : (b : ℕ) → eqb 48 b ≡ true → is DIGIT b ≡ true
 unfolding is class between when◌then◌else◌
 zero_digit b e = rw (← (eqb-true 48 b e))
@@ -182,14 +186,14 @@ drop_both (suc k) (x ∷ xs) ys = rw (suc-sub-suc k (length xs)) (drop_both k xs
 
 -- ---- the parts of a span before and after so many bytes of it
 
-slice_none : (start end : ℕ) (text : List ℕ) → end ≤ start → slice start end text ≡ []
+pub slice_none : (start end : ℕ) (text : List ℕ) → end ≤ start → slice start end text ≡ []
 slice_none start end text h = drop_of_length-le (take end text) {i = start} (omega (arith, length-take end text))
 
 -- a span by its start and its size
 sized : (start size : ℕ) (text : List ℕ) → take size (drop start text) ≡ slice start (start + size) text
 sized start size text = slice_shift text start 0 size ∙ ap (λ n. slice n (start + size) text) (add-zero start)
 
-slice_sized : (start end : ℕ) (text : List ℕ) → slice start end text ≡ take (end - start) (drop start text)
+pub slice_sized : (start end : ℕ) (text : List ℕ) → slice start end text ≡ take (end - start) (drop start text)
 slice_sized start end text = go (leb start end) refl
   where
     go : (c : Bool) → leb start end ≡ c → slice start end text ≡ take (end - start) (drop start text)
@@ -198,17 +202,8 @@ slice_sized start end text = go (leb start end) refl
         let none : end - start ≡ 0 = omega (arith, leb-false start end e) in
         slice_none start end text (omega (arith, leb-false start end e)) ∙ sym (ap (λ n. take n (drop start text)) none)
 
-take_min : (m n : ℕ) (xs : List ℕ) → take m (take n xs) ≡ take (min m n) xs
-take_min zero n xs = rw (zero-min n)
-take_min (suc m) zero xs = rw (min-zero (suc m))
-take_min (suc m) (suc n) [] = rw (suc-min-suc m n)
-take_min (suc m) (suc n) (x ∷ xs) = rw (suc-min-suc m n, take_min m n xs)
-
--- they part at the cut, which is the span's end if it has fewer
+-- behind so many bytes of a span the others stand; the cut is the span's end if it has fewer
 module _ (start end count : ℕ) (text : List ℕ) {cut : ℕ} (at : cut ≡ start + min count (end - start)) where
-  pub slice_before : take count (slice start end text) ≡ slice start cut text
-  slice_before = rw (at, slice_sized start end text, take_min count (end - start) (drop start text)) (sized start (min count (end - start)) text)
-
   pub slice_after : drop count (slice start end text) ≡ slice cut end text
   slice_after = rw at (drop-drop count start (take end text) ∙ go (leb count (end - start)) refl)
     where
@@ -221,29 +216,8 @@ module _ (start end count : ℕ) (text : List ℕ) {cut : ℕ} (at : cut ≡ sta
           slice_none (start + count) end text (omega arith) ∙ sym (slice_none (start + min count (end - start)) end text (omega arith))
 
   -- what passes in the span passes in either part
-  pub passes_before : (test : ℕ → Bool) → all test (slice start end text) ≡ true → all test (slice start cut text) ≡ true
-  passes_before test e = rw (← slice_before) (all_take test count (slice start end text) e)
-
   pub passes_after : (test : ℕ → Bool) → all test (slice start end text) ≡ true → all test (slice cut end text) ≡ true
   passes_after test e = rw (← slice_after) (all_drop test count (slice start end text) e)
-
--- the cut is not beyond the span, and of the count those bytes are left that the span lacks
-module _ (start end count : ℕ) {cut : ℕ} (at : cut ≡ start + min count (end - start)) where
-  pub cut_within : start ≤ end → cut ≤ end
-  cut_within h = omega arith
-
-  -- also where the span ends before it starts, if a place from the start on lies before the cut
-  pub cut_inside : {place : ℕ} → start ≤ place → place < cut → cut ≤ end
-  cut_inside h k = omega arith
-
-  pub cut_after : start ≤ cut
-  cut_after = omega arith
-
-  pub cut_count : cut - start ≤ count
-  cut_count = omega arith
-
-  pub cut_left : count - (cut - start) ≡ count - (end - start)
-  cut_left = omega arith
 
 -- the bytes of a run pass
 front_passes : (test : ℕ → Bool) (rest : List ℕ) → all test (take (front test rest) rest) ≡ true
@@ -269,32 +243,33 @@ spelled_grows n (d ∷ ds) = le_trans (omega arith) (spelled_grows (n * 10 + (d 
 pub digit_small : (b : ℕ) → is DIGIT b ≡ true → b - 48 ≤ 9
 digit_small b e = omega (arith, digit_high b e)
 
--- what is left to read of a span: digits, which after the number so far spell the whole number
-pub record Unread (text : List ℕ) (end whole number place : ℕ) : Type 0 where
-  pub spells : spelled number (slice place end text) ≡ whole
-  pub digits : all (is DIGIT) (slice place end text) ≡ true
+-- what is left to read of some digits, from an index on: after the number so far it spells the whole number
+pub record Unread (ds : List ℕ) (so_far number index : ℕ) : Type 0 where
+  pub spells : spelled number (drop index ds) ≡ spelled so_far ds
+  pub digits : all (is DIGIT) (drop index ds) ≡ true
 
-pub unread_done : {text : List ℕ} {end whole number place : ℕ} → Unread text end whole number place → end ≤ place → number ≡ whole
-unfolding spelled
-unread_done {text} {end} {whole} {number} {place} u h = (rw (drop_of_length-le (take end text) {i = place} (omega (arith, length-take end text))) at u.spells)
+pub unread_all : (ds : List ℕ) (so_far : ℕ) → all (is DIGIT) ds ≡ true → Unread ds so_far so_far 0
+unread_all ds so_far e = record { spells = refl; digits = e }
 
--- one more digit: the number so far times ten, and the digit
-module _ {text : List ℕ} {end whole number place : ℕ} (u : Unread text end whole number place) (h : place < end) (k : end ≤ length text) where
-  pub unread_digit : is DIGIT (get_or text place 0) ≡ true
-  unread_digit = all_first (is DIGIT) (get_or text place 0) (slice (suc place) end text) (rw (slice-cons place end text 0 h k) at u.digits)
-
-  pub unread_more : Unread text end whole (number * 10 + (get_or text place 0 - 48)) (place + 1)
+module _ {ds : List ℕ} {so_far number index : ℕ} (u : Unread ds so_far number index) where
+  pub unread_done : length ds ≤ index → number ≡ spelled so_far ds
   unfolding spelled
-  unread_more = record {
-    spells = rw (add-one place) (rw (slice-cons place end text 0 h k) at u.spells);
-    digits = rw (add-one place) (all_others (is DIGIT) (get_or text place 0) (slice (suc place) end text) (rw (slice-cons place end text 0 h k) at u.digits));
-  }
+  unread_done h = rw (drop_of_length-le ds {i = index} h) at u.spells
 
-  pub unread_grows : number * 10 + (get_or text place 0 - 48) ≤ whole
-  unread_grows = rw (← unread_more.spells) (spelled_grows (number * 10 + (get_or text place 0 - 48)) (slice (place + 1) end text))
+  -- one more digit: the number so far times ten, and the digit
+  module _ (h : index < length ds) where
+    pub unread_digit : is DIGIT (get_or ds index 0) ≡ true
+    unread_digit = all_first (is DIGIT) (get_or ds index 0) (drop (suc index) ds) (rw (drop-cons ds index 0) at u.digits)
 
-  pub unread_passes : {byte bound : ℕ} → byte ≡ get_or text place 0 → bound ≤ number * 10 + (byte - 48) → bound ≤ whole
-  unread_passes e b = le_trans (rw e at b) unread_grows
+    pub unread_more : Unread ds so_far (number * 10 + (get_or ds index 0 - 48)) (index + 1)
+    unfolding spelled
+    unread_more = record {
+      spells = rw (add-one index) (rw (drop-cons ds index 0) at u.spells);
+      digits = rw (add-one index) (all_others (is DIGIT) (get_or ds index 0) (drop (suc index) ds) (rw (drop-cons ds index 0) at u.digits));
+    }
+
+    pub unread_grows : number * 10 + (get_or ds index 0 - 48) ≤ spelled so_far ds
+    unread_grows = rw (← unread_more.spells) (spelled_grows (number * 10 + (get_or ds index 0 - 48)) (drop (index + 1) ds))
 
 pub spelled_append : (n : ℕ) (ds es : List ℕ) → spelled n (ds ++ es) ≡ spelled (spelled n ds) es
 unfolding spelled
@@ -411,25 +386,31 @@ module _ {number : ℕ} {ds : List ℕ} (e : all (is DIGIT) ds ≡ true) where
 
 -- ---- a run summed up
 
--- what is left to sum of a run of digits, which after the number so far comes to the whole sum
-pub record Unsummed (text : List ℕ) (end whole number place : ℕ) : Type 0 where
-  pub ends : run (is DIGIT) text place ≡ end
-  pub sums : summed number (slice place end text) ≡ whole
+-- what is left to sum, from a place on, of a run of digits that began at the start: after the number so far it comes to the whole sum
+pub record Unsummed (text : List ℕ) (start so_far number place : ℕ) : Type 0 where
+  pub ends : run (is DIGIT) text place ≡ run (is DIGIT) text start
+  pub sums : summed number (slice place (run (is DIGIT) text start) text) ≡ summed so_far (slice start (run (is DIGIT) text start) text)
 
-module _ {text : List ℕ} {end whole number place : ℕ} (u : Unsummed text end whole number place) where
-  pub unsummed_done : run (is DIGIT) text place ≡ place → number ≡ whole
+-- a run from the start on, and its sum after those that spelled so_far
+abbrev pub SumsTo : List ℕ → ℕ → ℕ → ℕ → ℕ → Type 0
+SumsTo text start so_far end number = (end ≡ run (is DIGIT) text start) × (number ≡ summed so_far (slice start end text))
+
+module _ {text : List ℕ} {start so_far number place : ℕ} (u : Unsummed text start so_far number place) where
+  pub unsummed_done : run (is DIGIT) text place ≡ place → {end : ℕ} → end ≡ run (is DIGIT) text start → SumsTo text start so_far end number
   unfolding summed
-  unsummed_done e = rw (← u.ends, e, slice_empty place text) at u.sums
+  unsummed_done e f =
+      let here : run (is DIGIT) text start ≡ place = sym u.ends ∙ e in
+      (f, rw f (sym (ap (summed number) (slice_empty place text)) ∙ ap (λ n. summed number (slice place n text)) (sym here) ∙ u.sums))
 
-  pub unsummed_full : 10 ^ 18 ≤ number → number ≡ whole
-  unsummed_full h = sym (summed_full number _ h) ∙ u.sums
+  pub unsummed_full : 10 ^ 18 ≤ number → {end : ℕ} → end ≡ run (is DIGIT) text place → SumsTo text start so_far end number
+  unsummed_full h f = (f ∙ u.ends, rw (f ∙ u.ends) (sym (summed_full number _ h) ∙ u.sums))
 
-  pub unsummed_more : place < length text → is DIGIT (get_or text place 0) ≡ true → number < 10 ^ 18 → Unsummed text end whole (number * 10 + (get_or text place 0 - 48)) (place + 1)
+  pub unsummed_more : place < length text → is DIGIT (get_or text place 0) ≡ true → number < 10 ^ 18 → Unsummed text start so_far (number * 10 + (get_or text place 0 - 48)) (place + 1)
   unsummed_more h d sure =
       let on = sym (run_on (is DIGIT) text place h d) ∙ u.ends in
-      let inside : place < end = omega (arith, on, run_from (is DIGIT) text (place + 1)) in
-      let within : end ≤ length text = rw (← u.ends) (run_within (is DIGIT) text place (omega arith)) in
+      let inside : place < run (is DIGIT) text start = omega (arith, on, run_from (is DIGIT) text (place + 1)) in
+      let within : run (is DIGIT) text start ≤ length text = rw (← u.ends) (run_within (is DIGIT) text place (omega arith)) in
       record {
         ends = on;
-        sums = rw (add-one place) (sym (summed_next number (get_or text place 0) (slice (suc place) end text) sure) ∙ (rw (slice-cons place end text 0 inside within) at u.sums));
+        sums = rw (add-one place) (sym (summed_next number (get_or text place 0) (slice (suc place) (run (is DIGIT) text start) text) sure) ∙ (rw (slice-cons place (run (is DIGIT) text start) text 0 inside within) at u.sums));
       }

@@ -1,5 +1,5 @@
 -- Laws of evaluation: what was typed, moved by its powers of ten, is either too large or seconds and attoseconds. Assumes nothing.
-use Rattle.std.specs.Prelude.{◌≡◌, refl, Bool, true, false, List, ℕ, ◌+◌, ◌*◌, ◌/◌, ◌%◌, ◌^◌, ◌≤◌, ◌<◌, ltb}
+use Rattle.std.specs.Prelude.{◌≡◌, refl, Bool, true, false, List, ℕ, ◌+◌, ◌*◌, ◌/◌, ◌%◌, ◌^◌, ◌≤◌, ◌<◌, ltb, Option, Some, None, is_some}
 use Rattle.std.proofs.Common.{sym, ◌∙◌, ap, zero-le, add-zero, one-mul, mul-le-mul_right, le_trans, le_of_eq, pos_of_ne-zero, le-div_iff_mul-le, div-add-mod', mod-lt, arith, ltb-false, lit<}
 use Rattle.std.specs.Bool.{xor}
 use Rattle.rules.specs.declared.Multiplier.{Multiplier}
@@ -9,10 +9,11 @@ use Rattle.rules.specs.ThePartOfTheCrateWeTake.{zero_length, largest}
 use Rattle.rules.specs.Evaluation.{digits_of, up, down, attos, nanos, length_of, evaluate, worth}
 use Rattle.rules.proofs.Laws.Apart.{none, nanos_none}
 use Rattle.rules.proofs.Laws.Lengths.{limit, size_clamped}
-use Rattle.value.specs.declared.number.Shifted.TheVariants as shifted
 use Rattle.value.specs.Numbers.{summed, Spans, counted, counted_attos, attos_of, evaluate_counted, shifted_of}
 use Rattle.value.specs.Digits.{counted_summed}
 use Rattle.value.specs.Sums.{digits_none}
+use Rattle.std.proofs.lemmas.Bool.{false≢true}
+use Rattle.value.specs.declared.number.Shifted.{Shifted}
 use Rattle.value.specs.Places.{spans_none}
 
 -- ---- the typed exponent goes to the powers of its sign
@@ -50,38 +51,31 @@ module _ (text : List ℕ) (d : DurationRepr) (number : ℕ) where
 
 -- ---- too large, or seconds and attoseconds
 
-never : ◌≡◌ {A = ℕ} 0 1 → ⊥
-never z = omega arith
-
 -- what a shifted number says of its attoseconds
-pub record Parts (a seconds attos : ℕ) : Type 0 where
-  pub whole : seconds * 10 ^ 18 + attos ≡ a
-  pub below : attos < 10 ^ 18
+pub record Parts (a : ℕ) (found : Shifted) : Type 0 where
+  pub whole : found.seconds * 10 ^ 18 + found.attos ≡ a
+  pub below : found.attos < 10 ^ 18
 
-pub fits_parts : (a seconds attos : ℕ) → shifted_of a ≡ shifted.Fits seconds attos → Parts a seconds attos
-unfolding shifted_of when◌then◌else◌
-fits_parts a seconds attos e = go (ltb (a / 10 ^ 18) (2 ^ 64)) refl
+shifted_or_nothing : Option Shifted → Shifted
+shifted_or_nothing (Some found) = found
+shifted_or_nothing None = record { seconds = 0; attos = 0 }
+
+pub fits_parts : (a : ℕ) (found : Shifted) → shifted_of a ≡ Some found → Parts a found
+unfolding shifted_of when◌then◌else◌ shifted_or_nothing
+fits_parts a found e = go (ltb (a / 10 ^ 18) (2 ^ 64)) refl
   where
-    go : (b : Bool) → ltb (a / 10 ^ 18) (2 ^ 64) ≡ b → Parts a seconds attos
+    go : (b : Bool) → ltb (a / 10 ^ 18) (2 ^ 64) ≡ b → Parts a found
     go true t =
-        let f : shifted.Fits (a / 10 ^ 18) (a % 10 ^ 18) ≡ shifted.Fits seconds attos = rw t at e in
-        let s : a / 10 ^ 18 ≡ seconds = cc in
-        let r : a % 10 ^ 18 ≡ attos = cc in
-        record { whole = rw (← s, ← r) (div-add-mod' a (10 ^ 18)); below = rw (← r) (mod-lt a (lit< tt)) }
-    go false t =
-        let f : shifted.TooLarge ≡ shifted.Fits seconds attos = rw t at e in
-        let z : ◌≡◌ {A = ℕ} 0 1 = cc in
-        absurd (never z)
+        let f : record { seconds = a / 10 ^ 18; attos = a % 10 ^ 18 } ≡ found = ap shifted_or_nothing (rw t at e) in
+        rw (← f) (record { whole = div-add-mod' a (10 ^ 18); below = mod-lt a (lit< tt) })
+    go false t = absurd (false≢true (ap is_some (rw t at e)))
 
-pub too_many : (a : ℕ) → shifted_of a ≡ shifted.TooLarge → 2 ^ 64 * 10 ^ 18 ≤ a
+pub too_many : (a : ℕ) → shifted_of a ≡ None → 2 ^ 64 * 10 ^ 18 ≤ a
 unfolding shifted_of when◌then◌else◌
 too_many a e = go (ltb (a / 10 ^ 18) (2 ^ 64)) refl
   where
     go : (b : Bool) → ltb (a / 10 ^ 18) (2 ^ 64) ≡ b → 2 ^ 64 * 10 ^ 18 ≤ a
-    go true t =
-        let f : shifted.Fits (a / 10 ^ 18) (a % 10 ^ 18) ≡ shifted.TooLarge = rw t at e in
-        let z : ◌≡◌ {A = ℕ} 0 1 = cc in
-        absurd (never z)
+    go true t = absurd (false≢true (sym (ap is_some (rw t at e))))
     go false t = (le-div_iff_mul-le (lit< tt)).0 (ltb-false (a / 10 ^ 18) (2 ^ 64) t)
 
 -- a number of seconds that 64 bits do not hold passes the largest length, whatever multiplies it
@@ -91,14 +85,14 @@ large_passes c a some h =
     (le-div_iff_mul-le {k = 10 ^ 9} {x = limit} {y = c * a} (lit< tt)).1 (le_trans h (le_trans (le_of_eq (sym (one-mul a))) (mul-le-mul_right a (pos_of_ne-zero some))))
 
 module _ (text : List ℕ) (d : DurationRepr) (number : ℕ) (finite : d.infinite ≡ false) where
-  pub evaluate_large : (d.multiplier.coefficient ≡ 0 → ⊥) → shifted_of (attos_of text d number) ≡ shifted.TooLarge → evaluate_counted text d number ≡ largest (xor d.negative d.multiplier.negative)
+  pub evaluate_large : (d.multiplier.coefficient ≡ 0 → ⊥) → shifted_of (attos_of text d number) ≡ None → evaluate_counted text d number ≡ largest (xor d.negative d.multiplier.negative)
   evaluate_large some e =
       evaluate_finite text d number finite ∙ size_clamped _ _ (large_passes d.multiplier.coefficient (attos_of text d number) some (too_many (attos_of text d number) e))
 
-  pub evaluate_fits : (seconds attos : ℕ) → shifted_of (attos_of text d number) ≡ shifted.Fits seconds attos → evaluate_counted text d number ≡ length_of (xor d.negative d.multiplier.negative) (nanos d.multiplier.coefficient (seconds * 10 ^ 18 + attos))
-  evaluate_fits seconds attos e =
+  pub evaluate_fits : (found : Shifted) → shifted_of (attos_of text d number) ≡ Some found → evaluate_counted text d number ≡ length_of (xor d.negative d.multiplier.negative) (nanos d.multiplier.coefficient (found.seconds * 10 ^ 18 + found.attos))
+  evaluate_fits found e =
       evaluate_finite text d number finite
-      ∙ ap (λ a. length_of (xor d.negative d.multiplier.negative) (nanos d.multiplier.coefficient a)) (sym (fits_parts (attos_of text d number) seconds attos e).whole)
+      ∙ ap (λ a. length_of (xor d.negative d.multiplier.negative) (nanos d.multiplier.coefficient a)) (sym (fits_parts (attos_of text d number) found e).whole)
 
 -- ---- a typed number, and a spoken one
 

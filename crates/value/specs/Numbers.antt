@@ -1,24 +1,18 @@
 -- What the numbers of a text come to in words of 64 bits. Assumes nothing.
-use Rattle.std.specs.Prelude.{◌≡◌, true, List, [], ◌∷◌, ℕ, ◌+◌, ◌*◌, ◌-◌, ◌/◌, ◌%◌, ◌^◌, ◌≤◌, min, ltb, length, take}
+use Rattle.std.specs.Prelude.{◌≡◌, true, List, [], ◌∷◌, ℕ, ◌+◌, ◌*◌, ◌-◌, ◌/◌, ◌%◌, ◌^◌, ◌≤◌, ltb, length, take, Option, Some, None}
 use Rattle.std.specs.Bool.{xor}
 use Rattle.rules.specs.declared.Length.{Length}
-use Rattle.rules.specs.declared.Whole.{Whole}
-use Rattle.rules.specs.declared.Fract.{Fract}
+use Rattle.rules.specs.declared.Span.{Span}
 use Rattle.rules.specs.declared.DurationRepr.{DurationRepr}
 use Rattle.rules.specs.Common.{when◌then◌else◌, all}
 use Rattle.rules.specs.ThePartOfTheCrateWeTake.{largest}
 use Rattle.rules.specs.SettingsAndUnitTable.{DIGIT, is}
 use Rattle.rules.specs.Evaluation.{spelled, digits_of, up, down, attos, nanos, length_of}
-use Rattle.value.specs.declared.digits.Word.{Word}
-use Rattle.value.specs.declared.digits.Word.TheVariants.{Fits, TooLarge}
-use Rattle.value.specs.declared.digits.Taken.{Taken}
-use Rattle.value.specs.declared.number.Cut.{Cut}
 use Rattle.value.specs.declared.number.Shifted.{Shifted}
-use Rattle.value.specs.declared.number.Shifted.TheVariants as shifted
 
 -- a number, if 64 bits hold it
-unfoldable pub as_word : ℕ → Word
-as_word n = when ltb n (2 ^ 64) then Fits n else TooLarge
+unfoldable pub as_word : ℕ → Option ℕ
+as_word n = when ltb n (2 ^ 64) then Some n else None
 
 -- digits summed up after those that spelled n, for as long as a word surely holds one more
 unfoldable pub summed : ℕ → List ℕ → ℕ
@@ -35,31 +29,16 @@ unfoldable pub counted : ℕ → List ℕ → ℕ
 counted number [] = number
 counted number (d ∷ digits) = spelled 0 (d ∷ digits)
 
--- the first digits that there is room for, after those that spelled so_far, and the room left
-unfoldable pub taken : ℕ → ℕ → List ℕ → Taken
-taken so_far room digits = record { number = spelled so_far (take room digits); room = room - length digits }
-
 -- the number that the first so many digits spell, with zeros put in where there are fewer
 unfoldable pub places : ℕ → List ℕ → ℕ
 places count digits = spelled 0 (take count digits) * 10 ^ (count - length digits)
 
--- how many digits stand before the typed point, and after it
-abbrev pub whole_size : Whole → ℕ
-whole_size whole = whole.end - whole.start
-
-abbrev pub fract_size : Fract → ℕ
+-- how many digits stand after the typed point
+abbrev pub fract_size : Span → ℕ
 fract_size fract = fract.end - fract.start
 
--- where so many digits, counted over both spans, come to in each, and the zeros for those that both lack
-unfoldable pub cut_at : Whole → Fract → ℕ → Cut
-cut_at whole fract point = record {
-  whole = whole.start + min point (whole_size whole);
-  fract = fract.start + min (point - whole_size whole) (fract_size fract);
-  zeros = point - whole_size whole - fract_size fract;
-}
-
 -- a typed number: both spans lie in the text, and digits stand in them
-pub record Spans (text : List ℕ) (whole : Whole) (fract : Fract) : Type 0 where
+pub record Spans (text : List ℕ) (whole : Span) (fract : Span) : Type 0 where
   pub whole_starts : whole.start ≤ whole.end
   pub whole_ends : whole.end ≤ length text
   pub fract_starts : fract.start ≤ fract.end
@@ -67,7 +46,7 @@ pub record Spans (text : List ℕ) (whole : Whole) (fract : Fract) : Type 0 wher
   pub digits : all (is DIGIT) (digits_of text whole fract) ≡ true
 
 -- A of document 01, for the number that counts and these powers of ten
-abbrev pub counted_attos : ℕ → List ℕ → Whole → Fract → ℕ → ℕ → ℕ
+abbrev pub counted_attos : ℕ → List ℕ → Span → Span → ℕ → ℕ → ℕ
 counted_attos number text whole fract up down = attos (counted number (digits_of text whole fract)) (fract_size fract) up down
 
 -- that of a part, before it is multiplied
@@ -83,10 +62,10 @@ evaluate_counted text d number =
     else length_of (xor d.negative d.multiplier.negative) (nanos d.multiplier.coefficient (attos_of text d number))
 
 -- so many attoseconds, if 64 bits hold their seconds
-unfoldable pub shifted_of : ℕ → Shifted
-shifted_of a = when ltb (a / 10 ^ 18) (2 ^ 64) then shifted.Fits (a / 10 ^ 18) (a % 10 ^ 18) else shifted.TooLarge
+unfoldable pub shifted_of : ℕ → Option Shifted
+shifted_of a = when ltb (a / 10 ^ 18) (2 ^ 64) then Some (record { seconds = a / 10 ^ 18; attos = a % 10 ^ 18 }) else None
 
 -- seconds as a word, with the attoseconds behind them
-abbrev pub with_attos : Word → ℕ → Shifted
-with_attos (Fits seconds) attos = shifted.Fits seconds attos
-with_attos TooLarge attos = shifted.TooLarge
+abbrev pub with_attos : Option ℕ → ℕ → Option Shifted
+with_attos (Some seconds) attos = Some (record { seconds = seconds; attos = attos })
+with_attos None attos = None

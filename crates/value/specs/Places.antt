@@ -1,8 +1,9 @@
 -- Laws of the numbers that a text's digits come to in words of 64 bits: the first places of a number, a number of two spans cut
 -- at a point, and a number moved by a power of ten. Assumes nothing.
-use Rattle.std.specs.Prelude.{◌≡◌, refl, Bool, List, ◌++◌, ltb, eqb, take, drop}
+use Rattle.std.specs.Prelude.{◌≡◌, ◌⊎◌, refl, Bool, List, ◌++◌, ltb, eqb, take, drop, Option, Some, None}
+use Rattle.std.specs.Option.{SomeIff}
 use Rattle.std.proofs.Math.Path.{ap, ap₂, sym}
-use Rattle.std.proofs.Common.{◌∙◌, append_assoc, zero-add, mul_assoc, mul-one, zero-mul, add-mul, lt_of_lt_of_le, mul-lt-mul_of_pos_right, div-lt_iff_lt-mul, div-one, div-add-mod', mod-lt, le-mul_of_pos_right, arith, length-take, length-drop, drop_of_length-le, pow-add, take-add, take_all}
+use Rattle.std.proofs.Common.{inl, inr, ◌∙◌, append_assoc, zero-add, mul_assoc, mul-one, zero-mul, add-mul, lt_of_lt_of_le, mul-lt-mul_of_pos_right, div-lt_iff_lt-mul, div-one, div-add-mod', mod-lt, le-mul_of_pos_right, arith, length-take, length-drop, drop_of_length-le, pow-add, take-add, take_all}
 use Rattle.std.proofs.Math.Bool.{true, false}
 use Prim.Native.Nat.{ℕ, ◌+◌, ◌*◌, ◌-◌, ◌/◌, ◌%◌, ◌^◌, ◌≤◌, ◌<◌, min}
 use Rattle.std.proofs.Math.Nat.{le_refl, le_trans, div-eq_of_lt, mul-div-mul_right, sub-add-eq}
@@ -10,51 +11,46 @@ use borrow.Author.Tests.{ltb-true, ltb-false, lt-ltb, le-ltb, leb-true, leb-fals
 use Rattle.std.proofs.Math.Arith.{digits_div, digits_mod}
 use Rattle.std.proofs.Math.Dec.{leb}
 use Rattle.std.proofs.Math.ListN.{length, get_or, length-append, take-append-drop}
-use Rattle.std.proofs.Math.Seq.{slice, slice_empty, slice-cons, length-slice, take-nil}
-use Rattle.std.proofs.lemmas.List.{take-append-le}
-use Rattle.rules.specs.declared.Whole.{Whole}
-use Rattle.rules.specs.declared.Fract.{Fract}
+use Rattle.std.proofs.Math.Seq.{slice, slice_empty, take-nil}
+use Rattle.std.proofs.lemmas.List.{take-append-le, get_or_append_left}
+use Rattle.std.proofs.lemmas.List as lists
+use Rattle.rules.specs.declared.Span.{Span}
 use Rattle.rules.specs.Common.{when◌then◌else◌, all, run}
 use Rattle.rules.specs.SettingsAndUnitTable.{DIGIT, is}
 use Rattle.rules.specs.Evaluation.{spelled, digits_of, attos}
 use Rattle.rules.proofs.Laws.Choices.{all_append}
 use Rattle.rules.proofs.Laws.Texts.{run_from, run_within}
-use Rattle.value.specs.declared.digits.Word.{Word}
-use Rattle.value.specs.declared.digits.Word.TheVariants.{Fits, TooLarge}
-use Rattle.value.specs.declared.digits.Taken.{Taken}
-use Rattle.value.specs.declared.number.Cut.{Cut}
-use Rattle.value.specs.declared.number.Shifted.TheVariants as shifted
-use Rattle.value.specs.Numbers.{as_word, summed, Counts, counted, taken, places, whole_size, fract_size, cut_at, Spans, counted_attos, shifted_of, with_attos}
+use Rattle.value.specs.Numbers.{as_word, summed, Counts, counted, places, fract_size, Spans, counted_attos, shifted_of, with_attos}
 use Rattle.value.specs.Sums.{digits_none}
-use Rattle.value.specs.Digits.{ten_pos, ten_grows, ten_sum, run_passes, run_after_zeros, zeros_first, all_take, all_drop, all_left, all_right, take_both, drop_both, slice_before, slice_after, passes_before, passes_after, cut_within, cut_left, spelled_append, spelled_from, spelled_grows, spelled_below, spelled_in_room, summed_many, counted_summed, counts_summed, counts_few}
+use Rattle.value.specs.Digits.{ten_pos, ten_grows, ten_sum, run_passes, run_after_zeros, zeros_first, all_take, all_drop, all_left, all_right, take_both, drop_both, slice_sized, spelled_append, spelled_from, spelled_grows, spelled_below, spelled_in_room, summed_many, counted_summed, counts_summed, counts_few}
 
 -- ---- a number as a word of 64 bits
 
-pub word_fits : {n m : ℕ} → n ≡ m → n < 2 ^ 64 → Fits n ≡ as_word m
+pub word_fits : {n m : ℕ} → n ≡ m → n < 2 ^ 64 → Some n ≡ as_word m
 unfolding as_word when◌then◌else◌
 word_fits {n} e h = rw (← e, lt-ltb n (2 ^ 64) h)
 
-pub word_too_large : (n : ℕ) → 2 ^ 64 ≤ n → TooLarge ≡ as_word n
+pub word_too_large : (n : ℕ) → 2 ^ 64 ≤ n → None ≡ as_word n
 unfolding as_word when◌then◌else◌
 word_too_large n h = rw (le-ltb n (2 ^ 64) h)
 
-pub fits_word : (n : ℕ) {m : ℕ} → Fits m ≡ as_word n → m ≡ n
+pub fits_word : (n : ℕ) {m : ℕ} → Some m ≡ as_word n → m ≡ n
 unfolding as_word when◌then◌else◌
 fits_word n {m} e = go (ltb n (2 ^ 64)) e
   where
-    go : (b : Bool) → Fits m ≡ (when b then Fits n else TooLarge) → m ≡ n
+    go : (b : Bool) → Some m ≡ (when b then Some n else None) → m ≡ n
     go true e = cc
     go false e = cc
 
 -- what is no less than a number that is too large is too large
-still_too_large : (n m : ℕ) → n ≤ m → TooLarge ≡ as_word n → TooLarge ≡ as_word m
+still_too_large : (n m : ℕ) → n ≤ m → None ≡ as_word n → None ≡ as_word m
 still_too_large n m h e = go (ltb n (2 ^ 64)) refl
   where
-    go : (b : Bool) → ltb n (2 ^ 64) ≡ b → TooLarge ≡ as_word m
+    go : (b : Bool) → ltb n (2 ^ 64) ≡ b → None ≡ as_word m
     go true f = cc (word_fits (refl {a = n}) (ltb-true n (2 ^ 64) f))
     go false f = word_too_large m (le_trans (ltb-false n (2 ^ 64) f) h)
 
-pub zeros_too_large : (n zeros : ℕ) → TooLarge ≡ as_word n → TooLarge ≡ as_word (n * 10 ^ zeros)
+pub zeros_too_large : (n zeros : ℕ) → None ≡ as_word n → None ≡ as_word (n * 10 ^ zeros)
 zeros_too_large n zeros e = still_too_large n (n * 10 ^ zeros) (le-mul_of_pos_right n (ten_pos zeros)) e
 
 -- ---- the first places of a number
@@ -115,145 +111,58 @@ places_cut u d ds e = rw (places_all u ds) (go (leb d (length ds + u)) refl)
         div-eq_of_lt (lt_of_lt_of_le (places_below (length ds + u) ds e) (ten_grows (omega (arith, leb-false d (length ds + u) f))))
         ∙ sym (ap (λ k. places k ds) none ∙ places_none ds)
 
--- ---- a number of two spans, cut at a point
+-- ---- the digits before a point and those after it
 
 -- the first places of both: those of the first, those that are left of the second, and zeros
-pub places_both : (k : ℕ) (xs ys : List ℕ) → places k (xs ++ ys) ≡ spelled 0 (take k xs ++ take (k - length xs) ys) * 10 ^ (k - length xs - length ys)
+pub places_both : (k : ℕ) (xs ys : List ℕ) → places k (xs ++ ys) ≡ spelled (spelled 0 (take k xs)) (take (k - length xs) ys) * 10 ^ (k - length xs - length ys)
 unfolding places
-places_both k xs ys = rw (take_both k xs ys, length-append xs ys, sub-add-eq k (length xs) (length ys))
+places_both k xs ys = rw (take_both k xs ys, spelled_append 0 (take k xs) (take (k - length xs) ys), length-append xs ys, sub-add-eq k (length xs) (length ys))
 
--- digits taken from both, one after the other, are those places; and what was taken leaves room for nineteen in all
-pub taken_both : (room : ℕ) (xs ys : List ℕ) {front both : Taken} → front ≡ taken 0 room xs → both ≡ taken front.number front.room ys → both.number * 10 ^ both.room ≡ places room (xs ++ ys)
-unfolding taken
-taken_both room xs ys e f = rw (f, e, places_both room xs ys, spelled_append 0 (take room xs) (take (room - length xs) ys))
+pub taken_both : (room : ℕ) (xs ys : List ℕ) {front left number over : ℕ} → front ≡ spelled 0 (take room xs) → left ≡ room - length xs → number ≡ spelled front (take left ys) → over ≡ left - length ys → number * 10 ^ over ≡ places room (xs ++ ys)
+taken_both room xs ys e f g h = rw (g, h, e, f, places_both room xs ys)
 
-pub taken_in_room : (n room : ℕ) (ds : List ℕ) → (room ≤ 19) × (n < 10 ^ (19 - room)) → all (is DIGIT) ds ≡ true → {t : Taken} → t ≡ taken n room ds → (t.room ≤ 19) × (t.number < 10 ^ (19 - t.room))
-unfolding taken
-taken_in_room n room ds (h, b) d e = rw e (omega arith, spelled_in_room 19 n room ds h b d)
+-- no zeros follow where the number is zero, or there is no room left
+pub no_zeros : {number room : ℕ} → (number ≡ 0) ⊎ ((number ≡ 0 → ⊥) × (room ≡ 0)) → number ≡ number * 10 ^ room
+no_zeros {number} {room} (inl e) = rw e (sym (zero-mul (10 ^ room)))
+no_zeros {number} {room} (inr e) = rw e.1 (sym (mul-one number))
+
+-- digits for which there is room leave no more than nineteen places, and zeros fill the room that is left
+pub room_left : (n room : ℕ) (ds : List ℕ) → (room ≤ 19) × (n < 10 ^ (19 - room)) → all (is DIGIT) ds ≡ true → (room - length ds ≤ 19) × (spelled n (take room ds) < 10 ^ (19 - (room - length ds)))
+room_left n room ds (h, b) d = (omega arith, spelled_in_room 19 n room ds h b d)
 
 pub room_filled : (n room : ℕ) → (room ≤ 19) × (n < 10 ^ (19 - room)) → n * 10 ^ room < 10 ^ 19
 room_filled n room (h, b) = rw (ten_sum (19 - room) room 19 (omega arith)) (mul-lt-mul_of_pos_right b (ten_pos room))
 
-pub taken_is : (n room : ℕ) (ds : List ℕ) {number left : ℕ} → number ≡ spelled n (take room ds) → left ≡ room - length ds → ◌≡◌ {A = Taken} (record { number = number; room = left }) (taken n room ds)
-unfolding taken
-taken_is n room ds e f = cc
-
--- the digits of each span
-abbrev whole_of : List ℕ → Whole → List ℕ
-whole_of text whole = slice whole.start whole.end text
-
-abbrev fract_of : List ℕ → Fract → List ℕ
-fract_of text fract = slice fract.start fract.end text
-
-pub cut_is : (whole : Whole) (fract : Fract) (point : ℕ) {in_whole in_fract : ℕ} → in_whole ≡ whole.start + min point (whole_size whole) → in_fract ≡ fract.start + min (point - (in_whole - whole.start)) (fract_size fract) → ◌≡◌ {A = Cut} (record { whole = in_whole; fract = in_fract; zeros = point - (in_whole - whole.start) - (in_fract - fract.start) }) (cut_at whole fract point)
-unfolding cut_at
-cut_is whole fract point {in_whole} {in_fract} e f =
-    let more = cut_left whole.start whole.end point e in
-    let cut = f ∙ ap (λ m. fract.start + min m (fract_size fract)) more in
-    let zeros = cut_left fract.start fract.end (point - (in_whole - whole.start)) f ∙ ap (λ m. m - fract_size fract) more in
-    cc
-
--- the part of each span before a cut, and the part after it
-abbrev whole_before : Whole → Cut → Whole
-whole_before whole cut = record { start = whole.start; end = cut.whole }
-
-abbrev fract_before : Fract → Cut → Fract
-fract_before fract cut = record { start = fract.start; end = cut.fract }
-
-abbrev whole_after : Whole → Cut → Whole
-whole_after whole cut = record { start = cut.whole; end = whole.end }
-
-abbrev fract_after : Fract → Cut → Fract
-fract_after fract cut = record { start = cut.fract; end = fract.end }
-
 -- both as one number: an overflow of the first is one of both
-module _ (so_far : ℕ) (text : List ℕ) (whole : Whole) (fract : Fract) {word : Word} (found : word ≡ as_word (spelled so_far (whole_of text whole))) where
-  pub typed_too_large : word ≡ TooLarge → TooLarge ≡ as_word (spelled so_far (digits_of text whole fract))
-  unfolding digits_of
-  typed_too_large e = rw (spelled_append so_far (whole_of text whole) (fract_of text fract)) (still_too_large _ _ (spelled_grows _ (fract_of text fract)) (sym e ∙ found))
+pub both_too_large : (so_far : ℕ) (xs ys : List ℕ) → None ≡ as_word (spelled so_far xs) → None ≡ as_word (spelled so_far (xs ++ ys))
+both_too_large so_far xs ys e = rw (spelled_append so_far xs ys) (still_too_large _ _ (spelled_grows _ ys) e)
 
-  pub typed_on : {front : ℕ} → word ≡ Fits front → spelled front (fract_of text fract) ≡ spelled so_far (digits_of text whole fract)
-  unfolding digits_of
-  typed_on e = rw (spelled_append so_far (whole_of text whole) (fract_of text fract), ← (fits_word _ (sym e ∙ found)))
+pub both_on : (so_far : ℕ) (xs ys : List ℕ) {front : ℕ} → Some front ≡ as_word (spelled so_far xs) → spelled front ys ≡ spelled so_far (xs ++ ys)
+both_on so_far xs ys e = rw (spelled_append so_far xs ys, ← (fits_word _ e))
 
-module _ {text : List ℕ} {whole : Whole} {fract : Fract} (s : Spans text whole fract) where
-  whole_length : length (whole_of text whole) ≡ whole_size whole
-  whole_length = length-slice whole.start whole.end text s.whole_ends
+module _ (xs ys : List ℕ) (p : all (is DIGIT) xs ≡ true) (q : all (is DIGIT) ys ≡ true) where
+  pub both_digits : all (is DIGIT) (xs ++ ys) ≡ true
+  both_digits = all_append (is DIGIT) xs ys p q
 
-  fract_length : length (fract_of text fract) ≡ fract_size fract
-  fract_length = length-slice fract.start fract.end text s.fract_ends
+  -- the sum of many digits that start with no `0` is the first nineteen, and the others go on from it
+  pub rest_spelled : 19 ≤ length xs → {number : ℕ} → number ≡ summed 0 (xs ++ ys) → (get_or xs 0 0 ≡ 48 → ⊥) → spelled number (drop 19 xs ++ ys) ≡ spelled 0 (xs ++ ys)
+  rest_spelled many sum some =
+      rw
+      (sum
+      ∙ summed_many (xs ++ ys) both_digits (omega (arith, length-append xs ys)) (λ h. some (sym (get_or_append_left xs ys 0 0 (omega arith)) ∙ h))
+      ∙ ap (spelled 0) (take-append-le 19 xs ys many))
+      (sym (spelled_append 0 (take 19 xs) (drop 19 xs ++ ys)) ∙ ap (spelled 0) (sym (append_assoc (take 19 xs) (drop 19 xs) ys) ∙ ap (λ l. l ++ ys) (take-append-drop 19 xs)))
 
-  digits_length : length (digits_of text whole fract) ≡ whole_size whole + fract_size fract
-  unfolding digits_of
-  digits_length = length-append (whole_of text whole) (fract_of text fract) ∙ ap₂ ◌+◌ whole_length fract_length
+-- both cut at a point
+module _ (point : ℕ) (xs ys : List ℕ) {in_whole in_fract : ℕ} (e : in_whole ≡ min point (length xs)) (f : in_fract ≡ min (point - in_whole) (length ys)) where
+  left_of : min (point - in_whole) (length ys) ≡ min (point - length xs) (length ys)
+  left_of = rw e (omega arith)
 
-  pub whole_digits : all (is DIGIT) (whole_of text whole) ≡ true
-  unfolding digits_of
-  whole_digits = all_left (is DIGIT) (whole_of text whole) (fract_of text fract) s.digits
+  pub cut_front : take in_whole xs ++ take in_fract ys ≡ take point (xs ++ ys)
+  cut_front = rw (f, left_of, e, lists.take_min point xs, lists.take_min (point - length xs) ys, take_both point xs ys)
 
-  pub fract_digits : all (is DIGIT) (fract_of text fract) ≡ true
-  unfolding digits_of
-  fract_digits = all_right (is DIGIT) (whole_of text whole) (fract_of text fract) s.digits
-
-  -- after the first k whole digits the others are a typed number, whose digits go on from those
-  module _ (k : ℕ) {cut : ℕ} (at : cut ≡ whole.start + min k (whole_size whole)) where
-    pub spans_rest : Spans text (record { start = cut; end = whole.end }) fract
-    unfolding digits_of
-    spans_rest = record {
-      whole_starts = cut_within whole.start whole.end k at s.whole_starts;
-      whole_ends = s.whole_ends;
-      fract_starts = s.fract_starts;
-      fract_ends = s.fract_ends;
-      digits = all_append (is DIGIT) _ _ (passes_after whole.start whole.end k text at (is DIGIT) whole_digits) fract_digits;
-    }
-
-    pub spelled_rest : {first : ℕ} → first ≡ spelled 0 (take k (whole_of text whole)) → spelled first (digits_of text (record { start = cut; end = whole.end }) fract) ≡ spelled 0 (digits_of text whole fract)
-    unfolding digits_of
-    spelled_rest e =
-        rw (e, ← (slice_after whole.start whole.end k text at), ← (spelled_append 0 (take k (whole_of text whole)) (drop k (whole_of text whole) ++ fract_of text fract)), ← (append_assoc (take k (whole_of text whole)) (drop k (whole_of text whole)) (fract_of text fract)), take-append-drop k (whole_of text whole))
-
-  module _ (point : ℕ) {cut : Cut} (at : cut ≡ cut_at whole fract point) where
-    in_whole : cut.whole ≡ whole.start + min point (whole_size whole)
-    unfolding cut_at
-    in_whole = rw at
-
-    in_fract : cut.fract ≡ fract.start + min (point - whole_size whole) (fract_size fract)
-    unfolding cut_at
-    in_fract = rw at
-
-    -- the parts before the point are a typed number, and those after it
-    pub spans_before : Spans text (whole_before whole cut) (fract_before fract cut)
-    unfolding digits_of
-    spans_before = record {
-      whole_starts = omega (arith, in_whole);
-      whole_ends = le_trans (cut_within whole.start whole.end point in_whole s.whole_starts) s.whole_ends;
-      fract_starts = omega (arith, in_fract);
-      fract_ends = le_trans (cut_within fract.start fract.end _ in_fract s.fract_starts) s.fract_ends;
-      digits = all_append (is DIGIT) _ _ (passes_before whole.start whole.end point text in_whole (is DIGIT) whole_digits) (passes_before fract.start fract.end _ text in_fract (is DIGIT) fract_digits);
-    }
-
-    pub spans_after : Spans text (whole_after whole cut) (fract_after fract cut)
-    unfolding digits_of
-    spans_after = record {
-      whole_starts = cut_within whole.start whole.end point in_whole s.whole_starts;
-      whole_ends = s.whole_ends;
-      fract_starts = cut_within fract.start fract.end _ in_fract s.fract_starts;
-      fract_ends = s.fract_ends;
-      digits = all_append (is DIGIT) _ _ (passes_after whole.start whole.end point text in_whole (is DIGIT) whole_digits) (passes_after fract.start fract.end _ text in_fract (is DIGIT) fract_digits);
-    }
-
-    -- the first spells the places before the point, with the zeros, and the second has the digits after it
-    places_before : places point (digits_of text whole fract) ≡ spelled 0 (digits_of text (whole_before whole cut) (fract_before fract cut)) * 10 ^ cut.zeros
-    unfolding digits_of cut_at
-    places_before =
-        places_both point (whole_of text whole) (fract_of text fract)
-        ∙ rw (whole_length, fract_length, slice_before whole.start whole.end point text in_whole, slice_before fract.start fract.end (point - whole_size whole) text in_fract, at)
-
-    digits_after : drop point (digits_of text whole fract) ≡ digits_of text (whole_after whole cut) (fract_after fract cut)
-    unfolding digits_of
-    digits_after =
-        drop_both point (whole_of text whole) (fract_of text fract)
-        ∙ rw (whole_length, slice_after whole.start whole.end point text in_whole, slice_after fract.start fract.end (point - whole_size whole) text in_fract)
+  pub cut_back : drop in_whole xs ++ drop in_fract ys ≡ drop point (xs ++ ys)
+  cut_back = rw (f, left_of, e, lists.drop_min point xs, lists.drop_min (point - length xs) ys, drop_both point xs ys)
 
 -- ---- a number moved by a power of ten
 
@@ -261,12 +170,12 @@ shifted_word : (a : ℕ) → shifted_of a ≡ with_attos (as_word (a / 10 ^ 18))
 unfolding as_word shifted_of when◌then◌else◌
 shifted_word a = go (ltb (a / 10 ^ 18) (2 ^ 64))
   where
-    go : (b : Bool) → (when b then shifted.Fits (a / 10 ^ 18) (a % 10 ^ 18) else shifted.TooLarge) ≡ with_attos (when b then Fits (a / 10 ^ 18) else TooLarge) (a % 10 ^ 18)
+    go : (b : Bool) → (when b then Some (record { seconds = a / 10 ^ 18; attos = a % 10 ^ 18 }) else None) ≡ with_attos (when b then Some (a / 10 ^ 18) else None) (a % 10 ^ 18)
     go true = refl
     go false = refl
 
 -- so many seconds, as a word, and attoseconds
-pub shifted_is : (seconds : ℕ) {a attos : ℕ} → a ≡ seconds * 10 ^ 18 + attos → attos < 10 ^ 18 → {word found : Word} → word ≡ as_word seconds → word ≡ found → with_attos found attos ≡ shifted_of a
+pub shifted_is : (seconds : ℕ) {a attos : ℕ} → a ≡ seconds * 10 ^ 18 + attos → attos < 10 ^ 18 → {word found : Option ℕ} → word ≡ as_word seconds → word ≡ found → with_attos found attos ≡ shifted_of a
 shifted_is seconds {a} {attos} sum below e f =
     sym (ap shifted_of sum ∙ shifted_word (seconds * 10 ^ 18 + attos) ∙ ap₂ with_attos (ap as_word (digits_div seconds below) ∙ sym e ∙ f) (digits_mod seconds below))
 
@@ -321,59 +230,68 @@ module _ (n decimals : ℕ) where
     pub more_none : n < 10 ^ 19 → 36 < decimals → n / power ≡ 0
     more_none h most = rw e (div-eq_of_lt (lt_of_lt_of_le h (ten_grows {i = 19} {j = decimals - 18} (omega arith))))
 
--- A of document 01, for typed digits and these powers of ten
-abbrev typed_attos : List ℕ → Whole → Fract → ℕ → ℕ → ℕ
-typed_attos text whole fract up down = attos (spelled 0 (digits_of text whole fract)) (fract_size fract) up down
-
-module _ {text : List ℕ} {whole : Whole} {fract : Fract} (s : Spans text whole fract) where
-  module _ {number : ℕ} (counts : Counts number (digits_of text whole fract)) where
+-- digits before a point and after it, as one list, of which so many are before it and so many after it
+module _ (ds : List ℕ) (before behind : ℕ) (size : length ds ≡ before + behind) (e : all (is DIGIT) ds ≡ true) where
+  module _ {number : ℕ} (counts : Counts number ds) where
     -- beside few digits the number is what counts, and beside many it is their sum, and what counts is what they spell
-    pub few_moved : whole_size whole + fract_size fract ≤ 19 → (up down : ℕ) → number * 10 ^ (18 + up) / 10 ^ (fract_size fract + down) ≡ counted_attos number text whole fract up down
+    pub few_moved : before + behind ≤ 19 → (up down : ℕ) → number * 10 ^ (18 + up) / 10 ^ (behind + down) ≡ attos (counted number ds) behind up down
     unfolding attos
-    few_moved few up down = rw (← (counts_few s.digits counts (omega (arith, digits_length s))))
+    few_moved few up down = rw (← (counts_few e counts (omega (arith, size))))
 
-    module _ (many : 19 < whole_size whole + fract_size fract) where
-      pub many_summed : number ≡ summed 0 (digits_of text whole fract)
-      many_summed = counts_summed counts (omega (arith, digits_length s))
+    module _ (many : 19 < before + behind) where
+      pub many_summed : number ≡ summed 0 ds
+      many_summed = counts_summed counts (omega (arith, size))
 
-      pub many_counted : counted number (digits_of text whole fract) ≡ spelled 0 (digits_of text whole fract)
-      many_counted = counted_summed (digits_of text whole fract) many_summed
+      pub many_counted : counted number ds ≡ spelled 0 ds
+      many_counted = counted_summed ds many_summed
 
-  -- the sum of many digits that start with no `0` is the first nineteen
-  pub sum_first : {number : ℕ} → number ≡ summed 0 (digits_of text whole fract) → 19 ≤ whole_size whole → (get_or text whole.start 0 ≡ 48 → ⊥) → number ≡ spelled 0 (take 19 (whole_of text whole))
-  unfolding digits_of
-  sum_first sum many some =
-      let size = whole_length s in
-      let here : get_or (digits_of text whole fract) 0 0 ≡ get_or text whole.start 0 = rw (slice-cons whole.start whole.end text 0 (omega arith) s.whole_ends) in
-      sum
-      ∙ summed_many (digits_of text whole fract) s.digits (omega (arith, digits_length s)) (λ e. some (sym here ∙ e))
-      ∙ rw (take-append-le 19 (whole_of text whole) (fract_of text fract) (omega arith))
-
-  module _ (up down : ℕ) {point room : ℕ} (here : point ≡ whole_size whole + up - down) (left : room ≡ 18 - (down - (whole_size whole + up))) where
-    -- A of document 01, for a typed number: its places before the point, and eighteen after it, less the zeros that come first
-    moved : typed_attos text whole fract up down ≡ places point (digits_of text whole fract) * 10 ^ 18 + places room (drop point (digits_of text whole fract))
+  module _ (up down : ℕ) {point room : ℕ} (here : point ≡ before + up - down) (left : room ≡ 18 - (down - (before + up))) where
+    -- A of document 01: its places before the point, and eighteen after it, less the zeros that come first
+    moved : attos (spelled 0 ds) behind up down ≡ places point ds * 10 ^ 18 + places room (drop point ds)
     unfolding attos
     moved =
-        let sum : length (digits_of text whole fract) + (18 + up) - (fract_size fract + down) ≡ point + room = omega (arith, digits_length s) in
-        places_cut (18 + up) (fract_size fract + down) (digits_of text whole fract) s.digits
-        ∙ ap (λ k. places k (digits_of text whole fract)) sum
-        ∙ places_split point room (digits_of text whole fract)
-        ∙ ap (λ k. k + places room (drop point (digits_of text whole fract))) (go (leb down (whole_size whole + up)) refl)
+        let sum : length ds + (18 + up) - (behind + down) ≡ point + room = omega (arith, size) in
+        places_cut (18 + up) (behind + down) ds e
+        ∙ ap (λ k. places k ds) sum
+        ∙ places_split point room ds
+        ∙ ap (λ k. k + places room (drop point ds)) (go (leb down (before + up)) refl)
       where
-        go : (c : Bool) → leb down (whole_size whole + up) ≡ c → places point (digits_of text whole fract) * 10 ^ room ≡ places point (digits_of text whole fract) * 10 ^ 18
+        go : (c : Bool) → leb down (before + up) ≡ c → places point ds * 10 ^ room ≡ places point ds * 10 ^ 18
         go true e =
-            let all_eighteen : room ≡ 18 = omega (arith, leb-true down (whole_size whole + up) e) in
-            ap (λ k. places point (digits_of text whole fract) * 10 ^ k) all_eighteen
+            let all_eighteen : room ≡ 18 = omega (arith, leb-true down (before + up) e) in
+            ap (λ k. places point ds * 10 ^ k) all_eighteen
         go false e =
-            let none : point ≡ 0 = omega (arith, leb-false down (whole_size whole + up) e) in
-            rw (none, places_none (digits_of text whole fract)) (zero-mul (10 ^ room) ∙ sym (zero-mul (10 ^ 18)))
+            let none : point ≡ 0 = omega (arith, leb-false down (before + up) e) in
+            rw (none, places_none ds) (zero-mul (10 ^ room) ∙ sym (zero-mul (10 ^ 18)))
 
-    pub moved_is : {cut : Cut} → cut ≡ cut_at whole fract point → {word seconds : Word} {decimals : ℕ} → word ≡ as_word (spelled 0 (digits_of text (whole_before whole cut) (fract_before fract cut)) * 10 ^ cut.zeros) → word ≡ seconds → decimals ≡ places room (digits_of text (whole_after whole cut) (fract_after fract cut)) → with_attos seconds decimals ≡ shifted_of (typed_attos text whole fract up down)
-    moved_is at found e f =
-        rw f
-        (shifted_is _ (moved ∙ rw (places_before s point at, digits_after s point at))
-        (lt_of_lt_of_le (places_below room _ (spans_after s point at).digits) (ten_grows {i = room} {j = 18} (omega arith)))
-        found e)
+    -- those before the point are the seconds, if they fit, and the others the attoseconds
+    pub moved_is : {front back : List ℕ} {zeros decimals : ℕ} {seconds : Option ℕ} → front ≡ take point ds → back ≡ drop point ds → zeros ≡ point - (before + behind) → seconds ≡ as_word (spelled 0 front * 10 ^ zeros) → decimals ≡ places room back → with_attos seconds decimals ≡ shifted_of (attos (spelled 0 ds) behind up down)
+    unfolding places
+    moved_is first others none found rest =
+        rw (rest, others)
+        (shifted_is _ moved
+        (lt_of_lt_of_le (places_below room _ (all_drop (is DIGIT) point ds e)) (ten_grows {i = room} {j = 18} (omega arith)))
+        (found ∙ ap as_word (rw (first, none, size))) refl)
+
+-- ---- the digits of two spans
+
+module _ {text : List ℕ} {whole : Span} {fract : Span} (s : Spans text whole fract) {xs ys : List ℕ} (e : xs ≡ take (whole.end - whole.start) (drop whole.start text)) (f : ys ≡ take (fract.end - fract.start) (drop fract.start text)) where
+  pub spans_digits : xs ++ ys ≡ digits_of text whole fract
+  unfolding digits_of
+  spans_digits = rw (e, f, slice_sized whole.start whole.end text, slice_sized fract.start fract.end text)
+
+  pub spans_whole_digits : all (is DIGIT) xs ≡ true
+  spans_whole_digits = all_left (is DIGIT) xs ys (rw spans_digits s.digits)
+
+  pub spans_fract_digits : all (is DIGIT) ys ≡ true
+  spans_fract_digits = all_right (is DIGIT) xs ys (rw spans_digits s.digits)
+
+  spans_behind : length ys ≡ fract_size fract
+  spans_behind = rw f (omega (arith, length-take (fract.end - fract.start) (drop fract.start text), length-drop fract.start text, s.fract_ends))
+
+  -- the number moved by powers of ten
+  pub spans_attos : (number up down : ℕ) → attos (counted number (xs ++ ys)) (length ys) up down ≡ counted_attos number text whole fract up down
+  spans_attos number up down = rw (spans_digits, spans_behind)
 
 -- ---- what is read is a typed number
 

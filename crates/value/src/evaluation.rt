@@ -4,16 +4,20 @@ ghost use Rattle.std.specs.Prelude.{◌≡◌};
 ghost use Rattle.rules.specs.Evaluation.{digits_of};
 ghost use Rattle.value.specs.Numbers.{Counts, Spans, attos_of, evaluate_counted, shifted_of};
 
-use crate::number::{Shifted, shift_number};
+use crate::number::{Digits, Shifted};
 use lengths::duration::{calculate_duration, largest, zero};
 use rules::{DurationRepr, Length};
 
 // The number times its powers of ten, those of the multiplier and the typed one. Most numbers have no exponent.
-fn shift_typed(text: &[u8], d: DurationRepr, number: u64) -> Shifted
+fn shift_typed(text: &[u8], d: DurationRepr, number: u64) -> Option<Shifted>
     requires spans { Spans text.now d.whole d.fract }
     requires counts { Counts number (digits_of text.now d.whole d.fract) }
     ensures { result ≡ shifted_of (attos_of text.now d number) }
 {
+    let digits = Digits {
+        whole: &text[d.whole.start..d.whole.end],
+        fract: &text[d.fract.start..d.fract.end],
+    };
     let mut up = d.multiplier.up as u32;
     let mut down = d.multiplier.down as u32;
     let typed = d.exponent.power as u32;
@@ -24,7 +28,7 @@ fn shift_typed(text: &[u8], d: DurationRepr, number: u64) -> Shifted
             up += typed;
         }
     }
-    shift_number(text, d.whole, d.fract, number, up, down)
+    digits.shift(number, up, down)
 }
 
 // A coefficient of zero makes any number zero, also one that is too large.
@@ -41,8 +45,8 @@ pub fn evaluate(text: &[u8], d: DurationRepr, number: u64) -> Length
         return zero();
     }
     let negative = d.negative != d.multiplier.negative;
-    let Shifted::Fits { seconds, attos } = shift_typed(text, d, number) else {
+    let Some(shifted) = shift_typed(text, d, number) else {
         return largest(negative);
     };
-    calculate_duration(negative, seconds, attos, coefficient)
+    calculate_duration(negative, shifted.seconds, shifted.attos, coefficient)
 }

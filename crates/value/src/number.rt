@@ -1,26 +1,28 @@
 // A number moved by a power of ten, as seconds and attoseconds. Digits move across the point and zeros are put in or
 // cut off, so that no number on the way is wider than 64 bits.
-ghost use Rattle.std.specs.Prelude.{◌≡◌, ◌+◌, ◌-◌, ◌*◌, ◌/◌, ◌≤◌, ◌<◌, ◌^◌};
-ghost use Rattle.rules.specs.Evaluation.{spelled, digits_of, attos};
-ghost use Rattle.value.specs.Numbers.{Counts, Spans, as_word, counted, cut_at, places, shifted_of, summed, with_attos};
+ghost use Rattle.std.specs.Prelude.{◌≡◌, true, ◌++◌, ◌+◌, ◌-◌, ◌*◌, ◌/◌, ◌≤◌, ◌<◌, ◌^◌, length, take, drop};
+ghost use Rattle.rules.specs.Common.{all};
+ghost use Rattle.rules.specs.SettingsAndUnitTable.{DIGIT, is};
+ghost use Rattle.rules.specs.Evaluation.{spelled, attos};
+ghost use Rattle.value.specs.Numbers.{Counts, as_word, counted, places, shifted_of, summed, with_attos};
 
-use crate::digits::{Word, append_digits, place_within, take_digits};
-use rules::{Fract, Whole};
+use crate::digits::{Taken, append};
 use tables::pow10;
 
-// A number of seconds with eighteen decimals, if its seconds fit a u64.
+// A number of seconds with eighteen decimals.
 #[derive(Clone, Copy)]
-pub enum Shifted {
-    Fits { seconds: u64, attos: u64 },
-    TooLarge,
+pub struct Shifted {
+    pub seconds: u64,
+    pub attos: u64,
 }
 
-// Where a point cuts the whole and the fraction digits, as places of the text, and the zeros before it.
+// The digits of a typed number, those before its point and those after it. A spoken one has none.
 #[derive(Clone, Copy)]
-struct Cut {
-    whole: usize,
-    fract: usize,
-    zeros: usize,
+pub struct Digits<'a> {
+    pub whole: &'a [u8],
+    pub fract: &'a [u8],
+    ghost whole_digits: { all (is DIGIT) whole.now ≡ true },
+    ghost fract_digits: { all (is DIGIT) fract.now ≡ true },
 }
 
 // How many decimals a number keeps.
@@ -35,199 +37,65 @@ const MOST_ZEROS: usize = 19;
 // As many digits a u64 holds whatever they are.
 const MOST_DIGITS: usize = 19;
 
-const LARGEST: u64 = 18_446_744_073_709_551_615;
-
-// Zero with zeros put in is zero, however many; any other number is tested before it is multiplied. Most numbers take no
+// Zero with zeros put in is zero, however many; any other number is tested by a division before it is multiplied,
+// since the library's checked product asks for the half that is not kept too, and a board's multiplier may have 32 bits. Most numbers take no
 // zeros, and are spared the division.
-fn put_zeros(number: u64, zeros: usize) -> Word
+fn put_zeros(number: u64, zeros: usize) -> Option<u64>
     ensures { result ≡ as_word (number * 10 ^ zeros) }
 {
-    if number == 0 {
-        return Word::Fits(0);
-    }
-    if zeros == 0 {
-        return Word::Fits(number);
+    if number == 0 || zeros == 0 {
+        return Some(number);
     }
     if MOST_ZEROS < zeros {
-        return Word::TooLarge;
+        return None;
     }
     let power = pow10(zeros);
-    if LARGEST / power < number {
-        return Word::TooLarge;
+    if u64::MAX / power < number {
+        return None;
     }
-    Word::Fits(number * power)
-}
-
-// The place in each span that so many digits, counted over both, come to, and the zeros that stand for those they lack.
-fn cut_at(whole: Whole, fract: Fract, point: usize) -> Cut
-    ensures { result ≡ cut_at whole fract point }
-{
-    let in_whole = place_within(whole.start, whole.end, point);
-    let more = point - (in_whole - whole.start);
-    let in_fract = place_within(fract.start, fract.end, more);
-    Cut {
-        whole: in_whole,
-        fract: in_fract,
-        zeros: more - (in_fract - fract.start),
-    }
-}
-
-// What is left of a, if anything is.
-fn saturating_sub(a: usize, b: usize) -> usize
-    ensures { result ≡ a - b }
-{
-    if a < b {
-        return 0;
-    }
-    a - b
-}
-
-// Whole and fraction digits as one number, after the digits that spelled so_far.
-fn typed_digits(so_far: u64, text: &[u8], whole: Whole, fract: Fract) -> Word
-    requires { Spans text.now whole fract }
-    ensures { result ≡ as_word (spelled so_far (digits_of text.now whole fract)) }
-{
-    let Word::Fits(front) = append_digits(so_far, text, whole.start, whole.end) else {
-        return Word::TooLarge;
-    };
-    append_digits(front, text, fract.start, fract.end)
-}
-
-// The same of a number that may have many digits. The sum of those that start with no `0` stops at the nineteenth, and what is
-// left goes on from there.
-fn whole_digits(text: &[u8], whole: Whole, fract: Fract, number: u64) -> Word
-    requires spans { Spans text.now whole fract }
-    requires number_value { number ≡ summed 0 (digits_of text.now whole fract) }
-    ensures { result ≡ as_word (spelled 0 (digits_of text.now whole fract)) }
-{
-    let start = whole.start;
-    if whole.end - start >= MOST_DIGITS {
-        if text[start] != b'0' {
-            let rest = Whole {
-                start: start + MOST_DIGITS,
-                end: whole.end,
-            };
-            return typed_digits(number, text, rest, fract);
-        }
-    }
-    typed_digits(0, text, whole, fract)
-}
-
-// The digits before a point, and zeros.
-fn seconds_before(text: &[u8], whole: Whole, fract: Fract, zeros: usize) -> Word
-    requires { Spans text.now whole fract }
-    ensures { result ≡ as_word (spelled 0 (digits_of text.now whole fract) * 10 ^ zeros) }
-{
-    let Word::Fits(number) = typed_digits(0, text, whole, fract) else {
-        return Word::TooLarge;
-    };
-    put_zeros(number, zeros)
-}
-
-// The first digits after a point, as many as there is room for, and zeros. Often there are none, or they fill the room.
-fn attos_after(text: &[u8], whole: Whole, fract: Fract, room: usize) -> u64
-    requires spans { Spans text.now whole fract }
-    requires room_bound { room ≤ 18 }
-    ensures { result ≡ places room (digits_of text.now whole fract) }
-{
-    let front = take_digits(0, room, text, whole.start, whole.end);
-    let both = take_digits(front.number, front.room, text, fract.start, fract.end);
-    if both.number == 0 {
-        return 0;
-    }
-    if both.room == 0 {
-        return both.number;
-    }
-    both.number * pow10(both.room)
-}
-
-// Any number. The point stands after the whole digits and moves; where it would move past the first of them, zeros come
-// before the decimals and leave less room.
-fn shift_large(text: &[u8], whole: Whole, fract: Fract, up: u32, down: u32) -> Shifted
-    requires { Spans text.now whole fract }
-    ensures { result ≡ shifted_of (attos (spelled 0 (digits_of text.now whole fract)) (fract.end - fract.start) up down) }
-{
-    let before = whole.end - whole.start + up as usize;
-    let after = down as usize;
-    let cut = cut_at(whole, fract, saturating_sub(before, after));
-    let front = Whole {
-        start: whole.start,
-        end: cut.whole,
-    };
-    let front_fract = Fract {
-        start: fract.start,
-        end: cut.fract,
-    };
-    let Word::Fits(seconds) = seconds_before(text, front, front_fract, cut.zeros) else {
-        return Shifted::TooLarge;
-    };
-    let rest = Whole {
-        start: cut.whole,
-        end: whole.end,
-    };
-    let rest_fract = Fract {
-        start: cut.fract,
-        end: fract.end,
-    };
-    let room = saturating_sub(DECIMALS, saturating_sub(after, before));
-    Shifted::Fits {
-        seconds,
-        attos: attos_after(text, rest, rest_fract, room),
-    }
+    Some(number * power)
 }
 
 // A number with no decimals, if its seconds fit.
-fn seconds_alone(word: Word) -> Shifted
+fn seconds_alone(word: Option<u64>) -> Option<Shifted>
     ensures { result ≡ with_attos word 0 }
 {
-    let Word::Fits(seconds) = word else {
-        return Shifted::TooLarge;
-    };
-    Shifted::Fits { seconds, attos: 0 }
-}
-
-// A number of which all digits are seconds.
-fn shift_whole(text: &[u8], whole: Whole, fract: Fract, number: u64) -> Shifted
-    requires spans { Spans text.now whole fract }
-    requires number_value { number ≡ summed 0 (digits_of text.now whole fract) }
-    ensures { result ≡ shifted_of (spelled 0 (digits_of text.now whole fract) * 10 ^ 18) }
-{
-    seconds_alone(whole_digits(text, whole, fract, number))
+    word.map(|seconds| Shifted { seconds, attos: 0 })
 }
 
 // A number with zeros put in.
-fn raise(number: u64, zeros: usize) -> Shifted
+fn raise(number: u64, zeros: usize) -> Option<Shifted>
     ensures { result ≡ shifted_of (number * 10 ^ zeros * 10 ^ 18) }
 {
     seconds_alone(put_zeros(number, zeros))
 }
 
 // A number of which the last digits are decimals. Beyond eighteen of them there are no seconds, and the last are cut off.
-fn lower(number: u64, decimals: usize) -> Shifted
+fn lower(number: u64, decimals: usize) -> Option<Shifted>
     requires { number < 10 ^ 19 }
     ensures { result ≡ shifted_of (number * 10 ^ 18 / 10 ^ decimals) }
 {
     if decimals <= DECIMALS {
         let power = pow10(decimals);
-        return Shifted::Fits {
+        return Some(Shifted {
             seconds: number / power,
             attos: number % power * pow10(DECIMALS - decimals),
-        };
+        });
     }
     if decimals <= MOST_DECIMALS {
-        return Shifted::Fits {
+        return Some(Shifted {
             seconds: 0,
             attos: number / pow10(decimals - DECIMALS),
-        };
+        });
     }
-    Shifted::Fits {
+    Some(Shifted {
         seconds: 0,
         attos: 0,
-    }
+    })
 }
 
 // A number that fits moves by word arithmetic, either way.
-fn shift_word(number: u64, before: usize, after: usize) -> Shifted
+fn shift_word(number: u64, before: usize, after: usize) -> Option<Shifted>
     requires { number < 10 ^ 19 }
     ensures { result ≡ shifted_of (number * 10 ^ (18 + before) / 10 ^ after) }
 {
@@ -237,28 +105,114 @@ fn shift_word(number: u64, before: usize, after: usize) -> Shifted
     raise(number, before - after)
 }
 
-// The number times ten to the power up - down. Most numbers have few digits, and then their sum is all of them. A spoken one
-// has none, and is 1.
-pub fn shift_number(
-    text: &[u8],
-    whole: Whole,
-    fract: Fract,
-    number: u64,
-    up: u32,
-    down: u32,
-) -> Shifted
-    requires spans { Spans text.now whole fract }
-    requires counts { Counts number (digits_of text.now whole fract) }
-    ensures { result ≡ shifted_of (attos (counted number (digits_of text.now whole fract)) (fract.end - fract.start) up down) }
-{
-    let behind = fract.end - fract.start;
-    let before = up as usize;
-    let after = behind + down as usize;
-    if whole.end - whole.start + behind <= MOST_DIGITS {
-        return shift_word(number, before, after);
+impl<'a> Digits<'a> {
+    // Both as one number, after the digits that spelled so_far.
+    fn append_to(self, so_far: u64) -> Option<u64>
+        ensures { result ≡ as_word (spelled so_far (self.entry.whole.now ++ self.entry.fract.now)) }
+    {
+        let front = append(so_far, self.whole)?;
+        append(front, self.fract)
     }
-    if before == after {
-        return shift_whole(text, whole, fract, number);
+
+    // The same of a number that may have many digits. The sum of those that start with no `0` stops at the nineteenth, and what is
+    // left goes on from there.
+    fn spelled_of(self, number: u64) -> Option<u64>
+        requires { number ≡ summed 0 (self.whole.now ++ self.fract.now) }
+        ensures { result ≡ as_word (spelled 0 (self.entry.whole.now ++ self.entry.fract.now)) }
+    {
+        let whole = self.whole;
+        if whole.len() >= MOST_DIGITS && whole[0] != b'0' {
+            let rest = Digits {
+                whole: &whole[MOST_DIGITS..],
+                fract: self.fract,
+            };
+            return rest.append_to(number);
+        }
+        self.append_to(0)
     }
-    shift_large(text, whole, fract, up, down)
+
+    // The first so many digits, counted over both, and the others.
+    fn split_at(self, point: usize) -> (Digits<'a>, Digits<'a>)
+        ensures front { result.0.whole.now ++ result.0.fract.now ≡ take point (self.entry.whole.now ++ self.entry.fract.now) }
+        ensures back { result.1.whole.now ++ result.1.fract.now ≡ drop point (self.entry.whole.now ++ self.entry.fract.now) }
+    {
+        let in_whole = point.min(self.whole.len());
+        let in_fract = (point - in_whole).min(self.fract.len());
+        let (whole_front, whole_back) = self.whole.split_at(in_whole);
+        let (fract_front, fract_back) = self.fract.split_at(in_fract);
+        let front = Digits {
+            whole: whole_front,
+            fract: fract_front,
+        };
+        let back = Digits {
+            whole: whole_back,
+            fract: fract_back,
+        };
+        (front, back)
+    }
+
+    // The digits before a point, and zeros.
+    fn seconds(self, zeros: usize) -> Option<u64>
+        ensures { result ≡ as_word (spelled 0 (self.entry.whole.now ++ self.entry.fract.now) * 10 ^ zeros) }
+    {
+        let number = self.append_to(0)?;
+        put_zeros(number, zeros)
+    }
+
+    // The first digits after a point, as many as there is room for, and zeros. Often there are none, or they fill the room.
+    fn attos(self, room: usize) -> u64
+        requires { room ≤ 18 }
+        ensures { result ≡ places room (self.entry.whole.now ++ self.entry.fract.now) }
+    {
+        let none = Taken { number: 0, room };
+        let both = none.then(self.whole).then(self.fract);
+        if both.number == 0 || both.room == 0 {
+            return both.number;
+        }
+        both.number * pow10(both.room)
+    }
+
+    // Any number. The point stands after the whole digits and moves; where it would move past the first of them, zeros come
+    // before the decimals and leave less room.
+    fn shift_large(self, up: u32, down: u32) -> Option<Shifted>
+        ensures { result ≡ shifted_of (attos (spelled 0 (self.entry.whole.now ++ self.entry.fract.now)) (length self.entry.fract.now) up down) }
+    {
+        let before = self.whole.len() + up as usize;
+        let after = down as usize;
+        let point = before.saturating_sub(after);
+        let digits = self.whole.len() + self.fract.len();
+        let (front, back) = self.split_at(point);
+        let seconds = front.seconds(point.saturating_sub(digits))?;
+        let room = DECIMALS.saturating_sub(after.saturating_sub(before));
+        Some(Shifted {
+            seconds,
+            attos: back.attos(room),
+        })
+    }
+
+    // A number of which all digits are seconds.
+    fn shift_whole(self, number: u64) -> Option<Shifted>
+        requires { number ≡ summed 0 (self.whole.now ++ self.fract.now) }
+        ensures { result ≡ shifted_of (spelled 0 (self.entry.whole.now ++ self.entry.fract.now) * 10 ^ 18) }
+    {
+        seconds_alone(self.spelled_of(number))
+    }
+
+    // The number times ten to the power up - down. Most numbers have few digits, and then their sum is all of them. A spoken one
+    // has none, and is 1.
+    pub fn shift(self, number: u64, up: u32, down: u32) -> Option<Shifted>
+        requires { Counts number (self.whole.now ++ self.fract.now) }
+        ensures { result ≡ shifted_of (attos (counted number (self.entry.whole.now ++ self.entry.fract.now)) (length self.entry.fract.now) up down) }
+    {
+        let behind = self.fract.len();
+        let before = up as usize;
+        let after = behind + down as usize;
+        if self.whole.len() + behind <= MOST_DIGITS {
+            return shift_word(number, before, after);
+        }
+        if before == after {
+            return self.shift_whole(number);
+        }
+        self.shift_large(up, down)
+    }
 }

@@ -1,8 +1,9 @@
 -- Numbers that bytes spell, low byte first. Assumes nothing.
-use Rattle.std.specs.Prelude.{◌≡◌, refl, Bool, true, false, List, [], ◌∷◌, ◌++◌, ℕ, zero, suc, ◌+◌, ◌*◌, ◌^◌, ◌≤◌, ◌<◌, leb, length, get_or, take, drop}
-use Rattle.std.proofs.Common.{mul-add, mul_assoc, mul_comm, mul-le-mul, add_assoc, le_refl, le_of_suc-le-suc, pow-suc, arith, lit<, pow-add, pow_mono, length-take, length-drop, leb-true, leb-false, drop-cons, drop-drop, take-add, get_or-take, get_or-drop}
+use Rattle.std.specs.Prelude.{◌≡◌, refl, Bool, true, false, List, [], ◌∷◌, ◌++◌, ℕ, zero, suc, ◌+◌, ◌*◌, ◌^◌, ◌≤◌, ◌<◌, leb, length, get_or, slice_index, take, drop}
+use Rattle.std.proofs.Common.{mul-add, mul_assoc, mul_comm, mul-le-mul, add_assoc, le_refl, le_of_suc-le-suc, pow-suc, add-one, arith, lit<, pow-add, pow_mono, length-take, length-drop, leb-true, leb-false, drop-cons, drop-drop, take-add, get_or-take, get_or-drop}
 use Rattle.std.proofs.Math.Nat.{pow-succ'}
 use Rattle.std.proofs.Math.ListN.{get_or-eq_default}
+use Rattle.std.specs.Int.{byte_worth, sum_through}
 use Rattle.rules.specs.SettingsAndUnitTable.{low_first}
 use Rattle.rules.specs.Laws.Lists.{Bytes}
 
@@ -11,12 +12,6 @@ low_first_append : (xs ys : List ℕ) → low_first (xs ++ ys) ≡ low_first xs 
 unfolding low_first
 low_first_append [] ys = omega arith
 low_first_append (b ∷ xs) ys = rw (low_first_append xs ys, mul-add, pow-succ', mul_assoc, add_assoc)
-
--- from a place on, the number of twice as many bytes is that of one half and that of the other
-pub low_first_twice : (l : List ℕ) (at k : ℕ) → at + k ≤ length l → low_first (take (k + k) (drop at l)) ≡ low_first (take k (drop at l)) + 256 ^ k * low_first (take k (drop (at + k) l))
-low_first_twice l at k h =
-    let full : length (take k (drop at l)) ≡ k = simp (length-take, length-drop) (omega arith) in
-    rw (take-add k k (drop at l), low_first_append (take k (drop at l)) (take k (drop k (drop at l))), full, drop-drop k at l)
 
 pub low_first_byte : (l : List ℕ) (at : ℕ) → at < length l → low_first (take 1 (drop at l)) ≡ get_or l at 0
 unfolding low_first
@@ -71,3 +66,9 @@ pub above_fits : (word bits byte : ℕ) → word < 2 ^ bits → bits ≤ 56 → 
 above_fits word bits byte h few b =
     let most : byte * 2 ^ bits ≤ 255 * 2 ^ bits = mul-le-mul (le_of_suc-le-suc b) (le_refl (2 ^ bits)) in
     omega (arith, pow-add 2 8 bits, pow_mono {i = 8 + bits} {j = 64} (omega arith))
+
+-- the library reads the same number of so many bytes and one
+pub read_low_first : (l : List ℕ) (n : ℕ) → n < length l → sum_through (λ i. byte_worth i (slice_index l i)) n ≡ low_first (take (n + 1) l)
+unfolding low_first
+read_low_first l zero h = rw (low_first_more l 0 h) (omega arith)
+read_low_first l (suc n) h = rw (low_first_more l (suc n) h, read_low_first l n (omega arith), eight_bits (suc n), add-one n)

@@ -31,26 +31,26 @@ const FROM_A: u64 = 2_242_545_357_980_376_863;
 
 const PAST_Z: u64 = 361_700_864_190_383_365;
 
-// The number that two bytes spell, low byte first, from this place on; then four, then eight, from halves: a whole word is read at once.
+// The number that two bytes spell, low byte first, from this place on; then four, then eight: a whole word is read at once.
 pub fn short_at(bytes: &[u8], at: usize) -> u16
     requires { at + 2 ≤ length bytes.now }
     ensures { result ≡ low_first (take 2 (drop at bytes.now)) }
 {
-    bytes[at] as u16 + bytes[at + 1] as u16 * 256
+    u16::from_le_bytes(*bytes[at..].first_chunk().unwrap())
 }
 
 pub fn half_at(bytes: &[u8], at: usize) -> u32
     requires { at + 4 ≤ length bytes.now }
     ensures { result ≡ low_first (take 4 (drop at bytes.now)) }
 {
-    short_at(bytes, at) as u32 + short_at(bytes, at + 2) as u32 * 65_536
+    u32::from_le_bytes(*bytes[at..].first_chunk().unwrap())
 }
 
 pub fn word_at(bytes: &[u8], at: usize) -> u64
     requires { at + 8 ≤ length bytes.now }
     ensures { result ≡ low_first (take 8 (drop at bytes.now)) }
 {
-    half_at(bytes, at) as u64 + half_at(bytes, at + 4) as u64 * 4_294_967_296
+    u64::from_le_bytes(*bytes[at..].first_chunk().unwrap())
 }
 
 // A word with one byte more, above the bits that it has.

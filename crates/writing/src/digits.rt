@@ -1,5 +1,5 @@
 // The digits that the writer writes.
-ghost use Rattle.std.specs.Prelude.{◌≡◌, ◌+◌, ◌≤◌, ◌<◌, ◌^◌, length};
+ghost use Rattle.std.specs.Prelude.{◌≡◌, ◌+◌, ◌≤◌, ◌<◌, length};
 ghost use Rattle.rules.specs.WriterAndShiftTotal.{decimals, no_trailing_zeros, whole_digits, fraction_digits};
 ghost use Rattle.writing.specs.Laid.{laid};
 ghost use Rattle.writing.specs.Digits.{Digits};
@@ -27,10 +27,11 @@ fn few_digits(number: u64) -> usize
     requires { number < 10000 }
     ensures { Digits number result }
 {
-    if number < 100 {
-        if number < 10 { 1 } else { 2 }
-    } else {
-        if number < 1_000 { 3 } else { 4 }
+    match number {
+        0..=9 => 1,
+        10..=99 => 2,
+        100..=999 => 3,
+        _ => 4,
     }
 }
 
@@ -50,26 +51,16 @@ pub fn whole(seconds: u64) -> Decimal
     }
 }
 
-// So many digits of a number less trailing zeros.
-fn trimmed(number: u64, digits: usize) -> Decimal
-    ensures { (no_trailing_zeros (decimals digits number) ≡ decimals result.count result.number) × (result.count ≤ digits) }
+// Digits less trailing zeros.
+fn trimmed(digits: Decimal) -> Decimal
+    ensures { (no_trailing_zeros (decimals digits.count digits.number) ≡ decimals result.count result.number) × (result.count ≤ digits.count) }
 {
-    let mut count = digits;
-    let mut rest = number;
-    while count > 0 {
-        if rest % 10 != 0 {
-            return Decimal {
-                number: rest,
-                count,
-            };
-        }
-        rest = rest / 10;
-        count -= 1;
+    let mut left = digits;
+    while left.count > 0 && left.number % 10 == 0 {
+        left.number = left.number / 10;
+        left.count -= 1;
     }
-    Decimal {
-        number: rest,
-        count,
-    }
+    left
 }
 
 // Nine digits less trailing zeros.
@@ -83,12 +74,21 @@ pub fn fraction(nanoseconds: u32) -> Decimal
         };
     }
     if nanoseconds % THREE_DIGITS != 0 {
-        return trimmed(nanoseconds as u64, NANOSECOND_DIGITS);
+        return trimmed(Decimal {
+            number: nanoseconds as u64,
+            count: NANOSECOND_DIGITS,
+        });
     }
     if nanoseconds % SIX_DIGITS != 0 {
-        return trimmed((nanoseconds / THREE_DIGITS) as u64, NANOSECOND_DIGITS - 3);
+        return trimmed(Decimal {
+            number: (nanoseconds / THREE_DIGITS) as u64,
+            count: NANOSECOND_DIGITS - 3,
+        });
     }
-    trimmed((nanoseconds / SIX_DIGITS) as u64, NANOSECOND_DIGITS - 6)
+    trimmed(Decimal {
+        number: (nanoseconds / SIX_DIGITS) as u64,
+        count: NANOSECOND_DIGITS - 6,
+    })
 }
 
 // The digits at a place, from the last to the first.
@@ -96,12 +96,9 @@ pub fn put(digits: Decimal, buffer: &mut [u8], place: usize)
     requires { place + digits.count ≤ length buffer.old }
     ensures { buffer.new ≡ laid buffer.old place (decimals digits.count digits.number) }
 {
-    let mut left = digits.count;
     let mut rest = digits.number;
-    while left > 0 {
-        left -= 1;
-        let at = place + left;
-        buffer[at] = 48 + (rest % 10) as u8;
+    for left in (0..digits.count).rev() {
+        buffer[place + left] = b'0' + (rest % 10) as u8;
         rest = rest / 10;
     }
 }

@@ -10,16 +10,10 @@ use answers::{done, refusal};
 use lengths::duration::well_formed;
 use rules::{Answer, Length, Refusal};
 
-const PLUS: u8 = 43;
-
-const MINUS: u8 = 45;
-
-const POINT: u8 = 46;
-
 pub fn sign_byte(negative: bool) -> u8
     ensures { result ≡ sign_byte negative }
 {
-    if negative { MINUS } else { PLUS }
+    if negative { b'-' } else { b'+' }
 }
 
 // How many bytes the decimals take: none, or a point and they.
@@ -38,7 +32,7 @@ pub fn put_fraction(decimals: Decimal, buffer: &mut [u8], point: usize)
     if decimals.count == 0 {
         return;
     }
-    buffer[point] = POINT;
+    buffer[point] = b'.';
     put(decimals, buffer, point + 1);
 }
 

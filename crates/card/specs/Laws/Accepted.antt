@@ -1,7 +1,7 @@
 -- What an accepted card has besides accepted settings: rows whose products are in range, names that are found where they stand, and numerals
 -- of letters.
 -- Assumes nothing.
-use Rattle.std.specs.Prelude.{◌≡◌, true, false, ℕ, ◌%◌, ◌≤◌, ◌<◌, eqb, leb, length}
+use Rattle.std.specs.Prelude.{◌≡◌, true, false, ℕ, ◌%◌, ◌≤◌, ◌<◌, eqb, leb, length, Some, None}
 use Rattle.std.proofs.Common.{sym, ◌∙◌, arith}
 use Rattle.std.proofs.Math.Bool.{false≢true}
 use mathlib.Core.List.{List, [], ◌∷◌}
@@ -9,7 +9,6 @@ use borrow.Author.Tests.{le-leb, leb-true, eq-eqb, eqb-true}
 use Rattle.rules.specs.declared.Settings.{Settings}
 use Rattle.rules.specs.declared.Refusal.{Refusal}
 use Rattle.rules.specs.declared.Refusal.TheVariants.{TableSize, BadRow, LineSize, BadLineRow, NumeralsSize}
-use Rattle.rules.specs.declared.Found.TheVariants.{Row, Nowhere}
 use Rattle.rules.specs.Common.{all, starts}
 use Rattle.rules.specs.NumbersHandedBack.{got, ◌>>◌, unless}
 use Rattle.rules.specs.SettingsAndUnitTable.{LETTER, is, settings_check, most_rows, row_size, rows, row, name, product, in_range, row_right, row_accepted, numeral_accepted, numeral_accepted_in, whole_rows_in, units_check, units_check_in, table_check, line_check, numerals_check, numerals_check_in, Card, card_check, lookup}
@@ -89,12 +88,12 @@ module _ (card : Card) (good : card_check card ≡ got tt) where
 -- ---- lookup
 
 -- so a row that passes document 01's tests is the one that its name finds, whatever the other rows are: no earlier row has the name
-pub own_name : (s : Settings) (table : List ℕ) (i : ℕ) → i < rows table → row_right s table i ≡ true → lookup table (name (row table i)) ≡ Row i
+pub own_name : (s : Settings) (table : List ℕ) (i : ℕ) → i < rows table → row_right s table i ≡ true → lookup table (name (row table i)) ≡ Some i
 own_name s table i below right =
     past table (name (row table i)) i (omega arith) (right_unnamed s table i right) ∙ lookup_here table (name (row table i)) i below (same_refl (name (row table i)))
 
 -- and nothing has no name
-pub lookup_empty : (s : Settings) (table : List ℕ) → UnitsGood s table → lookup table [] ≡ Nowhere
+pub lookup_empty : (s : Settings) (table : List ℕ) → UnitsGood s table → lookup table [] ≡ None
 lookup_empty s table good =
     unnamed table []
     (λ i below. name_some (row table i) (length_row table i below) (right_padded s table i (rows_right s table good i below)))
@@ -115,7 +114,7 @@ module _ (numerals : List ℕ) (good : numerals_check numerals ≡ got tt) where
   numeral_lettered i below = formed_name _ _ numerals i (numeral_good i below)
 
   -- what begins with no letter is no numeral
-  pub lookup_lettered : (wanted : List ℕ) → starts (is LETTER) wanted ≡ false → lookup numerals wanted ≡ Nowhere
+  pub lookup_lettered : (wanted : List ℕ) → starts (is LETTER) wanted ≡ false → lookup numerals wanted ≡ None
   unfolding starts
   lookup_lettered [] other =
       unnamed numerals [] (λ i below. name_some (row numerals i) (length_row numerals i below) (numeral_padded i below))

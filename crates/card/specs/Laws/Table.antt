@@ -1,14 +1,15 @@
 -- Laws of the table check: row by row, and the tests that a right row and an accepted one passed. Assumes nothing.
-use Rattle.std.specs.Prelude.{◌≡◌, refl, Bool, not, ◌&&◌, ◌||◌, List, [], ◌∷◌, eqb, length, drop}
+use Rattle.std.specs.Prelude.{◌≡◌, refl, Bool, not, ◌&&◌, ◌||◌, List, [], ◌∷◌, cond, eqb, length, take, drop}
 use Rattle.std.proofs.Math.Path.{sym, ap}
-use Rattle.std.proofs.Common.{ap₂, ◌∙◌, add-zero, add-suc, suc-add, sub-eq-zero_of_le, arith}
-use Rattle.std.proofs.Math.Bool.{true, false, and_comm}
+use Rattle.std.specs.List.{list_any, range_with_len, prefix_len}
+use Rattle.std.proofs.Common.{ap₂, ◌∙◌, drop-drop, zero-add, add-zero, add-suc, suc-add, sub-eq-zero_of_le, arith}
+use Rattle.std.proofs.Math.Bool.{true, false, and_comm, or_comm}
 use Prim.Native.Nat.{ℕ, zero, suc, ◌+◌, ◌*◌, ◌-◌, ◌/◌, ◌%◌, ◌≤◌, ◌<◌, zero-le}
 use Rattle.std.proofs.Math.Nat.{sub-zero}
 use Rattle.std.proofs.Math.Numerals.{add-one}
 use Rattle.std.proofs.Math.Dec.{ltb}
 use borrow.Author.Count.{below_more}
-use borrow.Author.Tests.{lt-ltb, le-ltb, le-leb, lt-leb, eq-eqb, eqb-true, ne_eqb, not-true}
+use borrow.Author.Tests.{lt-ltb, le-ltb, le-leb, lt-leb, eq-eqb, eqb-true, eqb-false, ltb-true, ltb-false, ne_eqb, not-true}
 use Rattle.rules.specs.declared.Settings.{Settings}
 use Rattle.rules.specs.declared.Refusal.{Refusal}
 use Rattle.rules.specs.Common.{when◌then◌else◌, all, between, same}
@@ -17,12 +18,14 @@ use Rattle.rules.specs.SettingsAndUnitTable.{last_kind, second_kind, zeros_at, r
 use Rattle.rules.proofs.Laws.Choices.{and_left, and_right}
 use Rattle.rules.specs.Laws.Lists.{Bytes}
 use Rattle.rules.proofs.Laws.RowsCheck.{rows_alike}
-use Rattle.rules.proofs.Laws.Tests.{and_assoc, and_true, and_false, or_true, or_false, same_test, between_from, between_to, between_in}
+use Rattle.rules.proofs.Laws.Tests.{and_assoc, or_assoc, and_true, and_false, or_true, or_false, same_test, between_from, between_to, between_in}
 use Rattle.words.specs.LowFirst.{bytes_part}
 use Rattle.settings.specs.Sets.{bytes_of, passes}
+use Rattle.settings.specs.declared.sets.AsciiSet.{AsciiSet}
 use Rattle.card.specs.declared.row.Further.TheVariants.{Nothing, NotLedByE, AsciiSeconds}
 use Rattle.card.specs.declared.row.RowRule.{RowRule}
 use Rattle.rows.specs.Named.{padded}
+use Rattle.rows.proofs.Chains.{cut}
 use Rattle.card.specs.Fields.{Letterless, Simple, unnameable, no_letters, asked_further, name_right, fields_right, alone, ruled, tested, tabled}
 use Rattle.card.specs.Laws.Names.{names_alike, letters_outside}
 use Rattle.card.specs.Laws.Unnameable.{outside_names, outside_letters}
@@ -40,9 +43,18 @@ module _ (table wanted : List ℕ) where
       i
       (omega arith)
 
-  pub named_not_yet : (n : ℕ) → same (name (row table n)) wanted ≡ false → named table wanted n ≡ false → named table wanted (n + 1) ≡ false
+  -- any of them, in order
+  pub any_earlier : (n : ℕ) → list_any (λ i. same (name (row table i)) wanted) (range_with_len 0 n) ≡ named table wanted n
   unfolding named_in
-  named_not_yet n other others = rw (add-one n, other) others
+  any_earlier n = go 0 n ∙ ap (named table wanted) (zero-add n)
+    where
+      go : (a n : ℕ) → (named table wanted a || list_any (λ i. same (name (row table i)) wanted) (range_with_len a n)) ≡ named table wanted (a + n)
+      go a zero = or_false (named table wanted a) ∙ ap (named table wanted) (sym (add-zero a))
+      go a (suc n) =
+          sym (or_assoc (named table wanted a) (same (name (row table a)) wanted) (list_any (λ i. same (name (row table i)) wanted) (range_with_len (a + 1) n)))
+          ∙ ap (λ t. t || list_any (λ i. same (name (row table i)) wanted) (range_with_len (a + 1) n)) (or_comm (named table wanted a) (same (name (row table a)) wanted) ∙ rw (add-one a))
+          ∙ go (a + 1) n
+          ∙ ap (named table wanted) (omega arith)
 
 -- ---- row by row
 
@@ -50,6 +62,29 @@ module _ (table wanted : List ℕ) where
 unfoldable pub first_bad : (ℕ → Bool) → ℕ → ℕ → ℕ
 first_bad test i zero = i
 first_bad test i (suc n) = let more = first_bad test (suc i) n in when test i then more else i
+
+-- what is asked of each row is asked of the parts that the table is cut into
+pub bad_part : (asked : List ℕ → Bool) (table : List ℕ) → prefix_len asked (cut (rows table) row_size table) ≡ first_bad (λ i. asked (row table i)) 0 (rows table)
+unfolding first_bad when◌then◌else◌ row_in
+bad_part asked table = sym (go (rows table) 0 ∙ zero-add (prefix_len asked (cut (rows table) row_size table)))
+  where
+    go : (n i : ℕ) → first_bad (λ i. asked (row table i)) i n ≡ i + prefix_len asked (cut n row_size (drop (row_size * i) table))
+    go zero i = sym (add-zero i)
+    go (suc n) i =
+        let next : row_size * i + row_size ≡ row_size * suc i = omega arith in
+        rw (drop-drop row_size (row_size * i) table, next) (one (asked (take row_size (drop (row_size * i) table))) _ (go n (suc i)))
+      where
+        one :
+            (b : Bool) {more : ℕ} (others : ℕ) → more ≡ suc i + others
+            → (when b then more else i) ≡ i + cond b (1 + others) 0
+        one true others e = omega (arith, e)
+        one false others e = sym (add-zero i)
+
+-- the first of n rows that fails the test
+pub record First (test : ℕ → Bool) (n first : ℕ) : Type 0 where
+  pub most : first ≤ n
+  pub each : (j : ℕ) → j < first → test j ≡ true
+  pub here : first < n → test first ≡ false
 
 module _ (test : ℕ → Bool) where
   -- what the rows from i on give, of n in all
@@ -82,6 +117,43 @@ module _ (test : ℕ → Bool) where
   bad_after n (suc i) h each =
       rw (← (add-one i)) (sym (bad_next n i (omega arith) (each i (omega arith))) ∙ bad_after n i (omega arith) (λ j below. each j (omega arith)))
 
+  -- which row that is
+  pub first_found : (n : ℕ) → First test n (first_bad test 0 n)
+  unfolding first_bad when◌then◌else◌
+  first_found n =
+      let (low, most, each, here) = go n 0 in
+      record { most = omega (arith, most); each = λ j below. each j zero-le below; here = λ below. here (omega arith) }
+    where
+      go :
+          (n i : ℕ)
+          → (i ≤ first_bad test i n) × (first_bad test i n ≤ i + n) × ((j : ℕ) → i ≤ j → j < first_bad test i n → test j ≡ true) × (first_bad test i n < i + n → test (first_bad test i n) ≡ false)
+      go zero i = (omega arith, omega arith, λ j from below. absurd (omega arith), λ below. absurd (omega arith))
+      go (suc n) i = one (test i) refl (go n (suc i))
+        where
+          one :
+              (b : Bool) {more : ℕ} → test i ≡ b
+              → (suc i ≤ more) × (more ≤ suc i + n) × ((j : ℕ) → suc i ≤ j → j < more → test j ≡ true) × (more < suc i + n → test more ≡ false)
+              → let first = when b then more else i in
+              (i ≤ first) × (first ≤ i + suc n) × ((j : ℕ) → i ≤ j → j < first → test j ≡ true) × (first < i + suc n → test first ≡ false)
+          one true e (low, most, each, here) = (
+            omega arith,
+            omega arith,
+            λ j from below. apart j (eqb i j) refl from (λ further. each j further below),
+            λ below. here (omega arith),
+          )
+            where
+              apart : (j : ℕ) (same : Bool) → eqb i j ≡ same → i ≤ j → (suc i ≤ j → test j ≡ true) → test j ≡ true
+              apart j true is from further = rw (← (eqb-true i j is)) e
+              apart j false is from further = further (omega (arith, eqb-false i j is))
+          one false e more = (omega arith, omega arith, λ j from below. absurd (omega arith), λ below. e)
+
+  pub first_is : (n first : ℕ) → First test n first → first ≡ first_bad test 0 n
+  first_is n first f = go (ltb first n) refl ∙ bad_after n first f.most f.each
+    where
+      go : (b : Bool) → ltb first n ≡ b → first ≡ bad_from n first
+      go true e = sym (bad_here n first (ltb-true first n e) (f.here (ltb-true first n e)))
+      go false e = sym (bad_end n first (ltb-false first n e))
+
   -- the check refuses the first bad row
   module _ (bad : ℕ → Refusal) where
     checked : (n i : ℕ) → rows_check test bad i n ≡ (when ltb (first_bad test i n) (i + n) then refused (bad (first_bad test i n)) else got tt)
@@ -104,6 +176,27 @@ module _ (test : ℕ → Bool) where
     pub check_good : (n : ℕ) → n ≤ first_bad test 0 n → rows_check test bad 0 n ≡ got tt
     unfolding when◌then◌else◌
     check_good n h = checked n 0 ∙ rw (le-ltb (first_bad test 0 n) (0 + n) (omega arith))
+
+-- two tests of each row, the second of the rows that pass the first
+pub bad_both :
+    (test also both : ℕ → Bool) → ((i : ℕ) → both i ≡ (test i && also i))
+    → (n : ℕ) → first_bad also 0 (first_bad test 0 n) ≡ first_bad both 0 n
+bad_both test also both asked n =
+    let most : ℕ = first_bad test 0 n in
+    let first : ℕ = first_bad also 0 most in
+    let one : First test n most = first_found test n in
+    let other : First also most first = first_found also most in
+    first_is both n first (record {
+      most = omega (arith, one.most, other.most);
+      each = λ j below. rw (asked j, one.each j (omega (arith, other.most)), other.each j below);
+      here = λ below. fails (ltb first most) refl one other below;
+    })
+  where
+    fails : {most first : ℕ} (b : Bool) → ltb first most ≡ b → First test n most → First also most first → first < n → both first ≡ false
+    fails {most} {first} true e one other below = rw (asked first, other.here (ltb-true first most e), and_false)
+    fails {most} {first} false e one other below =
+        let last : first ≡ most = omega (arith, other.most, ltb-false first most e) in
+        rw (asked first, last, one.here (omega arith))
 
 -- ---- a table's check, by its size and its first bad row
 
@@ -261,39 +354,14 @@ ruled_alone rule table i =
     go true true true true false m f = sym (and_false (m && f))
     go true true true true true m f = sym (and_true (m && f))
 
--- a row as nearly all are has all that is asked by itself, but what is asked further
-pub simple_alone :
-    (rule : RowRule)
-    → Letterless (bytes_of rule.set)
-    → (r : List ℕ) → Bytes r
-    → Simple r
-    → asked_further rule.further r ≡ true
-    → alone rule r ≡ true
-unfolding alone name_right name
-simple_alone rule none r bytes simple further =
-    rw (
-      simple.0,
-      letters_outside (bytes_of rule.set) none (name r) (bytes_part r (name_size r) 1 bytes) simple.1,
-      simple.2,
-      further,
-    )
+-- a row as nearly all are has a right form
+pub simple_formed : (set : AsciiSet) → Letterless (bytes_of set) → (r : List ℕ) → Bytes r → Simple r → (name_right set r && fields_right r) ≡ true
+unfolding name_right name
+simple_formed set none r bytes simple = rw (simple.0, letters_outside (bytes_of set) none (name r) (bytes_part r (name_size r) 1 bytes) simple.1, simple.2)
 
 pub alone_padded : (rule : RowRule) (r : List ℕ) → alone rule r ≡ true → padded r ≡ true
 unfolding alone name_right
 alone_padded rule r good = and_left _ _ (and_left _ _ good)
-
-pub ruled_padded : (rule : RowRule) (table : List ℕ) (i : ℕ) → ruled rule table i ≡ true → padded (row table i) ≡ true
-unfolding ruled
-ruled_padded rule table i good = formed_padded _ _ table i (and_left _ _ good)
-
--- a row that fails by itself fails either way
-pub fails_tested : (rule : RowRule) (against : Bool) (table : List ℕ) (i : ℕ) → alone rule (row table i) ≡ false → tested rule against table i ≡ false
-fails_tested rule true table i fails = rw (ruled_alone rule table i, fails)
-fails_tested rule false table i fails = fails
-
-pub tested_padded : (rule : RowRule) (against : Bool) (table : List ℕ) (i : ℕ) → tested rule against table i ≡ true → padded (row table i) ≡ true
-tested_padded rule true table i good = ruled_padded rule table i good
-tested_padded rule false table i good = alone_padded rule (row table i) good
 
 -- names outside the set of bytes that no name holds: a row of units
 pub unit_ruled :

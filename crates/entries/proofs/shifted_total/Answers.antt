@@ -1,19 +1,16 @@
 -- `entries::shifted_total` meets its contract: 7, and then what a checked card gives. Assumes nothing.
-use mathlib.Core.Path.{refl, sym, ap, ◌∙◌}
-use mathlib.Core.Logic.{inl}
-use Rattle.settings.specs.Outcomes.{outcome}
+use Rattle.std.proofs.Common.{sym, ap, ◌∙◌}
+use Rattle.rules.specs.WhatEveryEntryOwes.{shift_answer, shifted_record}
 use Rattle.reading.specs.Shifts.{card_refuses, kept}
 use Rattle.entries.proofs.shifted_total.Goals as goal
 
-pub shifted_total_checked-requires : goal.shifted_total_checked-requires
-unfolding outcome
-shifted_total_checked-requires c = record { numerals_value = sym c.card_check.ensures ∙ ap outcome c.in-Accepted.is; beside = (inl refl, inl refl) }
-
-pub returns-in-Refused : goal.returns-in-Refused
-unfolding outcome
-returns-in-Refused c =
-    let laws = kept _ _ _ (card_refuses _ _ _ (sym c.card_check.ensures ∙ ap outcome c.in-Refused.is)) in
+pub returns-in-Err : goal.returns-in-Err
+returns-in-Err c =
+    let laws = kept _ _ _ (card_refuses _ _ _ (sym c.in-Err.ensures)) in
     (c.kept.ensures.0 ∙ laws.0, c.kept.ensures.1 ∙ laws.1)
 
-pub returns-in-Accepted : goal.returns-in-Accepted
-returns-in-Accepted c = c.shifted_total_checked.ensures
+pub returns-in-Ok : goal.returns-in-Ok
+returns-in-Ok c = (
+  c.shifted_total_checked.ensures.0 ∙ ap (λ card. shift_answer c.args.total card c.args.text.now) c.without_indexes-card.ensures,
+  c.shifted_total_checked.ensures.1 ∙ ap (λ card. shifted_record c.args.total card c.args.text.now) c.without_indexes-card.ensures,
+)

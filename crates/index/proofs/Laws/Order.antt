@@ -1,112 +1,79 @@
--- Laws of the order of names: of two names exactly one comes first, or they are one name; and it goes on from name to name. Assumes nothing.
-use Rattle.std.specs.Prelude.{◌≡◌, refl, Bool, true, false, List, [], ◌∷◌, ◌⊎◌, ℕ, ◌<◌, ltb}
-use Rattle.std.proofs.Common.{sym, ap, ◌∙◌, ⊎_elim, inl, inr, arith}
+-- Laws of the order of names: it is the library's order of lists of numbers, so that of two names exactly one comes first, or they are one name, and it
+-- goes on from name to name. Assumes nothing.
+use Rattle.std.specs.Prelude.{◌≡◌, refl, true, List, [], ◌∷◌, ℕ, ◌<◌}
+use Rattle.std.proofs.Common.{sym, ap, ◌∙◌, arith}
 use Rattle.std.proofs.lemmas.Bool.{false≢true}
-use borrow.Author.Tests.{ltb-true, ltb-false, lt-ltb, le-ltb}
+use Rattle.std.proofs.lemmas.Bool.Decides.{nat_tests}
+use Rattle.std.proofs.lemmas.Cmp.{nat_list_cmp_total, tied_itself}
+use Rattle.std.proofs.lemmas.Map.Lookups.{exact_bytes}
+use Rattle.std.specs.Cmp.Lexicographic.{slice_cmp}
+use Rattle.std.specs.Ordering.{nat_cmp, ordering_reverse}
+use borrow.Author.Tests.{lt-ltb, le-ltb}
 use Rattle.rules.specs.Common.{when◌then◌else◌}
-use Rattle.rules.proofs.Laws.Choices.{if_either}
-use Rattle.index.specs.declared.Order.{Order}
-use Rattle.index.specs.declared.Order.TheVariants.{Before, Same, After}
+use Rattle.std.specs.declared.cmp.Ordering.{Ordering}
+use Rattle.std.specs.declared.cmp.Ordering.TheVariants.{Less, Equal, Greater}
 use Rattle.index.specs.TheSortedIndex.{order, is_before, before}
+
+pub order_is : (a b : List ℕ) → slice_cmp nat_cmp a b ≡ order a b
+unfolding order when◌then◌else◌
+order_is [] [] = refl
+order_is [] (y ∷ b) = refl
+order_is (x ∷ a) [] = refl
+order_is (x ∷ a) (y ∷ b) = let rest = order_is a b in grind (arith, nat_tests)
 
 -- ---- one byte, and what is behind it
 
-module _ (a b : ℕ) (more bs : List ℕ) where
-  order_less : a < b → order (a ∷ more) (b ∷ bs) ≡ Before
-  unfolding order when◌then◌else◌
-  order_less h = rw (lt-ltb a b h)
-
-  order_more : b < a → order (a ∷ more) (b ∷ bs) ≡ After
-  unfolding order when◌then◌else◌
-  order_more h = rw (le-ltb a b (omega arith), lt-ltb b a h)
-
-  order_further : a ≡ b → order (a ∷ more) (b ∷ bs) ≡ order more bs
-  unfolding order when◌then◌else◌
-  order_further e = rw (le-ltb a b (omega arith), le-ltb b a (omega arith))
-
 pub before_less : (a b : ℕ) (more bs : List ℕ) → a < b → before (a ∷ more) (b ∷ bs) ≡ true
-unfolding before is_before
-before_less a b more bs h = rw (order_less a b more bs h)
+unfolding before is_before order when◌then◌else◌
+before_less a b more bs h = rw (lt-ltb a b h)
 
 pub before_further : (a b : ℕ) (more bs : List ℕ) → a ≡ b → before more bs ≡ true → before (a ∷ more) (b ∷ bs) ≡ true
-unfolding before
-before_further a b more bs e rest = rw (order_further a b more bs e) rest
-
--- what decided it
-before_why : (a b : ℕ) (more bs : List ℕ) → before (a ∷ more) (b ∷ bs) ≡ true → (a < b) ⊎ ((a ≡ b) × (before more bs ≡ true))
-unfolding before is_before
-before_why a b more bs e = go (ltb a b) refl (ltb b a) refl
-  where
-    go : (x : Bool) → ltb a b ≡ x → (y : Bool) → ltb b a ≡ y → (a < b) ⊎ ((a ≡ b) × (before more bs ≡ true))
-    go true less y m = inl (ltb-true a b less)
-    go false less true m = absurd (false≢true (ap is_before (sym (order_more a b more bs (ltb-true b a m))) ∙ e))
-    go false less false m =
-        let alike : a ≡ b = omega (arith, ltb-false a b less, ltb-false b a m) in
-        inr (alike, ap is_before (sym (order_further a b more bs alike)) ∙ e)
+unfolding before order when◌then◌else◌
+before_further a b more bs e rest = rw (le-ltb a b (omega arith), le-ltb b a (omega arith)) rest
 
 -- ---- which comes first
 
-pub data Compared (a b : List ℕ) : Order → Type 0 where
-  comes_before : before a b ≡ true → Compared a b Before
-  is_same : a ≡ b → Compared a b Same
-  comes_after : before b a ≡ true → Compared a b After
+-- with the two exchanged it is the other way round
+turned : (a b : List ℕ) → order b a ≡ ordering_reverse (order a b)
+turned a b = sym (order_is b a) ∙ nat_list_cmp_total.antisymm b a ∙ ap ordering_reverse (order_is a b)
+
+pub says_before : (a b : List ℕ) → order a b ≡ Less → before a b ≡ true
+unfolding before is_before
+says_before a b e = rw e
+
+pub says_same : (a b : List ℕ) → order a b ≡ Equal → a ≡ b
+says_same a b e = exact_bytes a b (order_is a b ∙ e)
+
+pub says_after : (a b : List ℕ) → order a b ≡ Greater → before b a ≡ true
+says_after a b e = says_before b a (turned a b ∙ ap ordering_reverse e)
+
+pub data Compared (a b : List ℕ) : Ordering → Type 0 where
+  comes_before : before a b ≡ true → Compared a b Less
+  is_same : a ≡ b → Compared a b Equal
+  comes_after : before b a ≡ true → Compared a b Greater
 
 pub compared : (a b : List ℕ) → Compared a b (order a b)
-unfolding order before is_before
-compared [] [] = is_same refl
-compared [] (b ∷ bs) = comes_before refl
-compared (a ∷ more) [] = comes_after refl
-compared (a ∷ more) (b ∷ bs) =
-    if_either (Compared (a ∷ more) (b ∷ bs)) (ltb a b) (λ e. comes_before (before_less a b more bs (ltb-true a b e)))
-    (λ not_less.
-    if_either (Compared (a ∷ more) (b ∷ bs)) (ltb b a) (λ e. comes_after (before_less b a bs more (ltb-true b a e)))
-    (λ not_more. behind (omega (arith, ltb-false a b not_less, ltb-false b a not_more)) (compared more bs)))
+compared a b = go (order a b) refl
   where
-    behind : a ≡ b → {o : Order} → Compared more bs o → Compared (a ∷ more) (b ∷ bs) o
-    behind e (comes_before h) = comes_before (before_further a b more bs e h)
-    behind e (is_same h) = is_same (cc)
-    behind e (comes_after h) = comes_after (before_further b a bs more (sym e) h)
+    go : (o : Ordering) → order a b ≡ o → Compared a b o
+    go Less e = comes_before (says_before a b e)
+    go Equal e = is_same (says_same a b e)
+    go Greater e = comes_after (says_after a b e)
 
--- what the order says
-module _ (a b : List ℕ) where
-  pub says_before : order a b ≡ Before → before a b ≡ true
-  says_before o = go (rw o at (compared a b))
-    where
-      go : Compared a b Before → before a b ≡ true
-      go (comes_before e) = e
-
-  pub says_same : order a b ≡ Same → a ≡ b
-  says_same o = go (rw o at (compared a b))
-    where
-      go : Compared a b Same → a ≡ b
-      go (is_same e) = e
-
-  pub says_after : order a b ≡ After → before b a ≡ true
-  says_after o = go (rw o at (compared a b))
-    where
-      go : Compared a b After → before b a ≡ true
-      go (comes_after e) = e
+-- what comes first is less
+is_less : (a b : List ℕ) → before a b ≡ true → order a b ≡ Less
+unfolding before is_before
+is_less a b = go (order a b)
+  where
+    go : (o : Ordering) → is_before o ≡ true → o ≡ Less
+    go Less e = refl
+    go Equal e = absurd (false≢true e)
+    go Greater e = absurd (false≢true e)
 
 pub never_before : (a : List ℕ) → before a a ≡ true → ⊥
-unfolding before is_before order
-never_before [] e = false≢true e
-never_before (x ∷ a) e = ⊎_elim (λ h. omega arith) (λ h. never_before a h.1) (before_why x x a a e)
+unfolding before is_before
+never_before a e = false≢true (ap is_before (sym (tied_itself nat_list_cmp_total a) ∙ order_is a a) ∙ e)
 
 pub before_trans : (a b c : List ℕ) → before a b ≡ true → before b c ≡ true → before a c ≡ true
-unfolding before is_before order
-before_trans [] [] c p q = absurd (false≢true p)
-before_trans [] (y ∷ b) [] p q = absurd (false≢true q)
-before_trans [] (y ∷ b) (z ∷ c) p q = refl
-before_trans (x ∷ a) [] c p q = absurd (false≢true p)
-before_trans (x ∷ a) (y ∷ b) [] p q = absurd (false≢true q)
-before_trans (x ∷ a) (y ∷ b) (z ∷ c) p q = go (before_trans a b c) (before_why x y a b p) (before_why y z b c q)
-  where
-    go :
-        (before a b ≡ true → before b c ≡ true → before a c ≡ true)
-        → (x < y) ⊎ ((x ≡ y) × (before a b ≡ true))
-        → (y < z) ⊎ ((y ≡ z) × (before b c ≡ true))
-        → before (x ∷ a) (z ∷ c) ≡ true
-    go rest (inl h) (inl k) = before_less x z a c (omega arith)
-    go rest (inl h) (inr k) = before_less x z a c (omega arith)
-    go rest (inr h) (inl k) = before_less x z a c (omega arith)
-    go rest (inr h) (inr k) = before_further x z a c (h.0 ∙ k.0) (rest h.1 k.1)
+before_trans a b c p q =
+    says_before a c (sym (order_is a c) ∙ nat_list_cmp_total.trans a b c (order_is a b ∙ is_less a b p) (order_is b c ∙ is_less b c q))

@@ -1,6 +1,6 @@
 -- An index is right exactly if its entries are rows whose names rise; then no two rows have one name, and every row stands at an entry. Of a table
 -- without two equal names exactly one index is right. Assumes nothing.
-use Rattle.std.specs.Prelude.{◌≡◌, ◌↔◌, ltb, length, get_or}
+use Rattle.std.specs.Prelude.{◌≡◌, ◌↔◌, ltb, length, get_or, Option, Some, None}
 use Rattle.std.proofs.Math.Path.{refl, ap}
 use Rattle.std.proofs.Common.{sym, ◌∙◌, add-suc, suc-add, ext_get_or}
 use Rattle.std.proofs.Math.Bool.{Bool, true, false, not, false≢true}
@@ -10,8 +10,6 @@ use Rattle.std.proofs.Math.Nat.{add-zero, zero-add}
 use native.Mathlib.Omega.{arith}
 use Rattle.std.proofs.Math.Dec.{eqb}
 use borrow.Author.Tests.{ltb-true, lt-ltb, eqb-true, eq-eqb}
-use Rattle.rules.specs.declared.Found.{Found}
-use Rattle.rules.specs.declared.Found.TheVariants.{Row, Nowhere}
 use Rattle.rules.specs.declared.Refusal.{Refusal}
 use Rattle.rules.specs.NumbersHandedBack.{got, ◌>>◌, unless}
 use Rattle.rules.specs.SettingsAndUnitTable.{rows, row, name, lookup}
@@ -19,8 +17,8 @@ use Rattle.rules.proofs.Laws.Choices.{and_left, and_right, and_both, if_either}
 use Rattle.rules.proofs.Laws.Outcomes.{passed}
 use Rattle.rules.proofs.Laws.RowsCheck.{rows_good, rows_all}
 use Rattle.rows.specs.Laws.Lookup.{lookup_found, lookup_nowhere}
-use Rattle.index.specs.declared.Order.{Order}
-use Rattle.index.specs.declared.Order.TheVariants.{Before, Same, After}
+use Rattle.std.specs.declared.cmp.Ordering.{Ordering}
+use Rattle.std.specs.declared.cmp.Ordering.TheVariants.{Less, Equal, Greater}
 use Rattle.index.specs.TheSortedIndex.{order, before, count, names_before, rank, entry_right, index_check, ranked_from, entries_from, index_of}
 use Rattle.index.proofs.Laws.Order.{Compared, comes_before, is_same, comes_after, compared, never_before, before_trans}
 use Rattle.index.proofs.Laws.Counts.{count_more, count_misses, count_both, Places, at_least, onto}
@@ -81,12 +79,12 @@ module _ (table : List ℕ) where
         where
           by :
               (j k : ℕ) → j < k → k < rows table
-              → (o : Order) → Compared (entry_name table index j) (entry_name table index k) o
+              → (o : Ordering) → Compared (entry_name table index j) (entry_name table index k) o
               → before (entry_name table index j) (entry_name table index k) ≡ true
-          by j k less below Before (comes_before e) = e
-          by j k less below Same (is_same e) =
+          by j k less below Less (comes_before e) = e
+          by j k less below Equal (is_same e) =
               absurd (omega (arith, right_rank j (omega arith), right_rank k below, ap (names_before table) e))
-          by j k less below After (comes_after e) =
+          by j k less below Greater (comes_after e) =
               absurd (omega (arith, right_rank j (omega arith), right_rank k below, rank_less (entry index k) (entry index j) (right_within k below) e))
 
     -- ---- from rising to right
@@ -119,9 +117,9 @@ module _ (table : List ℕ) where
               let alike : a ≡ b = omega arith in
               sym is_j ∙ ap (entry index) alike ∙ is_i
 
-          go : (f : Found) → lookup table (name (row table i)) ≡ f → f ≡ Row i
-          go (Row j) e = let (within, same_name) = lookup_found table (name (row table i)) j e in ap Row (one j within same_name)
-          go Nowhere e = absurd (lookup_nowhere table (name (row table i)) e i below refl)
+          go : (f : Option ℕ) → lookup table (name (row table i)) ≡ f → f ≡ Some i
+          go (Some j) e = let (within, same_name) = lookup_found table (name (row table i)) j e in ap Some (one j within same_name)
+          go None e = absurd (lookup_nowhere table (name (row table i)) e i below refl)
 
       -- entry k has the k rows before it, and none of the others, in front
       rising_rank : (k : ℕ) → k < rows table → rank table (entry index k) ≡ k
@@ -169,10 +167,10 @@ module _ (table : List ℕ) where
     rank_one : (i j : ℕ) → i < rows table → j < rows table → rank table i ≡ rank table j → i ≡ j
     rank_one i j below within e = go (order (name (row table i)) (name (row table j))) (compared _ _)
       where
-        go : (o : Order) → Compared (name (row table i)) (name (row table j)) o → i ≡ j
-        go Before (comes_before first) = absurd (omega (arith, rank_less i j below first))
-        go Same (is_same alike) = different i j below within alike
-        go After (comes_after first) = absurd (omega (arith, rank_less j i within first))
+        go : (o : Ordering) → Compared (name (row table i)) (name (row table j)) o → i ≡ j
+        go Less (comes_before first) = absurd (omega (arith, rank_less i j below first))
+        go Equal (is_same alike) = different i j below within alike
+        go Greater (comes_after first) = absurd (omega (arith, rank_less j i within first))
 
     -- each number of names has its row
     has_rank : (k : ℕ) → k < rows table → (i : ℕ) × (i < rows table) × (rank table i ≡ k)

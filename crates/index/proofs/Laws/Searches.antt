@@ -1,5 +1,5 @@
 -- Both searches find what the lookup finds, the one through a right index too; and how many names each compares at most. Assumes nothing.
-use Rattle.std.specs.Prelude.{◌≡◌, Bool, List, length}
+use Rattle.std.specs.Prelude.{◌≡◌, Bool, List, length, Option, Some, None}
 use Rattle.std.proofs.Math.Path.{refl}
 use Rattle.std.proofs.Common.{sym, ◌∙◌, arith}
 use Rattle.std.proofs.Math.Bool.{true, false}
@@ -7,14 +7,12 @@ use Prim.Native.Nat.{ℕ, zero, suc, zero-le, ◌+◌, ◌*◌, ◌-◌, ◌/◌
 use Rattle.std.proofs.Math.Nat.{pow-succ'}
 use Rattle.std.proofs.Math.Dec.{ltb}
 use borrow.Author.Tests.{ltb-true, ltb-false, lt-ltb, le-ltb}
-use Rattle.rules.specs.declared.Found.{Found}
-use Rattle.rules.specs.declared.Found.TheVariants.{Row, Nowhere}
 use Rattle.rules.specs.Common.{when◌then◌else◌, same}
 use Rattle.rules.specs.SettingsAndUnitTable.{rows, row, name, lookup_from, lookup_from_in, lookup, lookup_in}
 use Rattle.rules.proofs.Laws.Choices.{if_either}
 use Rattle.rows.specs.Laws.Lookup.{unnamed}
-use Rattle.index.specs.declared.Order.{Order}
-use Rattle.index.specs.declared.Order.TheVariants.{Before, Same, After}
+use Rattle.std.specs.declared.cmp.Ordering.{Ordering}
+use Rattle.std.specs.declared.cmp.Ordering.TheVariants.{Less, Equal, Greater}
 use Rattle.index.specs.declared.Searched.{Searched}
 use Rattle.index.specs.TheSortedIndex.{order, before, no_more, here, and_then, row_search_from, row_search, by_order, index_search_from, index_search}
 use Rattle.index.proofs.Laws.Order.{says_before, says_same, says_after, never_before, before_trans}
@@ -22,11 +20,11 @@ use Rattle.index.specs.Laws.Right.{entry, entry_name, Right, Rising}
 use Rattle.index.proofs.Laws.Right.{right_rising, stands_at, rising_own}
 
 -- what holds of each of the three ways holds of the one that is taken
-by_either : {A : Type 0} (P : A → Type 0) (o : Order) {a b c : A} → (o ≡ Before → P a) → (o ≡ Same → P b) → (o ≡ After → P c) → P (by_order o a b c)
+by_either : {A : Type 0} (P : A → Type 0) (o : Ordering) {a b c : A} → (o ≡ Less → P a) → (o ≡ Equal → P b) → (o ≡ Greater → P c) → P (by_order o a b c)
 unfolding by_order
-by_either P Before f g h = f refl
-by_either P Same f g h = g refl
-by_either P After f g h = h refl
+by_either P Less f g h = f refl
+by_either P Equal f g h = g refl
+by_either P Greater f g h = h refl
 
 -- ---- row by row
 
@@ -39,7 +37,7 @@ module _ (table wanted : List ℕ) where
       more : Searched
       more = row_search_from table wanted (suc i) n
 
-      go : (t : Bool) → more.found ≡ lookup_from table wanted (suc i) n → (when t then here i else more).found ≡ (when t then Row i else lookup_from table wanted (suc i) n)
+      go : (t : Bool) → more.found ≡ lookup_from table wanted (suc i) n → (when t then here i else more).found ≡ (when t then Some i else lookup_from table wanted (suc i) n)
       go true e = refl
       go false e = e
 
@@ -147,13 +145,13 @@ module _ (table index wanted : List ℕ) where
   -- ---- what is found through a right index
 
   -- what the entries from low up to high give
-  data Probed (low high : ℕ) : Found → Type 0 where
-    found : {i : ℕ} → i < rows table → name (row table i) ≡ wanted → Probed low high (Row i)
-    nowhere : ((k : ℕ) → low ≤ k → k < high → entry_name table index k ≡ wanted → ⊥) → Probed low high Nowhere
+  data Probed (low high : ℕ) : Option ℕ → Type 0 where
+    found : {i : ℕ} → i < rows table → name (row table i) ≡ wanted → Probed low high (Some i)
+    nowhere : ((k : ℕ) → low ≤ k → k < high → entry_name table index k ≡ wanted → ⊥) → Probed low high None
 
   module _ (long : length index ≡ rows table) (rising : Rising table index) where
     -- a name before that of an entry stands at none from there on
-    first_half : (low high at : ℕ) → high ≤ rows table → at < high → before wanted (entry_name table index at) ≡ true → {f : Found} → Probed low at f → Probed low high f
+    first_half : (low high at : ℕ) → high ≤ rows table → at < high → before wanted (entry_name table index at) ≡ true → {f : Option ℕ} → Probed low at f → Probed low high f
     first_half low high at most below first (found within e) = found within e
     first_half low high at most below first (nowhere none) = nowhere (λ k from to e. go k from to e (ltb k at) refl (ltb at k) refl)
       where
@@ -165,7 +163,7 @@ module _ (table index wanted : List ℕ) where
             let here : k ≡ at = omega (arith, ltb-false k at p, ltb-false at k q) in
             never_before wanted (rw (← here, e) at first)
 
-    second_half : (low high at : ℕ) → high ≤ rows table → at < high → before (entry_name table index at) wanted ≡ true → {f : Found} → Probed (suc at) high f → Probed low high f
+    second_half : (low high at : ℕ) → high ≤ rows table → at < high → before (entry_name table index at) wanted ≡ true → {f : Option ℕ} → Probed (suc at) high f → Probed low high f
     second_half low high at most below first (found within e) = found within e
     second_half low high at most below first (nowhere none) = nowhere (λ k from to e. go k from to e (ltb k at) refl (ltb at k) refl)
       where
@@ -198,7 +196,7 @@ module _ (table index wanted : List ℕ) where
       rising : Rising table index
       rising = right_rising table index right
 
-      go : {f : Found} → Probed 0 (rows table) f → f ≡ lookup table wanted
+      go : {f : Option ℕ} → Probed 0 (rows table) f → f ≡ lookup table wanted
       go (found {i = i} within e) = rw (← e) (sym (rising_own table index right.long rising i within))
       go (nowhere none) =
           sym

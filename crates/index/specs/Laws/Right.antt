@@ -1,6 +1,5 @@
 -- What is right of an index and of its table's names. Assumes nothing.
-use Rattle.std.specs.Prelude.{◌≡◌, true, List, ℕ, ◌<◌, length, get_or}
-use Rattle.rules.specs.declared.Found.TheVariants.{Row}
+use Rattle.std.specs.Prelude.{◌≡◌, true, List, ℕ, ◌<◌, length, get_or, Some}
 use Rattle.rules.specs.SettingsAndUnitTable.{rows, row, name, lookup}
 use Rattle.index.specs.TheSortedIndex.{before, entry_right}
 
@@ -23,4 +22,4 @@ pub record Rising (table index : List ℕ) : Type 0 where
 
 -- each row's name finds that row: no two have one name
 abbrev pub Own : List ℕ → Type 0
-Own table = (i : ℕ) → i < rows table → lookup table (name (row table i)) ≡ Row i
+Own table = (i : ℕ) → i < rows table → lookup table (name (row table i)) ≡ Some i

@@ -1,27 +1,17 @@
 -- `index_entries::shifted_total_indexed` meets its contract: 7 and 23, and then what a checked card gives. Assumes nothing.
-use mathlib.Core.Path.{◌≡◌, sym, ap, ◌∙◌}
-use Rattle.rules.specs.NumbersHandedBack.{got}
-use Rattle.settings.specs.Outcomes.{outcome}
-use Rattle.index.specs.TheSortedIndex.{Indexed, indexed_of, indexed_check}
+use Rattle.std.proofs.Common.{sym, ap, ◌∙◌}
+use Rattle.rules.specs.WhatEveryEntryOwes.{shift_answer, shifted_record}
 use Rattle.sorted.specs.Indexed.{card_good, both_beside}
 use Rattle.index_entries.specs.Answers.{shift_refused, shift_passed}
 use Rattle.index_entries.proofs.shifted_total_indexed.Goals as goal
-use Rattle.index_entries.proofs.shifted_total_indexed.Goals.{In-Accepted, Start}
 
-abbrev card : Start → Indexed
-card c = indexed_of c.args.settings.now c.args.hall.now c.args.hall_index.now c.args.line.now c.args.line_index.now c.args.numerals.now
+pub returns-in-Err : goal.returns-in-Err
+returns-in-Err c = shift_refused _ _ _ (sym c.in-Err.ensures) c.kept.ensures
 
--- the card and its indexes were accepted
-good : (c : In-Accepted) → indexed_check (indexed_of c.args.settings.now c.args.hall.now c.args.hall_index.now c.args.line.now c.args.line_index.now c.args.numerals.now) ≡ got tt
-unfolding outcome
-good c = sym c.indexed_check.ensures ∙ ap outcome c.in-Accepted.is
+pub with_indexes-card-requires : goal.with_indexes-card-requires
+with_indexes-card-requires c = record { accepted = card_good _ (sym c.in-Ok.ensures); beside = both_beside _ (sym c.in-Ok.ensures) }
 
-pub returns-in-Refused : goal.returns-in-Refused
-unfolding outcome
-returns-in-Refused c = shift_refused _ _ _ (sym c.indexed_check.ensures ∙ ap outcome c.in-Refused.is) c.kept.ensures
-
-pub returns-in-Accepted : goal.returns-in-Accepted
-returns-in-Accepted c = shift_passed _ _ _ (good (goal.at.returns-in-Accepted c).In-Accepted) c.shifted_total_checked.ensures
-
-pub shifted_total_checked-requires : goal.shifted_total_checked-requires
-shifted_total_checked-requires c = record { numerals_value = card_good _ (good c); beside = both_beside _ (good c) }
+pub returns-in-Ok : goal.returns-in-Ok
+returns-in-Ok c =
+    shift_passed _ _ _ (sym c.in-Ok.ensures)
+    (c.shifted_total_checked.ensures.0 ∙ ap (λ card. shift_answer c.args.total card c.args.text.now) c.with_indexes-card.ensures, c.shifted_total_checked.ensures.1 ∙ ap (λ card. shifted_record c.args.total card c.args.text.now) c.with_indexes-card.ensures)

@@ -1,18 +1,19 @@
 -- What is found in both tables, by what is found in each. Assumes nothing.
-use Rattle.std.specs.Prelude.{◌≡◌, ℕ, ◌+◌, ◌*◌, ◌≤◌, ◌<◌, length}
-use Rattle.std.proofs.Math.Path.{refl, sym, ap}
-use Rattle.std.proofs.Common.{◌∙◌, inl, inr, add-zero, arith}
+use Rattle.std.specs.Prelude.{◌≡◌, ℕ, ◌+◌, ◌*◌, ◌≤◌, ◌<◌, length, Option, Some, None}
+use Rattle.std.proofs.Math.Path.{refl, sym, ap, ap₂}
+use Rattle.std.proofs.Common.{◌∙◌, inl, inr, add-zero, arith, subst}
 use mathlib.Core.List.{List, [], ◌∷◌}
-use Rattle.rules.specs.declared.Found.{Found}
-use Rattle.rules.specs.declared.Found.TheVariants.{Row, Nowhere}
 use Rattle.rules.specs.NumbersHandedBack.{got}
-use Rattle.rules.specs.SettingsAndUnitTable.{row_size, rows, rows_in, row, lookup, Holder, Line, Hall, Neither, line_first, stands, held_row}
+use Rattle.rules.specs.SettingsAndUnitTable.{row_size, rows, rows_in, row, lookup, Holder, Line, Hall, Neither, line_first, stands, held_row, find_row}
 use Rattle.rows.specs.Laws.Lookup.{lookup_found}
 use Rattle.index.specs.declared.Searched.{Searched}
-use Rattle.index.specs.declared.LookedUp.{LookedUp}
 use Rattle.index.specs.TheSortedIndex.{row_search, index_search, behind, compared_in_both, found_in, looked_up}
 use Rattle.index.proofs.Laws.Searches.{row_search_finds, row_search_most, index_search_finds, index_search_most}
-use Rattle.lookup.specs.Searching.{Beside, Searchable, searched, held_at}
+use Rattle.lookup.specs.Searching.{Beside, Searchable, searched}
+use Rattle.lookup.specs.declared.both_tables.Held.{Held}
+use Rattle.lookup.specs.declared.both_tables.Held.TheVariants.{InHall}
+use Rattle.lookup.specs.Holding.{holder}
+use Rattle.std.specs.Option.{MatchOption, IsSomeAnd}
 
 -- which search is made
 pub searched_rows : (table index wanted : List ℕ) → length index ≡ 0 → row_search table wanted ≡ searched table index wanted
@@ -49,30 +50,32 @@ searched_few table index wanted e = omega (arith, rows_few table (searched_most 
 
 -- the count, where the line's table has the name and where it has not
 module _ (in_line in_hall : Searched) where
-  pub compared_line : {i : ℕ} → in_line.found ≡ Row i → in_line.compared ≡ compared_in_both in_line in_hall
+  pub compared_line : {i : ℕ} → in_line.found ≡ Some i → in_line.compared ≡ compared_in_both in_line in_hall
   unfolding compared_in_both behind
   compared_line e = rw (e, add-zero)
 
-  pub compared_both : in_line.found ≡ Nowhere → in_line.compared + in_hall.compared ≡ compared_in_both in_line in_hall
+  pub compared_both : in_line.found ≡ None → in_line.compared + in_hall.compared ≡ compared_in_both in_line in_hall
   unfolding compared_in_both behind
   compared_both e = rw e
 
--- what a lookup hands back, by what is found in each
-module _ (in_line in_hall : Searched) where
-  pub held_by_line : {i : ℕ} → in_line.found ≡ Row i → held_at 2 i in_line.compared ≡ looked_up (got tt) in_line in_hall
-  unfolding looked_up found_in line_first
-  held_by_line e =
-      ap (held_at 2 _) (compared_line in_line in_hall e)
-      ∙ sym (ap (λ (f : Found). found_in (line_first f in_hall.found) (compared_in_both in_line in_hall)) e)
+-- what is found in each is what stands in the tables
+module _ (hall hall_index line line_index wanted : List ℕ) (both : Searchable hall hall_index × Searchable line line_index) where
+  pub stands_in_line : {i : ℕ} → (searched line line_index wanted).found ≡ Some i → Line i ≡ stands hall line wanted
+  unfolding stands line_first
+  stands_in_line e = ap (λ f. line_first f (lookup hall wanted)) (sym e ∙ searched_finds line line_index wanted both.1.beside)
 
-  module _ (nowhere : in_line.found ≡ Nowhere) where
-    pub held_by_hall : {i : ℕ} → in_hall.found ≡ Row i → held_at 1 i (in_line.compared + in_hall.compared) ≡ looked_up (got tt) in_line in_hall
-    unfolding looked_up found_in line_first
-    held_by_hall e = rw (compared_both in_line in_hall nowhere, nowhere, e)
+  pub stands_behind :
+      (searched line line_index wanted).found ≡ None → line_first None (searched hall hall_index wanted).found ≡ stands hall line wanted
+  unfolding stands
+  stands_behind e = ap₂ line_first (sym e ∙ searched_finds line line_index wanted both.1.beside) (searched_finds hall hall_index wanted both.0.beside)
 
-    pub held_by_neither : in_hall.found ≡ Nowhere → held_at 0 0 (in_line.compared + in_hall.compared) ≡ looked_up (got tt) in_line in_hall
-    unfolding looked_up found_in line_first
-    held_by_neither e = rw (compared_both in_line in_hall nowhere, nowhere, e)
+-- a row that is found is the hall's
+pub held_in_hall :
+    (found : Option ℕ) (h : Option Held) → MatchOption found (h ≡ None) (λ i. IsSomeAnd h (λ x. x ≡ InHall i)) → holder h ≡ line_first None found
+unfolding line_first
+held_in_hall (Some i) (Some x) e = ap (λ x. holder (Some x)) e
+held_in_hall (Some i) None e = absurd e
+held_in_hall None h e = ap holder e
 
 -- which is what stands in the tables
 pub looked_up_stands :
@@ -84,41 +87,39 @@ unfolding looked_up stands
 looked_up_stands hall hall_index line line_index wanted both =
     rw (searched_finds line line_index wanted both.1.beside, searched_finds hall hall_index wanted both.0.beside)
 
--- with the names counted
-pub found_compared : (h : Holder) (compared : ℕ) → (found_in h compared).compared ≡ compared
-unfolding found_in
-found_compared (Line i) compared = refl
-found_compared (Hall i) compared = refl
-found_compared Neither compared = refl
+-- which is handed back with the names counted
+pub handed_back :
+    (hall hall_index line line_index wanted : List ℕ) {h : Holder} {n : ℕ} → Searchable hall hall_index × Searchable line line_index
+    → let in_line = searched line line_index wanted in
+    let in_hall = searched hall hall_index wanted in
+    h ≡ stands hall line wanted → n ≡ compared_in_both in_line in_hall → found_in h n ≡ looked_up (got tt) in_line in_hall
+handed_back hall hall_index line line_index wanted both e counted =
+    ap₂ found_in e counted ∙ sym (looked_up_stands hall hall_index line line_index wanted both)
 
--- and the row that its numbers lead to is the one that is found
-abbrev Led : List ℕ → List ℕ → List ℕ → ℕ → LookedUp → Holder → Type 0
-Led hall line table number l h = l.table ≡ number → (l.row < rows table) × (row table l.row ≡ held_row hall line h)
+-- and the row that it leads to is the one that is found
+abbrev Within : List ℕ → List ℕ → Holder → Type 0
+Within hall line (Line i) = i < rows line
+Within hall line (Hall i) = i < rows hall
+Within hall line Neither = Unit {0}
 
-module _ (hall line wanted : List ℕ) (compared : ℕ) {it : LookedUp} (held : it ≡ found_in (stands hall line wanted) compared) where
-  pub led_to_line : Led hall line line 2 it (stands hall line wanted)
-  unfolding found_in stands line_first held_row
-  led_to_line = rw held (go (lookup line wanted) refl (lookup hall wanted))
+module _ (hall line wanted : List ℕ) where
+  within : Within hall line (stands hall line wanted)
+  unfolding stands line_first
+  within = go (lookup line wanted) refl (lookup hall wanted) refl
     where
-      go : (f : Found) → lookup line wanted ≡ f → (g : Found) → Led hall line line 2 (found_in (line_first f g) compared) (line_first f g)
-      go (Row i) e g is = ((lookup_found line wanted i e).0, refl)
-      go Nowhere e (Row i) is = absurd (omega (arith, is))
-      go Nowhere e Nowhere is = absurd (omega (arith, is))
+      go : (f : Option ℕ) → lookup line wanted ≡ f → (g : Option ℕ) → lookup hall wanted ≡ g → Within hall line (line_first f g)
+      go (Some i) e g d = (lookup_found line wanted i e).0
+      go None e (Some i) d = (lookup_found hall wanted i d).0
+      go None e None d = tt
 
-  pub led_to_hall : Led hall line hall 1 it (stands hall line wanted)
-  unfolding found_in stands line_first held_row
-  led_to_hall = rw held (go (lookup line wanted) (lookup hall wanted) refl)
-    where
-      go : (f g : Found) → lookup hall wanted ≡ g → Led hall line hall 1 (found_in (line_first f g) compared) (line_first f g)
-      go (Row i) g e is = absurd (omega (arith, is))
-      go Nowhere (Row i) e is = ((lookup_found hall wanted i e).0, refl)
-      go Nowhere Nowhere e is = absurd (omega (arith, is))
+  pub row_in_line : {i : ℕ} → Line i ≡ stands hall line wanted → (i < rows line) × (row line i ≡ find_row hall line wanted)
+  unfolding find_row held_row
+  row_in_line e = (subst (Within hall line) (sym e) within, ap (held_row hall line) e)
 
-  pub led_nowhere : (it.table ≡ 2 → ⊥) → (it.table ≡ 1 → ⊥) → [] ≡ held_row hall line (stands hall line wanted)
-  unfolding found_in held_row
-  led_nowhere = rw held (go (stands hall line wanted))
-    where
-      go : (h : Holder) → ((found_in h compared).table ≡ 2 → ⊥) → ((found_in h compared).table ≡ 1 → ⊥) → [] ≡ held_row hall line h
-      go (Line i) not_line not_hall = absurd (not_line refl)
-      go (Hall i) not_line not_hall = absurd (not_hall refl)
-      go Neither not_line not_hall = refl
+  pub row_in_hall : {i : ℕ} → Hall i ≡ stands hall line wanted → (i < rows hall) × (row hall i ≡ find_row hall line wanted)
+  unfolding find_row held_row
+  row_in_hall e = (subst (Within hall line) (sym e) within, ap (held_row hall line) e)
+
+  pub no_row : Neither ≡ stands hall line wanted → [] ≡ find_row hall line wanted
+  unfolding find_row held_row
+  no_row e = ap (held_row hall line) e

@@ -1,5 +1,5 @@
 -- Laws of equal names and of lookup. Assumes nothing.
-use Rattle.std.specs.Prelude.{◌≡◌, Bool, true, false, ◌&&◌, List, [], ◌∷◌, ◌⊎◌, eqb, length, get_or, drop}
+use Rattle.std.specs.Prelude.{◌≡◌, Bool, true, false, ◌&&◌, List, [], ◌∷◌, ◌⊎◌, eqb, length, get_or, drop, Option, Some, None}
 use Rattle.std.proofs.Math.Path.{refl}
 use Rattle.std.proofs.Common.{sym, ap, ◌∙◌, ⊎_elim, inl, inr, drop_of_length-le, drop-cons, eq-eqb, eqb-true}
 use Rattle.std.proofs.lemmas.Bool.{false≢true, eqb-false}
@@ -7,8 +7,6 @@ use Prim.Native.Nat.{ℕ, zero, suc, ◌+◌, ◌-◌, ◌≤◌, ◌<◌}
 use Rattle.std.proofs.Math.Nat.{sub-zero}
 use Rattle.std.proofs.Math.Numerals.{add-one}
 use native.Mathlib.Omega.{arith}
-use Rattle.rules.specs.declared.Found.{Found}
-use Rattle.rules.specs.declared.Found.TheVariants.{Row, Nowhere}
 use Rattle.rules.specs.Common.{when◌then◌else◌, same}
 use Rattle.rules.specs.SettingsAndUnitTable.{row_size, rows, row, name, named, named_in, lookup_from, lookup_from_in, lookup, lookup_in, line_first, stands, held_row, find_row}
 use Rattle.rules.proofs.Laws.Choices.{if_either, and_left, and_right, or_neither}
@@ -47,7 +45,7 @@ same_done a b i ha hb = rw (drop_of_length-le a ha, drop_of_length-le b hb) (sam
 
 -- ---- lookup row by row: what the rows from i on give
 
-unfoldable pub rest_of_lookup : List ℕ → List ℕ → ℕ → Found
+unfoldable pub rest_of_lookup : List ℕ → List ℕ → ℕ → Option ℕ
 rest_of_lookup table wanted i = lookup_from table wanted i (rows table - i)
 
 module _ (table wanted : List ℕ) where
@@ -55,7 +53,7 @@ module _ (table wanted : List ℕ) where
   unfolding lookup_in rest_of_lookup
   lookup_start = rw sub-zero
 
-  pub lookup_here : (i : ℕ) → i < rows table → same (name (row table i)) wanted ≡ true → rest_of_lookup table wanted i ≡ Row i
+  pub lookup_here : (i : ℕ) → i < rows table → same (name (row table i)) wanted ≡ true → rest_of_lookup table wanted i ≡ Some i
   unfolding rest_of_lookup lookup_from_in when◌then◌else◌
   lookup_here i h e =
       let counted : rows table - i ≡ suc (rows table - (i + 1)) = omega arith in
@@ -74,9 +72,9 @@ other_size a b h = not_same a b (λ e. h (ap length e))
 -- ---- what is found
 
 -- what the rows from i on give
-data Looked (table wanted : List ℕ) (i n : ℕ) : Found → Type 0 where
-  found : {k : ℕ} → i ≤ k → k < i + n → name (row table k) ≡ wanted → Looked table wanted i n (Row k)
-  nowhere : ((k : ℕ) → i ≤ k → k < i + n → name (row table k) ≡ wanted → ⊥) → Looked table wanted i n Nowhere
+data Looked (table wanted : List ℕ) (i n : ℕ) : Option ℕ → Type 0 where
+  found : {k : ℕ} → i ≤ k → k < i + n → name (row table k) ≡ wanted → Looked table wanted i n (Some k)
+  nowhere : ((k : ℕ) → i ≤ k → k < i + n → name (row table k) ≡ wanted → ⊥) → Looked table wanted i n None
 
 looked : (table wanted : List ℕ) (n i : ℕ) → Looked table wanted i n (lookup_from table wanted i n)
 unfolding lookup_from_in
@@ -86,7 +84,7 @@ looked table wanted (suc n) i =
     (λ e. found {k = i} (omega arith) (omega arith) (same_equal (name (row table i)) wanted e))
     (λ e. later e (looked table wanted n (suc i)))
   where
-    later : same (name (row table i)) wanted ≡ false → {f : Found} → Looked table wanted (suc i) n f → Looked table wanted i (suc n) f
+    later : same (name (row table i)) wanted ≡ false → {f : Option ℕ} → Looked table wanted (suc i) n f → Looked table wanted i (suc n) f
     later other (found {k = k} from to e) = found {k = k} (omega arith) (omega arith) e
     later other (nowhere none) = nowhere (λ k from to e. go k (eqb i k) refl from to e)
       where
@@ -95,10 +93,10 @@ looked table wanted (suc n) i =
             false≢true (sym other ∙ rw (eqb-true i k p, e) (same_refl wanted))
         go k false p from to e = none k (omega (arith, eqb-false i k p)) (omega arith) e
 
-found_in : {table wanted : List ℕ} {i n k : ℕ} → Looked table wanted i n (Row k) → (k < i + n) × (name (row table k) ≡ wanted)
+found_in : {table wanted : List ℕ} {i n k : ℕ} → Looked table wanted i n (Some k) → (k < i + n) × (name (row table k) ≡ wanted)
 found_in (found from to e) = (to, e)
 
-found_nowhere : {table wanted : List ℕ} {i n : ℕ} → Looked table wanted i n Nowhere → (k : ℕ) → i ≤ k → k < i + n → name (row table k) ≡ wanted → ⊥
+found_nowhere : {table wanted : List ℕ} {i n : ℕ} → Looked table wanted i n None → (k : ℕ) → i ≤ k → k < i + n → name (row table k) ≡ wanted → ⊥
 found_nowhere (nowhere none) = none
 
 module _ (table wanted : List ℕ) where
@@ -107,13 +105,13 @@ module _ (table wanted : List ℕ) where
   looked_all = looked table wanted (rows table) 0
 
   -- a row that is found lies in the table and has the name
-  pub lookup_found : (i : ℕ) → lookup table wanted ≡ Row i → (i < rows table) × (name (row table i) ≡ wanted)
+  pub lookup_found : (i : ℕ) → lookup table wanted ≡ Some i → (i < rows table) × (name (row table i) ≡ wanted)
   lookup_found i e =
       let at_row = found_in (rw e at looked_all) in
       (omega (arith, at_row.0), at_row.1)
 
   -- and if none is found, none has it
-  pub lookup_nowhere : lookup table wanted ≡ Nowhere → (i : ℕ) → i < rows table → name (row table i) ≡ wanted → ⊥
+  pub lookup_nowhere : lookup table wanted ≡ None → (i : ℕ) → i < rows table → name (row table i) ≡ wanted → ⊥
   lookup_nowhere e i below = found_nowhere (rw e at looked_all) i (omega arith) (omega arith)
 
 -- a lookup goes past rows that have other names
@@ -125,29 +123,29 @@ past table wanted (suc n) most none =
     past table wanted n (omega arith) others ∙ lookup_next table wanted n (omega arith) other ∙ ap (rest_of_lookup table wanted) (add-one n)
 
 -- a name that no row has is nowhere
-pub unnamed : (table wanted : List ℕ) → ((i : ℕ) → i < rows table → name (row table i) ≡ wanted → ⊥) → lookup table wanted ≡ Nowhere
+pub unnamed : (table wanted : List ℕ) → ((i : ℕ) → i < rows table → name (row table i) ≡ wanted → ⊥) → lookup table wanted ≡ None
 unnamed table wanted none = go (lookup table wanted) refl
   where
-    go : (f : Found) → lookup table wanted ≡ f → f ≡ Nowhere
-    go (Row k) e = let at_row = lookup_found table wanted k e in absurd (none k at_row.0 at_row.1)
-    go Nowhere e = refl
+    go : (f : Option ℕ) → lookup table wanted ≡ f → f ≡ None
+    go (Some k) e = let at_row = lookup_found table wanted k e in absurd (none k at_row.0 at_row.1)
+    go None e = refl
 
 -- ---- over two tables
 
 module _ (hall line wanted : List ℕ) where
   -- a row of the line's that has the name is found
-  pub line_wins : {i : ℕ} → lookup line wanted ≡ Row i → row line i ≡ find_row hall line wanted
+  pub line_wins : {i : ℕ} → lookup line wanted ≡ Some i → row line i ≡ find_row hall line wanted
   unfolding find_row held_row stands line_first
   line_wins e = rw e
 
   -- else the hall's
-  pub hall_behind : lookup line wanted ≡ Nowhere → row_named hall wanted ≡ find_row hall line wanted
+  pub hall_behind : lookup line wanted ≡ None → row_named hall wanted ≡ find_row hall line wanted
   unfolding row_named found_row find_row held_row stands line_first
   hall_behind e = rw e (go (lookup hall wanted))
     where
-      go : (f : Found) → found_row hall f ≡ held_row hall line (line_first Nowhere f)
-      go (Row i) = refl
-      go Nowhere = refl
+      go : (f : Option ℕ) → found_row hall f ≡ held_row hall line (line_first None f)
+      go (Some i) = refl
+      go None = refl
 
 -- what holds of each row of both tables holds of the row that is found, unless none is
 pub found_holds :
@@ -159,11 +157,11 @@ unfolding find_row held_row stands line_first
 found_holds P hall line wanted halls lines = go (lookup line wanted) refl (lookup hall wanted) refl
   where
     go :
-        (f : Found) → lookup line wanted ≡ f → (g : Found) → lookup hall wanted ≡ g
+        (f : Option ℕ) → lookup line wanted ≡ f → (g : Option ℕ) → lookup hall wanted ≡ g
         → (held_row hall line (line_first f g) ≡ []) ⊎ P (held_row hall line (line_first f g))
-    go (Row i) at g behind = inr (lines i (lookup_found line wanted i at).0)
-    go Nowhere at (Row i) behind = inr (halls i (lookup_found hall wanted i behind).0)
-    go Nowhere at Nowhere behind = inl refl
+    go (Some i) at g behind = inr (lines i (lookup_found line wanted i at).0)
+    go None at (Some i) behind = inr (halls i (lookup_found hall wanted i behind).0)
+    go None at None behind = inl refl
 
 -- and what is found is whole
 pub found_whole : (hall line wanted : List ℕ) → (length (find_row hall line wanted) ≡ 0 → ⊥) → length (find_row hall line wanted) ≡ row_size

@@ -7,7 +7,9 @@ use Prim.Native.Nat.{ℕ, zero-le, ◌+◌, ◌*◌, ◌-◌, ◌/◌, ◌^◌, 
 use Rattle.std.proofs.Math.Nat.{mul-le-mul}
 use native.Mathlib.Omega.{arith}
 use Rattle.std.proofs.Math.ListN.{get_or}
-use borrow.Author.Tests.{le-leb, lt-leb, leb-true, leb-false, ltb-true, lt-ltb}
+use borrow.Author.Tests.{le-leb, lt-leb, leb-true, leb-false, ltb-true, ltb-false, lt-ltb, le-ltb}
+use Rattle.std.specs.Prelude.{nat_abs}
+use Rattle.std.specs.Int.{cast_signed, w16, w64}
 use Rattle.rules.specs.declared.Multiplier.{Multiplier}
 use Rattle.rules.specs.Common.{when◌then◌else◌, all}
 use Rattle.rules.specs.SettingsAndUnitTable.{coefficient_size, coefficient_field, power_size, row_size, name_room, rows, rows_in, row, row_in, name_size, name, kind, power_field, below_zero, magnitude, kind_coefficients, kind_downs, kind_multiplier, row_multiplier, row_multiplier_in, times, product, product_in, in_range}
@@ -38,6 +40,17 @@ magnitude_of bytes x h = rw (below bytes x h)
 pub magnitude_below : (bytes x : ℕ) → 256 ^ bytes / 2 ≤ x → magnitude bytes x ≡ 256 ^ bytes - x
 unfolding magnitude when◌then◌else◌ below_zero
 magnitude_below bytes x h = rw (le-leb (256 ^ bytes / 2) x h)
+
+-- the library's magnitude of the signed number
+pub signed_word : (x : ℕ) → x < 2 ^ 64 → nat_abs (cast_signed w64 x) ≡ magnitude 8 x
+signed_word x fits = go (ltb x (2 ^ 63)) refl
+  where
+    go : (b : Bool) → ltb x (2 ^ 63) ≡ b → nat_abs (cast_signed w64 x) ≡ magnitude 8 x
+    go true e = rw (e, magnitude_of 8 x (ltb-true x (2 ^ 63) e))
+    go false e = rw (e, magnitude_below 8 x (ltb-false x (2 ^ 63) e)) (omega arith)
+
+pub signed_short : (x : ℕ) → 32768 ≤ x → x < 65536 → nat_abs (cast_signed w16 x) ≡ 65536 - x
+signed_short x h f = rw (le-ltb x 32768 h) (omega arith)
 
 pub risen_of : (x : ℕ) → x < 32768 → risen x ≡ x
 unfolding risen when◌then◌else◌

@@ -1,6 +1,6 @@
 -- A part that is read ends beyond where it began and not beyond the text: each step goes on from where it stands, within the text.
 -- Assumes nothing.
-use Rattle.std.specs.Prelude.{◌≡◌, Bool, false, ◌||◌, eqb, drop}
+use Rattle.std.specs.Prelude.{◌≡◌, Bool, false, ◌||◌, eqb, drop, Option, Some, None}
 use Rattle.std.proofs.Math.Path.{refl}
 use Rattle.std.proofs.Common.{sym, ◌∙◌, true≢false}
 use Rattle.std.proofs.Math.Bool.{true, not}
@@ -14,8 +14,6 @@ use Rattle.std.proofs.Math.Seq.{slice}
 use Rattle.rules.specs.declared.ByteSet.{ByteSet}
 use Rattle.rules.specs.declared.Settings.{Settings}
 use Rattle.rules.specs.declared.Multiplier.{Multiplier}
-use Rattle.rules.specs.declared.Found.{Found}
-use Rattle.rules.specs.declared.Found.TheVariants.{Row, Nowhere}
 use Rattle.rules.specs.Common.{when◌then◌else◌, ascii, sees, run}
 use Rattle.rules.specs.NumbersHandedBack.{◌>>=◌}
 use Rattle.rules.specs.SettingsAndUnitTable.{DIGIT, SIGN, POINT, is, holds, Card, lookup, row_multiplier, product}
@@ -189,9 +187,9 @@ module _ (card : Card) (text : List ℕ) where
             within = run_within (holds s.inner) text end (omega (arith, sees_in (holds s.inner) text end e));
           }))
 
-      go : (f : Found) → All (λ r. Beyond text place r.next) (numeral_found card text place f)
-      go (Row i) = all_if (λ e. all_bind (behind e) (λ next b. all_got b)) (λ _. all_refused)
-      go Nowhere = all_refused
+      go : (f : Option ℕ) → All (λ r. Beyond text place r.next) (numeral_found card text place f)
+      go (Some i) = all_if (λ e. all_bind (behind e) (λ next b. all_got b)) (λ _. all_refused)
+      go None = all_refused
 
   -- ---- a part that is read ends beyond where it began and not beyond the text
 

@@ -1,6 +1,6 @@
 -- The reading of a part from a place depends only on the text from that place on, places counted from there.
 -- Each step is compared at two texts: at p in the text from k on, and at q, which is k + p, in the whole text. Assumes nothing.
-use Rattle.std.specs.Prelude.{◌≡◌, true, false, eqb, length, drop}
+use Rattle.std.specs.Prelude.{◌≡◌, true, false, eqb, length, drop, Option, Some, None}
 use Rattle.std.proofs.Math.Path.{refl, ap, ap₂}
 use Rattle.std.proofs.Common.{sym, ◌∙◌, add_assoc}
 use Rattle.std.proofs.Math.Bool.{Bool, not, ◌&&◌, ◌||◌}
@@ -12,10 +12,7 @@ use Rattle.rules.specs.declared.ByteSet.{ByteSet}
 use Rattle.rules.specs.declared.Conjunction.{Conjunction}
 use Rattle.rules.specs.declared.Settings.{Settings}
 use Rattle.rules.specs.declared.Multiplier.{Multiplier}
-use Rattle.rules.specs.declared.Found.{Found}
-use Rattle.rules.specs.declared.Found.TheVariants.{Row, Nowhere}
-use Rattle.rules.specs.declared.Whole.{Whole}
-use Rattle.rules.specs.declared.Fract.{Fract}
+use Rattle.rules.specs.declared.Span.{Span}
 use Rattle.rules.specs.declared.Signed.{Signed}
 use Rattle.rules.specs.declared.Number.{Number}
 use Rattle.rules.specs.declared.Scaled.{Scaled}
@@ -38,10 +35,10 @@ use Rattle.rules.proofs.Laws.Texts.{ends_shift, drop_shift, sees_shift, run_shif
 
 -- ---- what each step finds, its places moved
 
-abbrev move_whole : ℕ → Whole → Whole
+abbrev move_whole : ℕ → Span → Span
 move_whole k w = record { start = k + w.start; end = k + w.end }
 
-abbrev move_fract : ℕ → Fract → Fract
+abbrev move_fract : ℕ → Span → Span
 move_fract k f = record { start = k + f.start; end = k + f.end }
 
 abbrev move_signed : ℕ → Signed → Signed
@@ -228,12 +225,12 @@ module _ (card : Card) (text : List ℕ) (k : ℕ) where
       ended : run outside text q ≡ k + run outside (drop k text) p
       ended = run_at outside p q e
 
-      go : (f : Found) → Moved move_numeral k (numeral_found card (drop k text) p f) (numeral_found card text q f)
-      go (Row i) =
+      go : (f : Option ℕ) → Moved move_numeral k (numeral_found card (drop k text) p f) (numeral_found card text q f)
+      go (Some i) =
           moved_if (sees_at (holds s.inner) _ _ ended)
           (moved_bind _ _ (delimiters_from s.inner _ _ ended) (λ next. moved_got))
           (moved_cause (ap NoNumber e))
-      go Nowhere = moved_cause (ap NoNumber e)
+      go None = moved_cause (ap NoNumber e)
 
   conjunction_at : (list : List Conjunction) (p q : ℕ) → q ≡ k + p → conjunction_size list (drop k text) p ≡ conjunction_size list text q
   unfolding conjunction_size

@@ -1,13 +1,11 @@
 -- Laws of refusals: by which numbers each step and each check refuses, whatever it is asked. Assumes nothing.
-use Rattle.std.specs.Prelude.{◌≡◌, Bool, true, false, ◌||◌, ℕ, zero, suc, ◌+◌, ◌*◌, ◌-◌, eqb, drop}
+use Rattle.std.specs.Prelude.{◌≡◌, Bool, true, false, ◌||◌, ℕ, zero, suc, ◌+◌, ◌*◌, ◌-◌, eqb, drop, Option, Some, None}
 use Rattle.std.proofs.Math.Path.{refl}
 use Rattle.std.proofs.Common.{ap, ◌∙◌, eqb-true, eq-eqb}
 use Rattle.std.proofs.lemmas.Bool.{false≢true}
 use mathlib.Core.List.{List, [], ◌∷◌}
 use Rattle.std.proofs.Math.Seq.{slice}
 use Rattle.rules.specs.declared.ByteSet.{ByteSet}
-use Rattle.rules.specs.declared.Found.{Found}
-use Rattle.rules.specs.declared.Found.TheVariants.{Row, Nowhere}
 use Rattle.rules.specs.declared.Length.{Length}
 use Rattle.rules.specs.declared.Multiplier.{Multiplier}
 use Rattle.rules.specs.declared.Refusal.{Refusal}
@@ -152,11 +150,11 @@ module _ (card : Card) (text : List ℕ) where
   unfolding numeral_step numeral_found number among all
   numeral_by place = go (lookup card.numerals (slice place (numeral_end card.settings text place) text))
     where
-      go : (found : Found) → By (6 ∷ 18 ∷ []) (numeral_found card text place found)
-      go (Row i) =
+      go : (found : Option ℕ) → By (6 ∷ 18 ∷ []) (numeral_found card text place found)
+      go (Some i) =
           refused_if (λ _. refused_bind (delimiters card.settings.inner text _) (by_more _ refl (delimiters_by card.settings.inner text _)) (λ next _. not_refused))
           (λ _. refused_by (one_of refl))
-      go Nowhere = refused_by (one_of refl)
+      go None = refused_by (one_of refl)
 
   pub spoken_unit_by : (place : ℕ) → By (15 ∷ 18 ∷ []) (spoken_unit_step card text place)
   unfolding spoken_unit_step spoken_unit_found number among all

@@ -1,6 +1,7 @@
 -- `spoken::times` meets its contract: in range the product fits, and so do its powers, taken off each other. Assumes nothing.
-use mathlib.Core.Bool.{xor}
 use native.Mathlib.Omega.{arith}
+use Rattle.std.proofs.Common.{rules}
+use mathlib.Core.Bool.{xor}
 use Rattle.rules.specs.SettingsAndUnitTable.{times}
 use Rattle.rules.specs.Laws.Powers.{net}
 use Rattle.rows.specs.Laws.Rows.{in_range_bounds}
@@ -20,4 +21,4 @@ above-requires-2 c = omega (arith, in_range_bounds _ c.requires)
 
 pub returns : goal.returns
 unfolding times net xor
-returns c = rw (c.above.ensures, c.above-2.ensures, c.together-up.ensures, c.together-down.ensures)
+returns c = search rules

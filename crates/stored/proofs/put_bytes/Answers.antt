@@ -1,5 +1,5 @@
 -- `stored::put_bytes` meets its contract: before turn `i` the row begins with the bytes of the first `i` pairs of digits, and goes
--- on as it was. The measure is how many pairs are left. Assumes nothing.
+-- on as it was. Assumes nothing.
 use mathlib.Core.Path.{◌≡◌, refl}
 use Prim.Native.Nat.{◌+◌, ◌*◌}
 use native.Mathlib.Omega.{arith}

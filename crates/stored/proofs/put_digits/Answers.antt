@@ -1,5 +1,5 @@
 -- `stored::put_digits` meets its contract: before turn `i` the line begins with the digits of the first `i` bytes, and goes on as
--- it was. The measure is how many bytes are left. Assumes nothing.
+-- it was. Assumes nothing.
 use mathlib.Core.Path.{◌≡◌, refl}
 use native.Mathlib.Omega.{arith}
 use lib.Seq.{take_all}

@@ -1,9 +1,11 @@
--- `words::half_at` meets its contract: one half and the other. Assumes nothing.
-use native.Mathlib.Omega.{arith}
-use Rattle.words.specs.LowFirst.{low_first_twice}
+-- `words::half_at` meets its contract: the bytes are those from the place on. Assumes nothing.
+use Rattle.std.proofs.Common.{◌≡◌, length, take, drop, ◌∙◌, arith, rules, length-drop, length-take, take-take, le_refl}
+use Rattle.words.specs.LowFirst.{read_low_first}
 use Rattle.words.proofs.half_at.Goals as goal
 
 pub returns : goal.returns
 returns c =
     let a = c.args in
-    omega (arith, low_first_twice a.bytes.now a.at 2 (omega arith), c.short_at.ensures, c.short_at-2.ensures)
+    let part = take 4 (drop a.at a.bytes.now) in
+    let chunk : c.unwrap.result.now ≡ part = search rules in
+    c.from_le_bytes.ensures ∙ rw chunk (read_low_first part 3 (simp (length-take, length-drop) (omega (arith, c.requires))) ∙ rw (take-take 4 4 (drop a.at a.bytes.now) (le_refl 4)))

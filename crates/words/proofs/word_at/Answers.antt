@@ -1,9 +1,11 @@
--- `words::word_at` meets its contract: one half and the other. Assumes nothing.
-use native.Mathlib.Omega.{arith}
-use Rattle.words.specs.LowFirst.{low_first_twice}
+-- `words::word_at` meets its contract: the bytes are those from the place on. Assumes nothing.
+use Rattle.std.proofs.Common.{◌≡◌, length, take, drop, ◌∙◌, arith, rules, length-drop, length-take, take-take, le_refl}
+use Rattle.words.specs.LowFirst.{read_low_first}
 use Rattle.words.proofs.word_at.Goals as goal
 
 pub returns : goal.returns
 returns c =
     let a = c.args in
-    omega (arith, low_first_twice a.bytes.now a.at 4 (omega arith), c.half_at.ensures, c.half_at-2.ensures)
+    let part = take 8 (drop a.at a.bytes.now) in
+    let chunk : c.unwrap.result.now ≡ part = search rules in
+    c.from_le_bytes.ensures ∙ rw chunk (read_low_first part 7 (simp (length-take, length-drop) (omega (arith, c.requires))) ∙ rw (take-take 8 8 (drop a.at a.bytes.now) (le_refl 8)))

@@ -1,25 +1,13 @@
--- `card::row::ascii_name` meets its contract: the bytes from `i` on decide what all of them do. The measure is how many are left.
--- Assumes nothing.
-use mathlib.Core.Path.{refl}
-use Prim.Native.Nat.{zero-le}
-use native.Mathlib.Omega.{arith}
+-- `card::row::ascii_name` meets its contract: the closure asks each byte what the definition asks. Assumes nothing.
+use Rattle.std.proofs.Common.{◌∙◌, rules, tests}
+use Rattle.std.proofs.lemmas.Iterator.{YieldsList-from_slice}
+use Rattle.std.proofs.lemmas.Iterator.Search.{all_from_yields_List}
 use Rattle.rules.specs.Common.{between}
-use Rattle.rules.proofs.Laws.Lists.{all_from, all_done}
-use Rattle.rules.proofs.Laws.Tests.{between_in, between_above}
+use Rattle.rows.proofs.Chains.{all_listed}
 use Rattle.card.proofs.row.ascii_name.Goals as goal
 
-pub returns-then-name-i-gt127 : goal.returns-then-name-i-gt127
-returns-then-name-i-gt127 c =
-    let loop = c.loop-i in
-    rw (← loop.invariant.1, all_from (between 0 127) c.args.name.now loop.i 0 (omega arith), between_above _ _ _ c.if-name-i-gt127.true)
-
-pub loop-i-preserved : goal.loop-i-preserved
-loop-i-preserved c =
-    let loop = c.loop-i in
-    (omega arith, rw (← loop.invariant.1, all_from (between 0 127) c.args.name.now loop.i 0 (omega arith), between_in _ _ _ zero-le c.if-name-i-gt127.false))
-
 pub returns : goal.returns
-returns c = rw (← c.loop-i.invariant.1, all_done (between 0 127) c.args.name.now c.loop-i.i (omega arith))
-
-pub loop-i-init : goal.loop-i-init
-loop-i-init c = (omega arith, refl)
+unfolding between
+returns c =
+    let name = c.args.name.now in
+    all_from_yields_List (between 0 127) _ _ _ c.all.ensures.ran (YieldsList-from_slice name cc) (λ x b q k. search (rules, tests)) ∙ all_listed (between 0 127) name

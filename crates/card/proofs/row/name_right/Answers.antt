@@ -1,15 +1,13 @@
 -- `card::row::name_right` meets its contract: the room, and then the bytes of the name. Assumes nothing.
-use mathlib.Core.Path.{ap, ◌∙◌}
-use borrow.Author.Tests.{not-true, not-false}
-use Rattle.rules.specs.Common.{all}
+use Rattle.std.proofs.Common.{arith, rules}
+use Rattle.std.proofs.lemmas.Grind.{common_steps}
 use Rattle.card.specs.Fields.{name_right}
-use Rattle.std.proofs.Common.{not}
 use Rattle.card.proofs.row.name_right.Goals as goal
 
-pub returns-then-not-padded : goal.returns-then-not-padded
+pub returns-then-padded : goal.returns-then-padded
 unfolding name_right
-returns-then-not-padded c = rw (← c.padded.ensures, not-true c.padded.result (ap not c.if-not-padded.true))
+returns-then-padded c = search rules
 
-pub returns : goal.returns
+pub returns-else-padded : goal.returns-else-padded
 unfolding name_right
-returns c = rw (← c.padded.ensures, not-false c.padded.result (ap not c.if-not-padded.false)) (c.name_accepted.ensures ∙ ap (all _) c.name_of.ensures)
+returns-else-padded c = search rules

@@ -1,49 +1,58 @@
 -- `card::table::card_check` meets its contract: what the settings come to, then the hall's table, then the line's, then the numerals. Assumes nothing.
-use mathlib.Core.Path.{◌≡◌, sym, ap, ◌∙◌}
+use Rattle.std.proofs.Common.{◌≡◌, List, ℕ, refl, sym, ap, ◌∙◌, arith, rules}
+use Rattle.rules.specs.declared.Settings.{Settings}
+use Rattle.rules.specs.declared.Refusal.{Refusal}
+use Rattle.rules.specs.declared.Refusal.TheVariants.{TableSize, BadRow, LineSize, BadLineRow, NumeralsSize, BadNumeral}
+use Rattle.rules.specs.NumbersHandedBack.{◌>>◌}
 use Rattle.rules.specs.SettingsAsWords.{settings_of}
-use Rattle.rules.specs.SettingsAndUnitTable.{settings_check, table_check, line_check, card_check}
-use Rattle.rules.specs.NumbersHandedBack.{got, ◌>>◌}
-use Rattle.settings.specs.Outcomes.{outcome}
+use Rattle.rules.specs.SettingsAndUnitTable.{units_check, units_check_in, numerals_check, numerals_check_in, most_rows, most_numerals, row_accepted, numeral_accepted, table_check, line_check, card_check}
+use Rattle.settings.specs.Sets.{bytes_of}
+use Rattle.card.specs.declared.row.RowRule.{RowRule}
+use Rattle.card.specs.Fields.{no_letters, ruled, tabled}
+use Rattle.card.specs.Laws.Unnameable.{no_letters_letterless}
+use Rattle.card.specs.Laws.Table.{tabled_alike, numeral_ruled}
 use Rattle.card.proofs.table.card_check.Goals as goal
-use Rattle.card.proofs.table.card_check.Goals.{In-Accepted, In-Accepted-of_the_hall, In-Accepted-of_the_line}
+use Rattle.card.proofs.table.card_check.Goals.{After-table_checked, After-table_checked-2}
 
--- the settings were accepted, and then the hall's table, and the line's
-good-settings : (c : In-Accepted) → settings_check (settings_of c.args.settings.now) ≡ got tt
-unfolding outcome
-good-settings c = sym c.settings_check-checked.ensures ∙ ap outcome c.in-Accepted.is
+-- what was found of the hall's table, and of the line's
+hall_checked : (c : After-table_checked) → c.table_checked.result ≡ table_check (settings_of c.args.settings.now) c.args.hall.now
+unfolding table_check units_check_in
+hall_checked c =
+    c.table_checked.ensures BadRow (λ i r below is. search rules)
+    ∙ tabled_alike TableSize most_rows _ _ BadRow _ (c.unit_rule-rule.ensures.by_index _ (λ k. (c.type_inv.hall k).fits))
 
-good-hall :
-    (c : In-Accepted-of_the_hall)
-    → let args = c.args in
-    table_check (settings_of args.settings.now) args.hall.now ≡ got tt
-unfolding outcome
-good-hall c = sym c.table_check-of_the_hall.ensures ∙ ap outcome c.in-Accepted-of_the_hall.is
+line_checked : (c : After-table_checked-2) → c.table_checked-2.result ≡ line_check (settings_of c.args.settings.now) c.args.line.now
+unfolding line_check units_check_in
+line_checked c =
+    c.table_checked-2.ensures BadLineRow (λ i r below is. is)
+    ∙ tabled_alike LineSize most_rows _ _ BadLineRow _ (c.unit_rule-rule.ensures.by_index _ (λ k. (c.type_inv.line k).fits))
 
-good-line :
-    (c : In-Accepted-of_the_line)
-    → let args = c.args in
-    line_check (settings_of args.settings.now) args.line.now ≡ got tt
-unfolding outcome
-good-line c = sym c.line_check-of_the_line.ensures ∙ ap outcome c.in-Accepted-of_the_line.is
+pub returns-in_err-settings_check : goal.returns-in_err-settings_check
+unfolding card_check ◌>>◌
+returns-in_err-settings_check c = search rules
 
-pub returns-in_default : goal.returns-in_default
-unfolding card_check ◌>>◌ outcome
-returns-in_default c = rw (← c.settings_check-checked.ensures, c.in_default.is)
+pub returns-in_err-table_checked : goal.returns-in_err-table_checked
+unfolding card_check ◌>>◌
+returns-in_err-table_checked c =
+    let hall = hall_checked (goal.at.returns-in_err-table_checked c).After-table_checked in
+    search rules
 
-pub returns-in_default-of_the_hall : goal.returns-in_default-of_the_hall
-unfolding card_check ◌>>◌ outcome
-returns-in_default-of_the_hall c = rw (good-settings (goal.at.returns-in_default-of_the_hall c).In-Accepted, ← c.table_check-of_the_hall.ensures, c.in_default-of_the_hall.is)
+pub returns-in_err-table_checked-2 : goal.returns-in_err-table_checked-2
+unfolding card_check ◌>>◌
+returns-in_err-table_checked-2 c =
+    let hall = hall_checked (goal.at.returns-in_err-table_checked-2 c).After-table_checked in
+    let line = line_checked (goal.at.returns-in_err-table_checked-2 c).After-table_checked-2 in
+    search rules
 
-pub returns-in_default-of_the_line : goal.returns-in_default-of_the_line
-unfolding card_check ◌>>◌ outcome
-returns-in_default-of_the_line c = rw (good-settings (goal.at.returns-in_default-of_the_line c).In-Accepted, good-hall (goal.at.returns-in_default-of_the_line c).In-Accepted-of_the_hall, ← c.line_check-of_the_line.ensures, c.in_default-of_the_line.is)
+pub table_checked-requires-3-clause-fits : goal.table_checked-requires-3-clause-fits
+unfolding bytes_of no_letters
+table_checked-requires-3-clause-fits c = (omega arith, no_letters_letterless)
 
 pub returns : goal.returns
-unfolding card_check ◌>>◌ outcome
-returns c = rw (good-settings (goal.at.returns c).In-Accepted, good-hall (goal.at.returns c).In-Accepted-of_the_hall, good-line (goal.at.returns c).In-Accepted-of_the_line) c.numerals_check.ensures
-
-pub table_check-of_the_hall-requires : goal.table_check-of_the_hall-requires
-table_check-of_the_hall-requires c = good-settings c
-
-pub line_check-of_the_line-requires : goal.line_check-of_the_line-requires
-line_check-of_the_line-requires c = good-settings (goal.at.line_check-of_the_line-requires c).In-Accepted
+unfolding card_check ◌>>◌ numerals_check_in bytes_of no_letters
+returns c =
+    let hall = hall_checked (goal.at.returns c).After-table_checked in
+    let line = line_checked (goal.at.returns c).After-table_checked-2 in
+    let numerals = c.table_checked-3.ensures BadNumeral (λ i r below is. is)
+    ∙ tabled_alike NumeralsSize most_numerals _ (numeral_accepted c.args.numerals.now) BadNumeral _ (numeral_ruled _ refl refl _ (λ k. (c.type_inv.numerals k).fits)) in
+    search rules

@@ -1,43 +1,25 @@
--- `card::table::named_before` meets its contract: none of the rows passed has the name. The measure is how many are left. Assumes nothing.
-use mathlib.Core.Bool.{false}
-use mathlib.Core.Path.{◌≡◌, refl, sym, ap, ◌∙◌}
-use native.Mathlib.Omega.{arith}
-use lib.ListN.{length}
-use Rattle.rules.specs.SettingsAndUnitTable.{named_in}
-use Rattle.card.specs.Laws.Table.{named_earlier, named_not_yet}
-use Rattle.rows.specs.Laws.Rows.{length_row}
+-- `card::table::named_before` meets its contract: one of the rows before it has the name. Assumes nothing.
+use Rattle.std.proofs.Common.{◌≡◌, ◌<◌, true, refl, ◌∙◌, arith, rules, tests}
+use Rattle.std.proofs.lemmas.Iterator.{YieldsList-from_range, serves_from_Range}
+use Rattle.std.proofs.lemmas.Iterator.Search.{any_from_yields_List}
+use Rattle.rules.specs.Common.{same}
+use Rattle.rules.specs.SettingsAndUnitTable.{rows, row, name}
+use Rattle.rows.specs.Named.{padded}
+use Rattle.card.specs.Laws.Table.{any_earlier}
 use Rattle.card.proofs.table.named_before.Goals as goal
 
-pub row_at-own-requires : goal.row_at-own-requires
-row_at-own-requires c = c.requires.i_bound
-
-pub loop-earlier-init : goal.loop-earlier-init
-unfolding named_in
-loop-earlier-init c = (omega arith, refl)
-
-pub row_at-requires : goal.row_at-requires
-row_at-requires c = omega (arith, c.requires.i_bound)
-
-pub same_name-requires : goal.same_name-requires
-same_name-requires c =
-    let table = c.args.table.now in
-    let earlier = c.loop-earlier.earlier in record { row_len = (ap length c.row_at.ensures ∙ length_row table earlier (omega (arith, c.requires.i_bound)), rw c.row_at.ensures (c.requires.by_index earlier (omega arith))); other_len = (ap length c.row_at-own.ensures ∙ length_row table c.args.i c.requires.i_bound, rw c.row_at-own.ensures (c.requires.by_index c.args.i (omega arith))) }
-
-pub returns-then-same_name : goal.returns-then-same_name
-returns-then-same_name c =
-    let loop = c.loop-earlier in
-    sym
-    (rw (← c.row_at-own.ensures)
-    (named_earlier _ _ _ loop.earlier (omega arith) (rw (← c.row_at.ensures) (sym c.same_name.ensures ∙ c.if-same_name.true))))
-
-pub loop-earlier-preserved : goal.loop-earlier-preserved
-loop-earlier-preserved c =
-    let loop = c.loop-earlier in (
-      omega arith,
-      named_not_yet _ _ loop.earlier (rw (← c.row_at.ensures) (sym c.same_name.ensures ∙ c.if-same_name.false)) loop.invariant.1,
-    )
+pub any-requires-clause-callable : goal.any-requires-clause-callable
+any-requires-clause-callable c =
+    serves_from_Range (λ x q k. search rules)
+    (λ x low high.
+    let early : x < rows c.args.table.now = omega (arith, c.requires.i_bound) in
+    let one : padded (row c.args.table.now x) ≡ true = c.requires.by_index x (omega arith) in
+    let other : padded (row c.args.table.now c.args.i) ≡ true = c.requires.by_index c.args.i (omega arith) in
+    search rules)
 
 pub returns : goal.returns
 returns c =
-    let all : c.loop-earlier.earlier ≡ c.args.i = omega arith in
-    sym (rw (← c.row_at-own.ensures, ← all) c.loop-earlier.invariant.1)
+    let table = c.args.table.now in
+    let wanted = name (row table c.args.i) in
+    any_from_yields_List (λ j. same (name (row table j)) wanted) _ _ _ c.any.ensures.ran (YieldsList-from_range 0 c.args.i c.args.i refl (omega arith)) (λ x b q k. search (rules, tests))
+    ∙ any_earlier table wanted c.args.i

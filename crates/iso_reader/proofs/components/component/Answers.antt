@@ -1,47 +1,51 @@
 -- `iso_reader::components::component` meets its contract: a number, and the letter at its end. Assumes nothing.
-use mathlib.Core.Path.{◌≡◌, sym, ap, ◌∙◌}
-use mathlib.Core.Bool.{false}
-use lib.ListN.{get_or, drop}
-use Rattle.iso.specs.IsoTimings.{wanted, kind_of, may_come, read_from}
-use Rattle.iso_reader.specs.Steps.{typed_whole, typed_fraction, letter_from, number_outcome, Within, component_outcome, letter_none, letter_comes, letter_year, letter_other}
+use Rattle.std.proofs.Common.{◌≡◌, ◌∙◌, ℕ, false, leb, refl, sym, ap, get_or, arith}
+use Rattle.rules.specs.NumbersHandedBack.{◌>>=◌}
+use Rattle.rules.specs.Common.{between}
+use Rattle.rules.proofs.Laws.Choices.{if_either}
+use Rattle.iso.specs.IsoTimings.{ANY, kind_of, may_come}
+use Rattle.iso_reader.specs.Kinds.{bound}
+use Rattle.iso_reader.specs.Steps.{number_then, component_then, handed_on, letter_none, letter_comes, letter_year, letter_other}
 use Rattle.iso_reader.proofs.components.component.Goals as goal
-use Rattle.iso_reader.proofs.components.component.Goals.{Else-may_come, In-Got}
+use Rattle.iso_reader.proofs.components.component.Goals.{After-year_or_month, In-Some, in_default-kind_of-via-in-Some-kind_of+else-may_come, in_default-kind_of-via-in_default-kind_of}
 
--- the number that was read, and what comes after it
-typed-read :
-    (c : In-Got)
-    → let t = c.in-Got.typed in
-    letter_from c.args.below (typed_whole c.args.text.now t) (typed_fraction c.args.text.now t) t.end (drop t.end c.args.text.now) ≡ read_from (wanted c.args.below) c.args.place (drop c.args.place c.args.text.now)
-unfolding number_outcome
-typed-read c =
-    sym (ap (number_outcome c.args.below c.args.text.now) c.in-Got.is) ∙ c.number.ensures.by_index c.args.below
+pub returns-in_err-typed-clause-outcome : goal.returns-in_err-typed-clause-outcome
+unfolding ◌>>=◌
+returns-in_err-typed-clause-outcome c = rw (handed_on c.from_residual.result c.from_residual.ensures.1) (c.in_err-typed.ensures.by_index _)
 
-typed-within : (c : In-Got) → Within c.args.text.now c.in-Got.typed
-typed-within c = rw c.in-Got.is at c.number.ensures.number_within
+pub returns-in_default-clause-outcome : goal.returns-in_default-clause-outcome
+unfolding ◌>>=◌ number_then
+returns-in_default-clause-outcome c = letter_none c.args.text.now _ _ c.in_ok-typed.at _ c.in_default.ensures.lookup.3 ∙ c.in_ok-typed.ensures.by_index _
 
--- the byte at the number's end is no letter that may come
-never :
-    (c : Else-may_come)
-    → may_come c.args.below (kind_of (get_or c.args.text.now c.in-Got.typed.end 0)) ≡ false
-never c = rw (← c.kind_of-kind.ensures) (sym c.may_come.ensures ∙ c.if-may_come.false)
+-- the letter stands behind the number
+letter : (c : In-Some) → c.in-Some.field-0.now ≡ get_or c.args.text.now c.in_ok-typed.at 0
+letter c = c.in-Some.ensures.lookup.4 (omega arith) 0
 
-pub returns-then-at-text : goal.returns-then-at-text
-unfolding component_outcome
-returns-then-at-text c = record { result_value = letter_none c.args.text.now c.in-Got.typed c.args.below c.if-at-text.true ∙ typed-read (goal.at.returns-then-at-text c).In-Got; component_within = tt }
+pub returns-in-Some-kind_of-clause-outcome : goal.returns-in-Some-kind_of-clause-outcome
+unfolding ◌>>=◌ number_then component_then
+returns-in-Some-kind_of-clause-outcome c =
+    let kind = c.in-Some-kind_of.ensures ∙ ap kind_of (letter (goal.at.returns-in-Some-kind_of-clause-outcome c).In-Some) in
+    rw kind (letter_comes c.args.text.now _ _ c.in_ok-typed.at _ c.in-Some.ensures.lookup.3.0 (rw kind at (sym c.if-may_come.ensures)) ∙ c.in_ok-typed.ensures.by_index _)
 
-pub returns-then-may_come : goal.returns-then-may_come
-returns-then-may_come c =
-    let comes = sym c.may_come.ensures ∙ c.if-may_come.true in
-    record { result_value = rw c.kind_of-kind.ensures (letter_comes c.args.text.now c.in-Got.typed c.args.below c.if-at-text.false (rw c.kind_of-kind.ensures at comes) ∙ typed-read (goal.at.returns-then-may_come c).In-Got); component_within = record { number = typed-within (goal.at.returns-then-may_come c).In-Got; ends_before = c.if-at-text.false; comes = comes } }
+-- 0 is no kind that may come
+none_comes : (k : ℕ) → may_come k 0 ≡ false
+unfolding may_come between
+none_comes k = if_either (λ t. t ≡ false) (leb ANY k) (λ _. refl) (λ _. refl)
 
-pub returns-then-year_or_month : goal.returns-then-year_or_month
-unfolding component_outcome
-returns-then-year_or_month c = record { result_value = letter_year c.args.text.now c.in-Got.typed c.args.below c.if-at-text.false (never (goal.at.returns-then-year_or_month c).Else-may_come) (sym c.year_or_month.ensures ∙ c.if-year_or_month.true) ∙ typed-read (goal.at.returns-then-year_or_month c).In-Got; component_within = tt }
+never : (c : After-year_or_month) → may_come (bound c.args.below) (kind_of c.in-Some.field-0.now) ≡ false
+never c =
+    elim c.in_default-kind_of.branch [ in_default-kind_of-via-in-Some-kind_of+else-may_come w ↦ rw (← w.in-Some-kind_of.ensures) (sym w.if-may_come.ensures) | in_default-kind_of-via-in_default-kind_of w ↦ rw (← w.in_default-kind_of.ensures) (none_comes _) ]
 
-pub returns-in-Refused : goal.returns-in-Refused
-unfolding component_outcome number_outcome
-returns-in-Refused c = record { result_value = sym (ap (number_outcome c.args.below c.args.text.now) c.in-Refused.is) ∙ c.number.ensures.by_index c.args.below; component_within = tt }
+pub returns-in_default-kind_of-clause-outcome : goal.returns-in_default-kind_of-clause-outcome
+unfolding ◌>>=◌ number_then
+returns-in_default-kind_of-clause-outcome c =
+    let at = goal.at.returns-in_default-kind_of-clause-outcome c in
+    let letter = letter at.In-Some in
+    letter_year c.args.text.now _ _ c.in_ok-typed.at _ c.in-Some.ensures.lookup.3.0 (rw letter at (never at.After-year_or_month)) (rw letter at (sym c.if-year_or_month.ensures)) ∙ c.in_ok-typed.ensures.by_index _
 
-pub returns-else-year_or_month : goal.returns-else-year_or_month
-unfolding component_outcome
-returns-else-year_or_month c = record { result_value = letter_other c.args.text.now c.in-Got.typed c.args.below c.if-at-text.false (never (goal.at.returns-else-year_or_month c).Else-may_come) (sym c.year_or_month.ensures ∙ c.if-year_or_month.false) ∙ typed-read (goal.at.returns-else-year_or_month c).In-Got; component_within = tt }
+pub returns-in_default-2-clause-outcome : goal.returns-in_default-2-clause-outcome
+unfolding ◌>>=◌ number_then
+returns-in_default-2-clause-outcome c =
+    let at = goal.at.returns-in_default-2-clause-outcome c in
+    let letter = letter at.In-Some in
+    letter_other c.args.text.now _ _ c.in_ok-typed.at _ c.in-Some.ensures.lookup.3.0 (rw letter at (never at.After-year_or_month)) (rw letter at (sym c.if-year_or_month.ensures)) ∙ c.in_ok-typed.ensures.by_index _

@@ -1,29 +1,30 @@
 -- `iso_reader::components::kind_of` meets its contract: each letter, and none. Assumes nothing.
-use borrow.Author.Tests.{eq-eqb, ne_eqb}
+use Rattle.std.proofs.Common.{arith}
+use Rattle.std.proofs.lemmas.Grind.{common_steps}
 use Rattle.rules.specs.Common.{when◌then◌else◌}
 use Rattle.iso.specs.IsoTimings.{kind_of}
 use Rattle.iso_reader.proofs.components.kind_of.Goals as goal
 
-pub returns-then-byte-eq83 : goal.returns-then-byte-eq83
+pub returns-in-83 : goal.returns-in-83
 unfolding kind_of when◌then◌else◌
-returns-then-byte-eq83 c = rw (eq-eqb _ _ c.if-byte-eq83.true)
+returns-in-83 c = rw c.in-83.is
 
-pub returns-then-byte-eq77 : goal.returns-then-byte-eq77
+pub returns-in-77 : goal.returns-in-77
 unfolding kind_of when◌then◌else◌
-returns-then-byte-eq77 c = rw (ne_eqb _ _ c.if-byte-eq83.false, eq-eqb _ _ c.if-byte-eq77.true)
+returns-in-77 c = rw c.in-77.is
 
-pub returns-then-byte-eq72 : goal.returns-then-byte-eq72
+pub returns-in-72 : goal.returns-in-72
 unfolding kind_of when◌then◌else◌
-returns-then-byte-eq72 c = rw (ne_eqb _ _ c.if-byte-eq83.false, ne_eqb _ _ c.if-byte-eq77.false, eq-eqb _ _ c.if-byte-eq72.true)
+returns-in-72 c = rw c.in-72.is
 
-pub returns-then-byte-eq68 : goal.returns-then-byte-eq68
+pub returns-in-68 : goal.returns-in-68
 unfolding kind_of when◌then◌else◌
-returns-then-byte-eq68 c = rw (ne_eqb _ _ c.if-byte-eq83.false, ne_eqb _ _ c.if-byte-eq77.false, ne_eqb _ _ c.if-byte-eq72.false, eq-eqb _ _ c.if-byte-eq68.true)
+returns-in-68 c = rw c.in-68.is
 
-pub returns-then-byte-eq87 : goal.returns-then-byte-eq87
+pub returns-in-87 : goal.returns-in-87
 unfolding kind_of when◌then◌else◌
-returns-then-byte-eq87 c = rw (ne_eqb _ _ c.if-byte-eq83.false, ne_eqb _ _ c.if-byte-eq77.false, ne_eqb _ _ c.if-byte-eq72.false, ne_eqb _ _ c.if-byte-eq68.false, eq-eqb _ _ c.if-byte-eq87.true)
+returns-in-87 c = rw c.in-87.is
 
-pub returns : goal.returns
+pub returns-in_default : goal.returns-in_default
 unfolding kind_of when◌then◌else◌
-returns c = rw (ne_eqb _ _ c.if-byte-eq83.false, ne_eqb _ _ c.if-byte-eq77.false, ne_eqb _ _ c.if-byte-eq72.false, ne_eqb _ _ c.if-byte-eq68.false, ne_eqb _ _ c.if-byte-eq87.false)
+returns-in_default c = grind (arith, common_steps, c.in_default)

@@ -1,16 +1,19 @@
--- `iso_reader::components::year_or_month` meets its contract: two bytes, before `T`. Assumes nothing.
-use borrow.Author.Tests.{lt-leb, le-leb, eq-eqb, ne_eqb}
+-- `iso_reader::components::year_or_month` meets its contract: two bytes, before the first component. Assumes nothing.
+use Rattle.std.proofs.Common.{arith, ⊎_elim}
+use Rattle.std.proofs.lemmas.Grind.{common_steps}
 use Rattle.iso.specs.IsoTimings.{year_or_month}
+use Rattle.iso_reader.specs.Kinds.{bound_first, bound_later}
 use Rattle.iso_reader.proofs.components.year_or_month.Goals as goal
 
-pub returns-then-below-lt-ANY : goal.returns-then-below-lt-ANY
+pub returns-in-89 : goal.returns-in-89
 unfolding year_or_month
-returns-then-below-lt-ANY c = rw (lt-leb _ _ c.if-below-lt-ANY.true)
+returns-in-89 c = rw (bound_first c.args.below c.if-is_none.ensures) (⊎_elim (λ e. rw e) (λ e. rw e) c.in-89.is)
 
-pub returns-then-byte-eq89 : goal.returns-then-byte-eq89
+pub returns-in_default : goal.returns-in_default
 unfolding year_or_month
-returns-then-byte-eq89 c = rw (le-leb _ _ c.if-below-lt-ANY.false, eq-eqb _ _ c.if-byte-eq89.true)
+returns-in_default c =
+    rw (bound_first c.args.below c.if-is_none.ensures) (grind (arith, common_steps, c.in_default))
 
-pub returns : goal.returns
+pub returns-else-is_none : goal.returns-else-is_none
 unfolding year_or_month
-returns c = rw (le-leb _ _ c.if-below-lt-ANY.false, ne_eqb _ _ c.if-byte-eq89.false)
+returns-else-is_none c = rw (bound_later c.args.below c.if-is_none.ensures, c.if-is_none.false)

@@ -1,57 +1,24 @@
 -- `iso_reader::reader::dated` meets its contract: a component that closes, the end, no `T`, and `T`. Assumes nothing.
-use mathlib.Core.Path.{◌≡◌, sym, ◌∙◌}
-use mathlib.Core.Bool.{false}
-use native.Mathlib.Omega.{arith}
-use borrow.Author.Tests.{not-true, not-false}
-use Rattle.iso.specs.IsoTimings.{closes}
-use Rattle.iso_reader.specs.Steps.{component_of}
-use Rattle.iso_reader.specs.Sums.{Sized, sized_date, days, none_so_far, sum_closes, sum_ends, sum_clock, sum_no_clock}
-use Rattle.std.proofs.Common.{ap, not}
+use Rattle.std.proofs.Common.{◌∙◌, sym, ap, arith, eqb}
+use borrow.Author.Tests.{ne_eqb}
+use Rattle.iso_reader.specs.Steps.{found_there}
+use Rattle.iso_reader.specs.Sums.{days, none_so_far, sum_closes, sum_ends, sum_clock, sum_no_clock}
 use Rattle.iso_reader.proofs.reader.dated.Goals as goal
-use Rattle.iso_reader.proofs.reader.dated.Goals.{Else-closes, Start}
-
-known : (c : Start) → Sized c.args.text.now c.args.counted
-known c = sized_date _ _ c.requires
-
-pub with_whole-sum-requires : goal.with_whole-sum-requires
-with_whole-sum-requires c = known (goal.at.with_whole-sum-requires c).Start
-
-pub ended-requires : goal.ended-requires
-ended-requires c = known (goal.at.ended-requires c).Start
 
 pub returns-then-closes : goal.returns-then-closes
 returns-then-closes c =
-    c.ended.ensures
-    ∙ sum_closes _ _ (known (goal.at.returns-then-closes c).Start) _ _ c.with_whole-sum.ensures (sym (c.closes.ensures _ (known (goal.at.returns-then-closes c).Start)) ∙ c.if-closes.true)
-    ∙ none_so_far _
+    c.ended.ensures ∙ sum_closes c.args.counted.now _ _ c.with_whole-sum.ensures c.args.text.now (sym c.if-closes.ensures) ∙ none_so_far _
 
--- the component does not close, and so is of days
-open-ended :
-    (c : Else-closes)
-    → closes (component_of c.args.text.now c.args.counted) ≡ false
-open-ended c = sym (c.closes.ensures _ (sized_date _ _ c.requires)) ∙ c.if-closes.false
+pub returns-in-None : goal.returns-in-None
+returns-in-None c =
+    c.length_of.ensures ∙ sum_ends c.args.text.now c.args.counted.now _ _ c.with_whole-sum.ensures (sym c.if-closes.ensures) c.in-None.ensures.lookup.3 ∙ none_so_far _
 
-pub overflow_add-next : goal.overflow_add-next
-overflow_add-next c = let within = (known (goal.at.overflow_add-next c).Start).ends_before in omega arith
+pub returns-in-Some-eq84 : goal.returns-in-Some-eq84
+returns-in-Some-eq84 c =
+    let more = sym c.if-closes.ensures in
+    c.clock.ensures ∙ sum_clock c.args.text.now c.args.counted.now _ _ c.with_whole-sum.ensures more (days c.args.counted.now c.requires more) (found_there (eqb 84) _ _ _ c.in-Some-eq84.ensures.lookup.3.0 (c.in-Some-eq84.ensures.lookup.4 (omega arith) 0) ∙ ap (eqb 84) c.in-Some-eq84.field-0-test) ∙ none_so_far _
 
-pub returns-then-next-text : goal.returns-then-next-text
-returns-then-next-text c =
-    c.length_of.ensures
-    ∙ sum_ends _ _ (known (goal.at.returns-then-next-text c).Start) _ _ c.with_whole-sum.ensures (open-ended (goal.at.returns-then-next-text c).Else-closes) c.if-next-text.true
-    ∙ none_so_far _
-
-pub returns-then-not-stands : goal.returns-then-not-stands
-returns-then-not-stands c =
-    sum_no_clock _ _ (known (goal.at.returns-then-not-stands c).Start) _ _ c.with_whole-sum.ensures (open-ended (goal.at.returns-then-not-stands c).Else-closes) (days _ _ c.requires (open-ended (goal.at.returns-then-not-stands c).Else-closes)) c.if-next-text.false
-    (sym c.stands.ensures ∙ not-true _ (ap not c.if-not-stands.true))
-    ∙ none_so_far _
-
-pub overflow_add-next-2 : goal.overflow_add-next-2
-overflow_add-next-2 c = let within = c.if-next-text.false in omega arith
-
-pub returns : goal.returns
-returns c =
-    c.clock.ensures
-    ∙ sum_clock _ _ (known (goal.at.returns c).Start) _ _ c.with_whole-sum.ensures (open-ended (goal.at.returns c).Else-closes) (days _ _ c.requires (open-ended (goal.at.returns c).Else-closes))
-    (sym c.stands.ensures ∙ not-false _ (ap not c.if-not-stands.false))
-    ∙ none_so_far _
+pub returns-in-Some : goal.returns-in-Some
+returns-in-Some c =
+    let more = sym c.if-closes.ensures in
+    sum_no_clock c.args.text.now c.args.counted.now _ _ c.with_whole-sum.ensures more (days c.args.counted.now c.requires more) c.in-Some.ensures.lookup.3.0 (found_there (eqb 84) _ _ c.in-Some.field-0.now c.in-Some.ensures.lookup.3.0 (c.in-Some.ensures.lookup.4 (omega arith) 0) ∙ ne_eqb 84 c.in-Some.field-0.now (λ e. c.in-Some.field-0-test.1 (sym e))) ∙ none_so_far _

@@ -1,41 +1,27 @@
--- `iso_reader::worth::fraction_nanoseconds` meets its contract: at each turn the digits from the place on are known, and what they are
--- worth is less than a unit. Assumes nothing.
-use Prim.Native.Nat.{◌+◌, ◌*◌, ◌-◌, ◌^◌, ◌<◌}
-use native.Mathlib.Omega.{arith}
-use borrow.Author.Rules.{rules}
+-- `iso_reader::worth::fraction_nanoseconds` meets its contract: the digits that are left and those that are done are all of them, and what
+-- those done are worth is known. Assumes nothing.
+use Rattle.std.proofs.Common.{◌++◌, ◌∷◌, []}
 use Rattle.value.specs.Digits.{digit_low}
-use Rattle.iso_reader.specs.Tenths.{tenths, known_none, known_more, known_done, digit_before, tenth_fits}
+use Rattle.iso_reader.specs.Tenths.{Behind, behind_none, behind_more, behind_digit, behind_fits, behind_done}
 use Rattle.iso_reader.proofs.worth.fraction_nanoseconds.Goals as goal
-use Rattle.iso_reader.proofs.worth.fraction_nanoseconds.Goals.{After-wide}
+use Rattle.iso_reader.proofs.worth.fraction_nanoseconds.Goals.{In-Some}
 
-pub loop-place-init : goal.loop-place-init
-loop-place-init c = known_none _ _ _ _ (search rules)
+pub loop-digit-init : goal.loop-digit-init
+loop-digit-init c =
+    rw (c.into_iter-digit-iterator.ensures.into_iter_gives, c.rev-digit-items.ensures.source, c.iter.ensures.rest) (behind_none _ _)
 
-pub bounds-text-place : goal.bounds-text-place
-bounds-text-place c = omega (arith, c.loop-place.invariant.1)
+-- the digit stands last of those that are left
+last : (c : In-Some) → Behind c.args.decimals.now c.args.unit (c.next.new.self.iter.rest.now ++ (c.in-Some.digit.now ∷ [])) c.loop-digit.behind
+last c = rw c.in-Some.ensures.steps at c.loop-digit.invariant
 
 pub overflow_sub-behind : goal.overflow_sub-behind
-overflow_sub-behind c = rw c.wide.ensures (digit_low _ (digit_before _ _ _ _ _ _ (search rules) (search rules) (search rules) c.loop-place.invariant c.loop-place-test.true))
-
--- the digit's units and what stands behind it fit a word
-fits :
-    (c : After-wide)
-    → (c.wide.result - 48) * c.args.unit + c.loop-place.behind < 2 ^ 64
-fits c =
-    rw c.wide.ensures
-    (tenth_fits _ _ _ _ _ _ (search rules) (search rules) (search rules) c.loop-place.invariant c.loop-place-test.true (search rules))
-
-pub overflow_mul-behind : goal.overflow_mul-behind
-overflow_mul-behind c = record { fits = omega (arith, fits c) }
+overflow_sub-behind c = digit_low _ (behind_digit _ _ _ _ _ (last (goal.at.overflow_sub-behind c).In-Some) c.requires.digits)
 
 pub overflow_add-behind : goal.overflow_add-behind
-overflow_add-behind c = record { fits = fits c }
+overflow_add-behind c = record { fits = behind_fits _ _ _ _ _ (last (goal.at.overflow_add-behind c).In-Some) c.requires.digits c.requires.unit_nonzero.0 c.requires.unit_nonzero.1 }
 
-pub loop-place-preserved : goal.loop-place-preserved
-loop-place-preserved c =
-    rw c.wide.ensures
-    (known_more _ _ _ _ _ _ (search rules) (search rules) (search rules) c.loop-place.invariant c.loop-place-test.true)
+pub loop-digit-preserved : goal.loop-digit-preserved
+loop-digit-preserved c = behind_more _ _ _ _ _ (last (goal.at.loop-digit-preserved c).In-Some)
 
 pub returns : goal.returns
-unfolding tenths
-returns c = known_done _ _ _ _ _ _ c.loop-place.invariant c.loop-place-test.false
+returns c = behind_done _ _ _ _ c.loop-digit.invariant c.in-None.ensures.steps.0

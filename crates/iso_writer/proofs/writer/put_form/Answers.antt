@@ -1,54 +1,28 @@
--- `iso_writer::writer::put_form` meets its contract: `PT`, and one component behind another. Assumes nothing.
-use mathlib.Core.Path.{◌≡◌, ◌∙◌, ap}
-use Prim.Native.Nat.{◌+◌}
-use native.Mathlib.Omega.{arith}
-use lib.ListN.{length, set, length-set}
-use Rattle.writing.specs.Laid.{laid, laid_length}
-use Rattle.iso_writer.specs.Forms.{part_bytes, part_kept, form_length, form_laid}
+-- `iso_writer::writer::put_form` meets its contract: at each turn the components so far stand behind `PT`. Assumes nothing.
+use Rattle.std.proofs.Common.{◌≡◌, ◌<◌, ◌+◌, ◌∙◌, ap, length, length-set, take_all, set, arith}
+use Rattle.writing.specs.Laid.{laid, laid_nothing}
+use Rattle.iso_writer.specs.Forms.{parts_bytes, form_laid, form_more, more_size}
 use Rattle.iso_writer.proofs.writer.put_form.Goals as goal
-use Rattle.iso_writer.proofs.writer.put_form.Goals.{After-seconds-1}
 
-pub bounds-buffer-place : goal.bounds-buffer-place
-bounds-buffer-place c = omega (arith, c.requires.1)
+pub loop-part-init : goal.loop-part-init
+loop-part-init c = (omega arith, laid_nothing _ _)
 
-pub bounds-buffer-clock : goal.bounds-buffer-clock
-bounds-buffer-clock c = omega (arith, length-set c.args.buffer.now c.args.place 80, c.requires.1)
-
--- `P` and `T` change no length
-lettered :
-    (c : After-seconds-1)
-    → length (set (set c.args.buffer.now c.args.place 80) (c.args.place + 1) 84) ≡ length c.args.buffer.now
-lettered c =
-    length-set (set c.args.buffer.now c.args.place 80) (c.args.place + 1) 84 ∙ length-set c.args.buffer.now c.args.place 80
-
-pub put_part-after_hours-requires : goal.put_part-after_hours-requires
-put_part-after_hours-requires c = (c.requires.0.0, omega (arith, lettered (goal.at.put_part-after_hours-requires c).After-seconds-1, c.requires.1))
-
-pub put_part-after_minutes-requires : goal.put_part-after_minutes-requires
-put_part-after_minutes-requires c =
-    let form = c.args.form in
-    let kept = part_kept form.hours _ _ _ c.put_part-after_hours.ensures.buffer_after (omega (arith, lettered (goal.at.put_part-after_minutes-requires c).After-seconds-1, c.requires.1)) in
-    (c.requires.0.1, omega (arith, kept, lettered (goal.at.put_part-after_minutes-requires c).After-seconds-1, c.put_part-after_hours.ensures.value, c.requires.1))
-
-pub put_part-requires : goal.put_part-requires
-put_part-requires c =
-    let form = c.args.form in
-    let next = c.put_part-after_hours.ensures.value in
-    let kept = part_kept form.hours _ _ _ c.put_part-after_hours.ensures.buffer_after (omega (arith, lettered (goal.at.put_part-requires c).After-seconds-1, c.requires.1)) in
-    let kept_too =
-    part_kept form.minutes _ _ _ c.put_part-after_minutes.ensures.buffer_after (omega (arith, kept, lettered (goal.at.put_part-requires c).After-seconds-1, next, c.requires.1)) in
-    (c.requires.0.2, omega (arith, kept_too, kept, lettered (goal.at.put_part-requires c).After-seconds-1, next, c.put_part-after_minutes.ensures.value, c.requires.1))
+pub loop-part-preserved : goal.loop-part-preserved
+loop-part-preserved c =
+    let form = c.args.form.now in
+    let i = c.loop-part.part-index in
+    let item = c.part-item.result in
+    let within : i < length form = omega arith in
+    let letters = set (set c.args.buffer.now c.args.place 80) (c.args.place + 1) 84 in
+    let kept : length letters ≡ length c.args.buffer.now = length-set (set c.args.buffer.now c.args.place 80) (c.args.place + 1) 84 ∙ length-set c.args.buffer.now c.args.place 80 in (
+      omega (arith, c.put_part-next.ensures.value, c.loop-part.invariant.0, more_size form i item within),
+      c.put_part-next.ensures.buffer_after
+          ∙ rw (c.loop-part.invariant.1, c.loop-part.invariant.0) (form_more form i item within letters (c.args.place + 1 + 1) (omega (arith, kept, c.requires))),
+    )
 
 pub returns : goal.returns
 returns c =
-    let form = c.args.form in
-    let after_hours = c.put_part-after_hours.result in
-    let after_minutes = c.put_part-after_minutes.result in
-    c.put_part.ensures.buffer_after
-    ∙ ap (λ b. laid b after_minutes (part_bytes form.seconds))
-    (c.put_part-after_minutes.ensures.buffer_after ∙ ap (λ b. laid b after_hours (part_bytes form.minutes)) c.put_part-after_hours.ensures.buffer_after)
-    ∙ form_laid form c.args.buffer.now c.args.place after_hours after_minutes
-    c.put_part-after_hours.ensures.value c.put_part-after_minutes.ensures.value c.requires.1
-
-pub shape_of-buffer : goal.shape_of-buffer
-shape_of-buffer c = ap length (returns c) ∙ laid_length _ _ _ (omega (arith, form_length c.args.form, c.requires.1))
+    let form = c.args.form.now in
+    c.loop-part.invariant.1
+    ∙ ap (λ l. laid (set (set c.args.buffer.now c.args.place 80) (c.args.place + 1) 84) (c.args.place + 1 + 1) (parts_bytes l)) (take_all c.loop-part.part-index form (omega arith))
+    ∙ form_laid form c.args.buffer.now c.args.place c.requires

@@ -21,7 +21,7 @@ good c = sym c.well_formed-2.ensures ∙ not-false _ (ap not c.if-not-well_forme
 
 -- the size is that of what is written
 size_is : (c : After-size-size) → c.size-size.result ≡ length (iso_written c.args.length)
-size_is c = c.size-size.ensures ∙ sym (form_length _) ∙ ap length c.counted-form.ensures.0
+size_is c = c.size-size.ensures ∙ sym (form_length _) ∙ ap length c.counted-form.ensures
 
 pub returns-then-not-well_formed : goal.returns-then-not-well_formed
 returns-then-not-well_formed c = let kept = write_malformed _ _ _ (sym c.well_formed-2.ensures ∙ not-true _ (ap not c.if-not-well_formed.true)) in record { value = c.refusal.ensures ∙ kept.0; buffer_after = kept.1 }
@@ -45,4 +45,4 @@ pub returns : goal.returns
 returns c =
     let kept =
     write_done c.args.length c.args.buffer.now c.args.place (good (goal.at.returns c).Else-not-well_formed) c.if-length.false c.if-place-buffer.false
-    (omega (arith, size_is (goal.at.returns c).After-size-size, c.if-size-buffer.false)) in record { value = c.done.ensures ∙ ap (λ n. done (c.args.place + n) c.args.length) (size_is (goal.at.returns c).After-size-size) ∙ kept.0; buffer_after = c.put_form.ensures ∙ ap (laid c.args.buffer.now c.args.place) c.counted-form.ensures.0 ∙ kept.1 }
+    (omega (arith, size_is (goal.at.returns c).After-size-size, c.if-size-buffer.false)) in record { value = c.done.ensures ∙ ap (λ n. done (c.args.place + n) c.args.length) (size_is (goal.at.returns c).After-size-size) ∙ kept.0; buffer_after = c.put_form.ensures ∙ ap (laid c.args.buffer.now c.args.place) c.counted-form.ensures ∙ kept.1 }

@@ -1,16 +1,10 @@
 -- `lengths::duration::calculate_duration` meets its contract: a coefficient multiplies seconds and attoseconds apart, and each product is
 -- known to fit before it is made. Assumes nothing.
-use mathlib.Core.Path.{◌≡◌, sym, ◌∙◌, ap}
-use Prim.Native.Nat.{◌*◌}
-use native.Mathlib.Nat.{lt_trans, zero-add}
-use native.Mathlib.Omega.{arith}
-use lib.Dec.{lit<}
-use borrow.Author.Rules.{rules}
+use Rattle.std.proofs.Common.{◌≡◌, sym, ◌∙◌, ap, ◌*◌, ◌/◌, ◌%◌, ◌^◌, zero-add, rules}
 use Rattle.rules.specs.Evaluation.{length_of}
-use Rattle.lengths.specs.Duration.{cut}
 use Rattle.rules.proofs.Laws.Apart.{none, nanos_whole, nanos_one, nanos_none}
 use Rattle.lengths.proofs.Fitting.{fits, passes, seconds_fit}
-use Rattle.lengths.proofs.Cuts.{seconds_clamped, cut_below, cut_apart}
+use Rattle.lengths.proofs.Cuts.{seconds_clamped, cut_apart}
 use Rattle.lengths.proofs.duration.calculate_duration.Goals as goal
 use Rattle.lengths.proofs.duration.calculate_duration.Goals.{Joined-attos-most, else-attos-most, then-attos-most}
 
@@ -35,17 +29,18 @@ overflow_mul-coefficient c = record { fits = fits _ _ (search rules) c.if-attos-
 pub cut_words-size-requires : goal.cut_words-size-requires
 cut_words-size-requires c = rw c.product.ensures (seconds_fit (search rules) (search rules))
 
-either_way : (c : Joined-attos-most) → c.if-attos-most.size ≡ cut (c.args.coefficient * c.args.attos)
-either_way c = elim c.if-attos-most.branch [ then-attos-most w ↦ w.size-is ∙ w.cut_word-size.ensures | else-attos-most w ↦ w.size-is ∙ w.cut_words-size.ensures ∙ ap cut w.product.ensures ]
-
-pub signed-requires-then-whole-eq0 : goal.signed-requires-then-whole-eq0
-signed-requires-then-whole-eq0 c = cut_below _ (either_way (goal.at.signed-requires-then-whole-eq0 c).Joined-attos-most)
+-- the attoseconds multiplied and cut, in one word or two
+either_way :
+    (c : Joined-attos-most)
+    → (c.if-attos-most.size.seconds ≡ c.args.coefficient * c.args.attos / 10 ^ 9 / 10 ^ 9) × (c.if-attos-most.size.nanoseconds ≡ c.args.coefficient * c.args.attos / 10 ^ 9 % 10 ^ 9)
+either_way c =
+    elim c.if-attos-most.branch [
+      | then-attos-most w ↦ rw w.size-is w.cut_word-size.ensures
+      | else-attos-most w ↦ rw (w.size-is, ← w.product.ensures) w.cut_words-size.ensures
+    ]
 
 pub returns-then-whole-eq0 : goal.returns-then-whole-eq0
 returns-then-whole-eq0 c = cut_apart _ _ _ _ (either_way (goal.at.returns-then-whole-eq0 c).Joined-attos-most) (rw (c.if-whole-eq0.true, zero-add) c.signed-then-whole-eq0.ensures)
-
-pub limited-requires : goal.limited-requires
-limited-requires c = (lt_trans (cut_below _ (either_way (goal.at.limited-requires c).Joined-attos-most)) (lit< tt), λ e. absurd (c.if-whole-eq0.false (omega arith)))
 
 pub returns : goal.returns
 returns c = cut_apart _ _ _ _ (either_way (goal.at.returns c).Joined-attos-most) c.limited.ensures

@@ -10,13 +10,13 @@ use Rattle.lengths.proofs.wide.product.Goals.{After-pieces-y}
 apart : (c : After-pieces-y) → InPieces c.pieces-x.result × InPieces c.pieces-y.result
 apart c = (in_pieces _ c.pieces-x.ensures, in_pieces _ c.pieces-y.ensures)
 
-pub four_columns-low-requires : goal.four_columns-low-requires
-four_columns-low-requires c = ((apart (goal.at.four_columns-low-requires c).After-pieces-y).0, (apart (goal.at.four_columns-low-requires c).After-pieces-y).1, omega arith, omega arith)
+pub four_columns-first-requires : goal.four_columns-first-requires
+four_columns-first-requires c = ((apart (goal.at.four_columns-first-requires c).After-pieces-y).0, (apart (goal.at.four_columns-first-requires c).After-pieces-y).1, omega arith, omega arith)
 
-pub four_columns-high-requires : goal.four_columns-high-requires
-four_columns-high-requires c =
-    let two = apart (goal.at.four_columns-high-requires c).After-pieces-y in
-    (two.0, two.1, omega arith, omega (arith, c.four_columns-low.ensures.small))
+pub four_columns-second-requires : goal.four_columns-second-requires
+four_columns-second-requires c =
+    let two = apart (goal.at.four_columns-second-requires c).After-pieces-y in
+    (two.0, two.1, omega arith, omega (arith, c.four_columns-first.ensures.small))
 
 pub returns : goal.returns
-returns c = both_words (search rules) (search rules) c.pieces-x.ensures c.pieces-y.ensures c.four_columns-low.ensures c.four_columns-high.ensures
+returns c = both_words (search rules) (search rules) c.pieces-x.ensures c.pieces-y.ensures c.four_columns-first.ensures c.four_columns-second.ensures

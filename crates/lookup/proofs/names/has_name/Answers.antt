@@ -10,6 +10,7 @@ use borrow.Author.Tests.{eq-eqb, ne_eqb}
 use Rattle.rules.specs.Common.{same}
 use Rattle.rules.specs.SettingsAndUnitTable.{name_room, name_size, name}
 use Rattle.rows.specs.Laws.Rooms.{word_of, size_most, told_by_word, no_longer, behind_word}
+use Rattle.lookup.specs.Laws.Names.{same_is}
 use Rattle.lookup.proofs.names.has_name.Goals as goal
 use Rattle.lookup.proofs.names.has_name.Goals.{After-word_at}
 
@@ -54,28 +55,11 @@ returns c =
     let wanted = c.args.wanted.now in
     let counted : 1 + get_or row 0 0 - 9 ≡ get_or row 0 0 - 8 = omega arith in
     rw (told (goal.at.returns c).After-word_at, eq-eqb _ _ c.if-word_at-first.false, eq-eqb _ _ c.if-size-wanted.false)
-    (c.same.ensures
+    (c.eq.ensures
+    ∙ same_is _ _
     ∙ ap₂ same
     (rw counted (sym (behind_word row (omega (arith, c.if-size-le-WORD.false)))))
     (take_all (length wanted - 8) (drop 8 wanted) (simp length-drop (omega arith))))
 
-pub overflow_cast-size : goal.overflow_cast-size
-overflow_cast-size c = omega (arith, c.shared_slice_known-3-1.given 0)
-
-pub overflow_add-end : goal.overflow_add-end
-overflow_add-end c = omega (arith, fits (goal.at.overflow_add-end c).After-word_at)
-
-pub slice_bounds-same-count : goal.slice_bounds-same-count
-slice_bounds-same-count c = omega (arith, c.if-size-le-WORD.false)
-
-pub slice_bounds-same-start : goal.slice_bounds-same-start
-slice_bounds-same-start c = omega (arith, c.if-size-le-WORD.false)
-
-pub slice_bounds-same-end : goal.slice_bounds-same-end
-slice_bounds-same-end c = omega (arith, fits (goal.at.slice_bounds-same-end c).After-word_at, c.requires.row_len.0)
-
-pub slice_bounds-same-count-2 : goal.slice_bounds-same-count-2
-slice_bounds-same-count-2 c = omega (arith, c.if-size-le-WORD.false, c.if-size-wanted.false)
-
-pub slice_bounds-same-start-2 : goal.slice_bounds-same-start-2
-slice_bounds-same-start-2 c = omega (arith, c.if-size-le-WORD.false, c.if-size-wanted.false)
+pub slice_bounds-eq-end : goal.slice_bounds-eq-end
+slice_bounds-eq-end c = omega (arith, fits (goal.at.slice_bounds-eq-end c).After-word_at, c.requires.row_len.0)

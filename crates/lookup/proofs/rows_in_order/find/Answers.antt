@@ -1,38 +1,32 @@
--- `lookup::rows_in_order::find` meets its contract: the rows that are left decide, and their number is the measure. Assumes nothing.
-use mathlib.Core.Path.{sym, ◌∙◌}
+-- `lookup::rows_in_order::find` meets its contract: the rows that are left decide. Assumes nothing.
+use mathlib.Core.Path.{sym, ap, ◌∙◌}
 use native.Mathlib.Omega.{arith}
-use Rattle.lookup.specs.Laws.Walks.{walk_starts, walk_ends, walk_below, walk_long, walk_padded, walk_finds, walk_goes_on, walk_fits}
+use Rattle.std.specs.Slice.Iter.{chunks_exact_size}
+use Rattle.lookup.specs.Laws.Walks.{walk_starts, walk_ends, walk_padded, walk_finds, walk_goes_on}
 use Rattle.lookup.proofs.rows_in_order.find.Goals as goal
 
+pub loop-row-init : goal.loop-row-init
+loop-row-init c =
+    let same = c.into_iter-row-iterator.ensures.into_iter_gives in
+    let chunks = c.chunks_exact-row-items.ensures in
+    (ap chunks_exact_size same ∙ chunks.size, rw (same, chunks.rest) (walk_starts _ _))
+
 pub has_name-requires : goal.has_name-requires
-has_name-requires c = record { row_len = walk_padded c.loop-rest.invariant c.loop-rest-test.true c.requires.0; first_value = c.requires.1 }
+has_name-requires c =
+    let (size, (parts, sized), rem) = c.in-Some.ensures.steps in
+    record { row_len = walk_padded c.loop-row.invariant.1 _ _ parts (sized ∙ c.loop-row.invariant.0) c.requires.0; first_value = c.requires.1 }
 
 pub returns-then-has_name : goal.returns-then-has_name
-returns-then-has_name c = walk_finds c.loop-rest.invariant c.loop-rest-test.true (sym c.has_name.ensures ∙ c.if-has_name.true)
+returns-then-has_name c =
+    let (size, (parts, sized), rem) = c.in-Some.ensures.steps in
+    walk_finds c.loop-row.invariant.1 _ _ parts (sized ∙ c.loop-row.invariant.0) (sym c.has_name.ensures ∙ c.if-has_name.true)
 
-pub loop-rest-preserved : goal.loop-rest-preserved
-loop-rest-preserved c = walk_goes_on c.loop-rest.invariant c.loop-rest-test.true (sym c.has_name.ensures ∙ c.if-has_name.false)
-
-pub loop-rest-init : goal.loop-rest-init
-loop-rest-init c = walk_starts _ _
-
-pub slice_bounds-has_name-end : goal.slice_bounds-has_name-end
-slice_bounds-has_name-end c = sym (walk_long c.loop-rest.invariant c.loop-rest-test.true)
-
-pub overflow_add-result : goal.overflow_add-result
-overflow_add-result c = omega (arith, walk_fits c.loop-rest.invariant c.loop-rest-test.true)
-
-pub slice_bounds-rest-count : goal.slice_bounds-rest-count
-slice_bounds-rest-count c = omega (arith, c.loop-rest-test.true)
-
-pub slice_bounds-rest-start : goal.slice_bounds-rest-start
-slice_bounds-rest-start c = omega (arith, c.loop-rest-test.true)
-
-pub overflow_add-at : goal.overflow_add-at
-overflow_add-at c = omega (arith, walk_fits c.loop-rest.invariant c.loop-rest-test.true)
-
-pub loop-rest-smaller : goal.loop-rest-smaller
-loop-rest-smaller c = omega (arith, walk_below c.loop-rest.invariant c.loop-rest-test.true)
+pub loop-row-preserved : goal.loop-row-preserved
+loop-row-preserved c =
+    let (size, (parts, sized), rem) = c.in-Some.ensures.steps in
+    (size ∙ c.loop-row.invariant.0, walk_goes_on c.loop-row.invariant.1 _ _ parts (sized ∙ c.loop-row.invariant.0) (sym c.has_name.ensures ∙ c.if-has_name.false))
 
 pub returns : goal.returns
-returns c = walk_ends c.loop-rest.invariant c.loop-rest-test.false
+returns c =
+    let (size, (short, same), rem) = c.in-None.ensures.steps in
+    walk_ends c.loop-row.invariant.1 (omega (arith, short, c.loop-row.invariant.0))

@@ -19,10 +19,10 @@ use Rattle.mover.proofs.checked.line_stands.Goals as goal
 use Rattle.mover.proofs.checked.line_stands.Goals.{After-digits_up_to-room_end, Else-not-line_accepted}
 
 -- behind the first test the line is accepted, and so as long as a line of the form
-accepted : (c : Else-not-line_accepted) → line_accepted_in c.args.room c.args.line.now ≡ true
+accepted : (c : Else-not-line_accepted) → line_accepted_in c.args.room.bytes c.args.line.now ≡ true
 accepted c = sym c.line_accepted.ensures ∙ not-false _ (ap not c.if-not-line_accepted.false)
 
-whole : (c : Else-not-line_accepted) → length c.args.line.now ≡ line_size_in c.args.room
+whole : (c : Else-not-line_accepted) → length c.args.line.now ≡ line_size_in c.args.room.bytes
 whole c = line_long _ _ (accepted c)
 
 -- behind the tests of the name's length the zeros decide
@@ -31,12 +31,12 @@ decided :
     → let line = c.args.line.now in
     let end = length line - 1 in
     let name_end = c.digits_up_to-name_end.result in
-    line_stands c.args.room line
+    line_stands c.args.room.bytes line
     ≡ (all (eqb zero_digit) (take (c.digits_up_to-room_end.result - name_end) (drop name_end line)) && all (eqb zero_digit) (take (end - (end - 8)) (drop (end - 8) line)))
 decided c =
-    let inside = between_in 1 c.args.room (told c.args.line.now) (rw c.name_size-size.ensures at c.if-size-lt1.false) (rw c.name_size-size.ensures at c.if-size-room.false) in
+    let inside = between_in 1 c.args.room.bytes (told c.args.line.now) (rw c.name_size-size.ensures at c.if-size-lt1.false) (rw c.name_size-size.ensures at c.if-size-room.false) in
     zeros_decide
-    c.args.room
+    c.args.room.bytes
     c.args.line.now
     c.digits_up_to-name_end.result
     c.digits_up_to-room_end.result

@@ -13,8 +13,8 @@ use Rattle.mover.proofs.written.put_line.Goals.{Start}
 -- how long the line is, and that its name has room in both forms
 sizes :
     (c : Start)
-    → (length c.args.line.now ≡ line_size_in c.args.from) × (told c.args.line.now ≤ c.args.from) × (told c.args.line.now ≤ c.args.to)
-sizes c = (moves_long _ _ _ c.requires.line_value.0, moves_small _ _ _ c.requires.line_value.0, moves_fit _ _ _ c.requires.line_value.0)
+    → (length c.args.line.now ≡ line_size_in c.args.from.bytes) × (told c.args.line.now ≤ c.args.from.bytes) × (told c.args.line.now ≤ c.args.to.bytes)
+sizes c = (moves_long _ _ _ c.requires.moves, moves_small _ _ _ c.requires.moves, moves_fit _ _ _ c.requires.moves)
 
 pub returns : goal.returns
 returns c =
@@ -23,7 +23,7 @@ returns c =
       c.put_zeros.ensures,
       c.copy.ensures,
     )
-    (laid_line _ _ _ _ _ c.digits_up_to-name_end.result c.digits_up_to-room_end.result c.digits_up_to.result c.requires.line_value.0 (c.digits_up_to-name_end.ensures ∙ ap (λ n. 2 * (1 + n)) c.name_size-size.ensures) c.digits_up_to-room_end.ensures c.digits_up_to.ensures c.requires.line_value.1)
+    (laid_line _ _ _ _ _ c.digits_up_to-name_end.result c.digits_up_to-room_end.result c.digits_up_to.result c.requires.moves (c.digits_up_to-name_end.ensures ∙ ap (λ n. 2 * (1 + n)) c.name_size-size.ensures) c.digits_up_to-room_end.ensures c.digits_up_to.ensures c.requires.fits)
 
 pub name_size-size-requires : goal.name_size-size-requires
 name_size-size-requires c = omega (arith, sizes (goal.at.name_size-size-requires c).Start)

@@ -1,28 +1,15 @@
--- `mover::written::put_zeros` meets its contract: before turn `i` so many digits `0` are laid over the target. The measure is how many are left.
--- Assumes nothing.
-use mathlib.Core.Path.{◌≡◌, refl, sym}
-use Prim.Native.Nat.{◌+◌}
+-- `mover::written::put_zeros` meets its contract: a part of the target is written anew. Assumes nothing.
+use mathlib.Core.Path.{◌≡◌}
 use native.Mathlib.Omega.{arith}
-use lib.ListN.{replicate, length-replicate, length-set, replicate-append-replicate}
+use lib.ListN.{replicate, length-replicate}
+use Rattle.std.proofs.Common.{rules}
 use Rattle.moves.specs.Laws.Digits.{zero_digit}
-use Rattle.writing.specs.Laid.{laid_nothing}
-use Rattle.mover.specs.Parts.{laid_turn}
+use Rattle.mover.specs.Parts.{part_laid}
 use Rattle.mover.proofs.written.put_zeros.Goals as goal
 
-pub loop-i-init : goal.loop-i-init
-loop-i-init c = (omega arith, refl, laid_nothing c.args.target.now c.args.at)
-
-pub loop-i-preserved : goal.loop-i-preserved
-loop-i-preserved c = (
-  omega arith,
-  simp length-set c.loop-i.invariant.1,
-  laid_turn c.args.target.now c.loop-i.target (replicate c.loop-i.i zero_digit) (replicate (c.loop-i.i + 1) zero_digit) c.args.at c.loop-i.i zero_digit c.loop-i.invariant.2 (length-replicate c.loop-i.i zero_digit) (sym (replicate-append-replicate c.loop-i.i 1 zero_digit)) (omega arith),
-)
+-- each byte of the part is the digit
+filled : (c : goal.After-slice_known-2-1) → c.fill.new.self ≡ replicate c.args.count zero_digit
+filled c = search rules
 
 pub returns : goal.returns
-returns c =
-    let all : c.loop-i.i ≡ c.args.count = omega arith in
-    rw (← all) c.loop-i.invariant.2
-
-pub shape_of-target : goal.shape_of-target
-shape_of-target c = c.loop-i.invariant.1
+returns c = part_laid _ _ _ _ (replicate c.args.count zero_digit) (filled c) (omega (arith, length-replicate c.args.count zero_digit))

@@ -1,17 +1,13 @@
 -- `reading::start::signed_start` meets its contract: the sign step, and the class of what follows. Assumes nothing.
-use mathlib.Core.Path.{sym, ap, ◌∙◌}
+use Rattle.std.proofs.Common.{sym, rules}
 use Rattle.rules.specs.SettingsAsWords.{settings_of}
-use Rattle.steps.specs.Outcomes.{signed}
-use Rattle.reading.specs.Typed.{signed_refused, signed_got}
+use Rattle.rules.specs.NumbersHandedBack.{◌>>=◌}
+use Rattle.reading.specs.Typed.{signed_start, signed_got}
 use Rattle.reading.proofs.start.signed_start.Goals as goal
 
-pub returns-in-Refused : goal.returns-in-Refused
-returns-in-Refused c =
-    signed_refused (settings_of c.args.settings.now) _ _
-    (sym c.parse_number_sign.ensures ∙ ap signed c.in-Refused.is)
+pub returns-in_err-signed : goal.returns-in_err-signed
+unfolding signed_start ◌>>=◌
+returns-in_err-signed c = search rules
 
-pub returns-in-Got : goal.returns-in-Got
-returns-in-Got c =
-    signed_got (settings_of c.args.settings.now) _ _
-    (sym c.parse_number_sign.ensures ∙ ap signed c.in-Got.is)
-    c.class_at.ensures
+pub returns : goal.returns
+returns c = signed_got (settings_of c.args.card.now.settings.now) _ _ (sym c.in_ok-signed.ensures) c.class_at.ensures

@@ -1,14 +1,18 @@
 -- `reading::typed::spoken_count` meets its contract: a numeral counts 1, and is held by its row. Assumes nothing.
-use mathlib.Core.Path.{sym, ap, ◌∙◌}
-use Rattle.rules.proofs.Laws.Outcomes.{bind_got, bind_refused}
-use Rattle.steps.specs.Outcomes.{numeral}
+use Rattle.std.proofs.Common.{rules}
+use Rattle.rules.specs.NumbersHandedBack.{◌>>=◌}
+use Rattle.reading.specs.Meant.{meant}
+use Rattle.reading.specs.Entries.{card_sayable}
 use Rattle.reading.specs.Coded.{spoken_count}
 use Rattle.reading.proofs.typed.spoken_count.Goals as goal
 
-pub returns-in-Refused : goal.returns-in-Refused
-unfolding spoken_count
-returns-in-Refused c = sym (bind_refused _ (sym c.parse_numeral.ensures ∙ ap numeral c.in-Refused.is))
+pub parse_numeral-requires-clause-sayable : goal.parse_numeral-requires-clause-sayable
+parse_numeral-requires-clause-sayable c = c.args.card.now.sayable
 
-pub returns-in-Got : goal.returns-in-Got
-unfolding spoken_count
-returns-in-Got c = sym (bind_got _ (sym c.parse_numeral.ensures ∙ ap numeral c.in-Got.is))
+pub returns-in_err-found : goal.returns-in_err-found
+unfolding spoken_count ◌>>=◌
+returns-in_err-found c = search rules
+
+pub returns : goal.returns
+unfolding spoken_count ◌>>=◌
+returns c = search rules

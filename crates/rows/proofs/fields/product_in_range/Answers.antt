@@ -27,15 +27,15 @@ unfolding kind_in
 two-tests c =
     rw (in_range_product c.args.row.now, ← c.kind_multiplier-unit.ensures, ← c.row_multiplier-own.ensures, ← c.within.ensures)
 
-pub returns-then-not-within : goal.returns-then-not-within
-returns-then-not-within c = rw (two-tests (goal.at.returns-then-not-within c).After-within, not-true c.within.result (ap not c.if-not-within.true))
-
 pub overflow_add-result : goal.overflow_add-result
 unfolding kind_in
 overflow_add-result c = rw (c.kind_multiplier-unit.ensures, c.row_multiplier-own.ensures) (omega (arith, down_most c.args.row.now))
 
-pub overflow_add-result-2 : goal.overflow_add-result-2
-overflow_add-result-2 c = rw c.row_multiplier-own.ensures (omega (arith, up_most c.args.row.now))
+pub overflow_add-result-then-within : goal.overflow_add-result-then-within
+overflow_add-result-then-within c = rw c.row_multiplier-own.ensures (omega (arith, up_most c.args.row.now))
 
-pub returns : goal.returns
-returns c = rw (two-tests (goal.at.returns c).After-within, not-false c.within.result (ap not c.if-not-within.false))
+pub returns-then-within : goal.returns-then-within
+returns-then-within c = rw (two-tests (goal.at.returns-then-within c).After-within, c.if-within.true)
+
+pub returns-else-within : goal.returns-else-within
+returns-else-within c = rw (two-tests (goal.at.returns-else-within c).After-within, c.if-within.false)

@@ -5,4 +5,4 @@ use Rattle.rows.proofs.fields.row_multiplier.Goals as goal
 
 pub returns : goal.returns
 unfolding coefficient_field_in power_field_in
-returns c = multiplier_is _ c.word_at-coefficient.ensures c.short_at-power.ensures c.coefficient_magnitude.ensures c.risen.ensures c.fallen.ensures
+returns c = multiplier_is _ c.word_at-coefficient.ensures c.short_at.ensures c.coefficient_magnitude.ensures c.risen_and_fallen-up.ensures.0 c.risen_and_fallen-up.ensures.1

@@ -6,17 +6,16 @@ use Rattle.rules.specs.SettingsAndUnitTable.{last_kind, settings_check}
 use Rattle.rules.specs.SettingsAsWords.{settings_of}
 use Rattle.rules.specs.declared.Refusal.TheVariants.{DefaultKind}
 use Rattle.rules.specs.NumbersHandedBack.{◌>>◌, unless}
-use Rattle.settings.specs.Outcomes.{outcome}
 use Rattle.std.proofs.Common.{ap, not}
 use Rattle.settings.proofs.check.settings_check.Goals as goal
 use Rattle.settings.proofs.check.settings_check.Goals.{Else-not-conjunctions_accepted}
 
 pub returns-then-not-delimiters_accepted : goal.returns-then-not-delimiters_accepted
-unfolding outcome settings_check unless ◌>>◌
+unfolding settings_check unless ◌>>◌
 returns-then-not-delimiters_accepted c = rw (← c.delimiters_accepted.ensures, not-true c.delimiters_accepted.result (ap not c.if-not-delimiters_accepted.true))
 
 pub returns-then-not-conjunctions_accepted : goal.returns-then-not-conjunctions_accepted
-unfolding outcome settings_check unless ◌>>◌
+unfolding settings_check unless ◌>>◌
 returns-then-not-conjunctions_accepted c =
     rw (
       ← c.delimiters_accepted.ensures,
@@ -40,9 +39,9 @@ kind-decides c =
     )
 
 pub returns-then-default_kind-gt7 : goal.returns-then-default_kind-gt7
-unfolding outcome unless
+unfolding unless
 returns-then-default_kind-gt7 c = rw (kind-decides (goal.at.returns-then-default_kind-gt7 c).Else-not-conjunctions_accepted, ← c.default_kind.ensures, lt-leb _ _ c.if-default_kind-gt7.true)
 
 pub returns : goal.returns
-unfolding outcome unless
+unfolding unless
 returns c = rw (kind-decides (goal.at.returns c).Else-not-conjunctions_accepted, ← c.default_kind.ensures, le-leb _ _ c.if-default_kind-gt7.false)

@@ -1,11 +1,14 @@
 -- `settings::fields::bit` meets its contract. Assumes nothing.
+use Rattle.std.proofs.Common.{◌≡◌, Bool, true, false, refl, ◌∙◌}
+use Rattle.std.specs.Int.{from_bool}
 use Rattle.rules.specs.Common.{when◌then◌else◌}
+use Rattle.rules.specs.SettingsAsWords.{bit}
 use Rattle.settings.proofs.fields.bit.Goals as goal
 
-pub returns-then-b : goal.returns-then-b
+pub returns : goal.returns
 unfolding when◌then◌else◌
-returns-then-b c = rw c.if-b.true
-
-pub returns-else-b : goal.returns-else-b
-unfolding when◌then◌else◌
-returns-else-b c = rw c.if-b.false
+returns c = c.from.ensures ∙ go c.args.b
+  where
+    go : (b : Bool) → from_bool b ≡ bit b
+    go true = refl
+    go false = refl

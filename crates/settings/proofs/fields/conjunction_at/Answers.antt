@@ -1,18 +1,20 @@
 -- `settings::fields::conjunction_at` meets its contract: four places, and beyond them the last. Assumes nothing.
-use mathlib.Core.Path.{sym, ◌∙◌}
-use native.Mathlib.Omega.{arith}
-use Rattle.rules.specs.SettingsAsWords.{settings_of}
-use Rattle.settings.specs.Laws.Settings.{conjunction_last}
+use Rattle.std.proofs.Common.{◌≡◌, List, ℕ, zero, suc, ◌+◌, ◌*◌, min, get_or, refl, arith}
+use Rattle.rules.specs.declared.Conjunction.{Conjunction}
+use Rattle.rules.specs.SettingsAsWords.{word, conjunction_of, settings_of}
+use Rattle.settings.specs.Conjunctions.{conjunctions_listed}
 use Rattle.settings.proofs.fields.conjunction_at.Goals as goal
 
-pub returns-in-0 : goal.returns-in-0
-returns-in-0 c = rw c.in-0.is c.first.ensures
+placed : (words : List ℕ) (i : ℕ) → let at = 16 + 2 * min i 3 in conjunction_of (word words at) (word words (at + 1)) ≡ get_or (conjunctions_listed (settings_of words)) i (settings_of words).fourth
+unfolding settings_of
+placed words zero = refl
+placed words (suc zero) = refl
+placed words (suc (suc zero)) = refl
+placed words (suc (suc (suc zero))) = refl
+placed words (suc (suc (suc (suc i)))) =
+    let last : min (suc (suc (suc (suc i)))) 3 ≡ 3 = omega arith in
+    rw last
 
-pub returns-in-1 : goal.returns-in-1
-returns-in-1 c = rw c.in-1.is c.second.ensures
-
-pub returns-in-2 : goal.returns-in-2
-returns-in-2 c = rw c.in-2.is c.third.ensures
-
-pub returns-in_default : goal.returns-in_default
-returns-in_default c = c.fourth.ensures ∙ sym (conjunction_last (settings_of c.args.settings.now) c.args.i (omega arith))
+pub returns : goal.returns
+unfolding conjunction_of
+returns c = rw (c.held_to_byte.ensures, c.min.ensures) (placed c.args.settings.now c.args.i)

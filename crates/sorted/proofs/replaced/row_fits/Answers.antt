@@ -1,16 +1,16 @@
 -- `sorted::replaced::row_fits` meets its contract: the size, the row by itself, and the names of the others. Assumes nothing.
-use mathlib.Core.Path.{◌≡◌, refl, sym, ap, ◌∙◌}
+use mathlib.Core.Path.{◌≡◌, refl, sym, ◌∙◌}
 use mathlib.Core.Bool.{Bool, true, false, not}
-use native.Mathlib.Omega.{arith}
 use borrow.Author.Tests.{ne_eqb}
 use Rattle.rules.specs.declared.Refusal.TheVariants.{TableSize, BadRow}
 use Rattle.rules.specs.SettingsAsWords.{settings_of}
 use Rattle.card.specs.Fields.{alone, said}
 use Rattle.card.specs.Laws.Table.{alone_padded}
 use Rattle.index.specs.TheSortedIndex.{passes, may_replace}
+use Rattle.sorted.specs.Found.{passes_found}
 use Rattle.sorted.specs.Replacing.{one_decides, fails_alone, fails_elsewhere, comes_in, padded_rows}
 use Rattle.sorted.proofs.replaced.row_fits.Goals as goal
-use Rattle.sorted.proofs.replaced.row_fits.Goals.{After-named_elsewhere, After-rows_found, In-Good}
+use Rattle.sorted.proofs.replaced.row_fits.Goals.{After-named_elsewhere, After-rows_found, Then-is_ok}
 
 pub returns-then-new-ne-ROW_SIZE : goal.returns-then-new-ne-ROW_SIZE
 unfolding may_replace
@@ -22,9 +22,8 @@ asked :
     → passes (said TableSize BadRow c.rows_found.result) ≡ alone c.unit_rule.result c.args.new.now
 asked c = one_decides _ _ c.if-new-ne-ROW_SIZE.false (c.rows_found.ensures TableSize BadRow)
 
-passed : (c : In-Good) → alone c.unit_rule.result c.args.new.now ≡ true
-unfolding passes
-passed c = sym (asked (goal.at.named_elsewhere-requires c).After-rows_found) ∙ ap (λ f. passes (said TableSize BadRow f)) c.in-Good.is
+passed : (c : Then-is_ok) → alone c.unit_rule.result c.args.new.now ≡ true
+passed c = sym (asked (goal.at.named_elsewhere-requires c).After-rows_found) ∙ passes_found TableSize BadRow _ ∙ sym c.is_ok.ensures.value ∙ c.if-is_ok.true
 
 -- a row that does not pass by itself
 fails :
@@ -47,18 +46,11 @@ decided c true e =
     (c.named_elsewhere.ensures.elsewhere e)
 decided c false e =
     comes_in _ _ _ _ _ c.unit_rule.ensures.by_index (λ k. (c.shared_slice_known-1.given k).fits) (λ k. (c.shared_slice_known-2-1.given k).fits) c.requires.settings_value.1 c.requires.i_bound c.if-new-ne-ROW_SIZE.false
-    (passed (goal.at.returns-in-Good c).In-Good) (c.named_elsewhere.ensures.not_elsewhere e)
+    (passed (goal.at.returns-then-is_ok c).Then-is_ok) (c.named_elsewhere.ensures.not_elsewhere e)
 
-pub returns-in-Good : goal.returns-in-Good
-returns-in-Good c = decided c c.named_elsewhere.result refl
+pub returns-then-is_ok : goal.returns-then-is_ok
+returns-then-is_ok c = decided c c.named_elsewhere.result refl
 
-pub returns-in-WrongSize : goal.returns-in-WrongSize
-unfolding passes
-returns-in-WrongSize c = fails (goal.at.returns-in-WrongSize c).After-rows_found (ap (λ f. passes (said TableSize BadRow f)) c.in-WrongSize.is)
-
-pub returns-in-Bad : goal.returns-in-Bad
-unfolding passes
-returns-in-Bad c = fails (goal.at.returns-in-Bad c).After-rows_found (ap (λ f. passes (said TableSize BadRow f)) c.in-Bad.is)
-
-pub rows_found-requires : goal.rows_found-requires
-rows_found-requires c = (omega arith, c.unit_rule.ensures.letterless)
+pub returns-else-is_ok : goal.returns-else-is_ok
+returns-else-is_ok c =
+    c.if-is_ok.false ∙ fails (goal.at.returns-else-is_ok c).After-rows_found (passes_found TableSize BadRow _ ∙ sym c.is_ok.ensures.value ∙ c.if-is_ok.false)

@@ -8,7 +8,7 @@ use Rattle.rules.specs.SettingsAsWords.{settings_of}
 use Rattle.rules.specs.SettingsAndUnitTable.{lookup}
 use Rattle.index.specs.declared.Searched.{Searched}
 use Rattle.index.proofs.Laws.Searches.{row_search_finds}
-use Rattle.steps.specs.Outcomes.{next}
+use Rattle.std.proofs.Common.{rules}
 use Rattle.steps.specs.Stretches.{stretch_part}
 use Rattle.steps.specs.Numerals.{numerals_none, numeral_from, numeral_ends, numeral_nowhere, delimiter_behind, numeral_refused, numeral_got}
 use Rattle.steps.proofs.numeral.parse_numeral.Goals as goal
@@ -53,17 +53,17 @@ try_consume_delimiter-requires c =
     delimiter_behind (settings_of c.args.settings.now) _ _ _ c.inner_delimiters-inner.ensures c.past-end.ensures
     (looked_up (goal.at.try_consume_delimiter-requires c).After-find-searched) c.if-text-end.false
 
-pub returns-in-Refused : goal.returns-in-Refused
-returns-in-Refused c =
+pub returns-in_err-next : goal.returns-in_err-next
+returns-in_err-next c =
+    let refusal =
     numeral_refused (settings_of c.args.settings.now) _ _ _ c.inner_delimiters-inner.ensures c.past-end.ensures
-    (looked_up (goal.at.returns-in-Refused c).After-find-searched) c.if-text-end.false c.in-Row.is
-    (sym c.try_consume_delimiter.ensures ∙ ap next c.in-Refused.is)
+    (looked_up (goal.at.returns-in_err-next c).After-find-searched) c.if-text-end.false c.in-Some.is (sym c.in_err-next.ensures) in
+    search rules
 
-pub returns-in-At : goal.returns-in-At
-returns-in-At c =
+pub returns : goal.returns
+returns c =
     numeral_got (settings_of c.args.settings.now) _ _ _ c.inner_delimiters-inner.ensures c.past-end.ensures
-    (looked_up (goal.at.returns-in-At c).After-find-searched) c.if-text-end.false c.in-Row.is
-    (sym c.try_consume_delimiter.ensures ∙ ap next c.in-At.is)
+    (looked_up (goal.at.returns c).After-find-searched) c.if-text-end.false c.in-Some.is (sym c.in_ok-next.ensures)
 
 pub inner_delimiters-inner-requires : goal.inner_delimiters-inner-requires
 inner_delimiters-inner-requires c = c.requires.settings_value

@@ -1,7 +1,7 @@
 -- `steps::sign::parse_number_sign` meets its contract: no sign, a sign that ends the text, and one with something after it. Assumes nothing.
-use mathlib.Core.Path.{sym, ap, ◌∙◌}
+use mathlib.Core.Path.{sym}
+use Rattle.std.proofs.Common.{rules}
 use Rattle.rules.specs.SettingsAsWords.{settings_of}
-use Rattle.steps.specs.Outcomes.{next}
 use Rattle.steps.specs.Signs.{sign_plain, sign_last, sign_got, sign_refused}
 use Rattle.steps.proofs.sign.parse_number_sign.Goals as goal
 
@@ -11,14 +11,12 @@ returns-then-after-place c = sign_plain (settings_of c.args.settings.now) _ _ c.
 pub returns-then-text-after : goal.returns-then-text-after
 returns-then-text-after c = sign_last (settings_of c.args.settings.now) _ _ c.sign_at-sign.ensures c.if-after-place.false c.if-text-after.true
 
-pub returns-in-Refused : goal.returns-in-Refused
-returns-in-Refused c =
-    sign_refused (settings_of c.args.settings.now) _ _ c.sign_at-sign.ensures c.if-after-place.false
-    c.if-text-after.false (sym c.after_sign.ensures)
-    (sym c.parse_number_delimiter.ensures ∙ ap next c.in-Refused.is)
+pub returns-in_err-next : goal.returns-in_err-next
+returns-in_err-next c =
+    let refusal = sign_refused (settings_of c.args.settings.now) _ _ c.sign_at-sign.ensures c.if-after-place.false c.if-text-after.false (sym c.after_sign.ensures) (sym c.in_err-next.ensures) in
+    search rules
 
-pub returns-in-At : goal.returns-in-At
-returns-in-At c =
+pub returns : goal.returns
+returns c =
     sign_got (settings_of c.args.settings.now) _ _ c.sign_at-sign.ensures c.if-after-place.false
-    c.if-text-after.false (sym c.after_sign.ensures)
-    (sym c.parse_number_delimiter.ensures ∙ ap next c.in-At.is)
+    c.if-text-after.false (sym c.after_sign.ensures) (sym c.in_ok-next.ensures)

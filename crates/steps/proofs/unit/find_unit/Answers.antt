@@ -14,10 +14,7 @@ pub slice_bounds-find_row-end : goal.slice_bounds-find_row-end
 slice_bounds-find_row-end c = c.requires.scanned.within c.if-end-place.false
 
 pub find_row-requires : goal.find_row-requires
-find_row-requires c =
-    let units = c.requires.readable in
-    let indexes = c.requires.beside in
-    (record { rooms = units.0.rooms; beside = indexes.0 }, record { rooms = units.1.rooms; beside = indexes.1 }, c.requires.scanned.word ∙ ap (λ l. low_first (take 8 l)) (sym (stretch_part _ _ _ (le_of_lt c.if-end-place.false))))
+find_row-requires c = c.requires.scanned.word ∙ ap (λ l. low_first (take 8 l)) (sym (stretch_part _ _ _ (le_of_lt c.if-end-place.false)))
 
 pub returns : goal.returns
 returns c = c.find_row.ensures.result_value ∙ ap (find_row _ _) (stretch_part _ _ _ (le_of_lt c.if-end-place.false))

@@ -19,11 +19,11 @@ returns-in_default c =
     (sym c.shift_typed.ensures ∙ c.in_default.is))
 
 pub calculate_duration-requires : goal.calculate_duration-requires
-calculate_duration-requires c = (fits_parts _ _ _ (sym c.shift_typed.ensures ∙ c.in-Fits.is)).below
+calculate_duration-requires c = (fits_parts _ _ (sym c.shift_typed.ensures ∙ c.in-Some.is)).below
 
 pub returns : goal.returns
 unfolding xor
 returns c =
     c.calculate_duration.ensures
-    ∙ sym (evaluate_fits _ c.args.d _ c.if-d.false _ _
-    (sym c.shift_typed.ensures ∙ c.in-Fits.is))
+    ∙ sym (evaluate_fits _ c.args.d _ c.if-d.false _
+    (sym c.shift_typed.ensures ∙ c.in-Some.is))

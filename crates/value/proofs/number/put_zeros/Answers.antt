@@ -1,21 +1,17 @@
 -- `value::number::put_zeros` meets its contract: zero stays zero, ten to the twentieth is above any word, and the test by division says
 -- whether the product fits. Assumes nothing.
-use mathlib.Core.Path.{sym}
-use Prim.Native.Nat.{◌*◌, ◌^◌, ◌≤◌}
-use native.Mathlib.Nat.{zero-mul, one-mul, mul-one, le_trans, mul-le-mul_right, pos_of_ne-zero, div-lt_iff_lt-mul, le-div_iff_mul-le}
-use native.Mathlib.Omega.{arith}
-use borrow.Author.Rules.{rules}
-use lib.Dec.{lit<, lit≤}
+use Rattle.std.proofs.Common.{sym, ◌*◌, ◌^◌, ◌≤◌, zero-mul, mul-one, one-mul, le_trans, mul-le-mul_right, pos_of_ne-zero, div-lt_iff_lt-mul, le-div_iff_mul-le, rules, arith, lit≤}
 use Rattle.value.specs.Digits.{ten_pos, ten_grows}
 use Rattle.value.specs.Places.{word_fits, word_too_large}
 use Rattle.value.proofs.number.put_zeros.Goals as goal
-use Rattle.value.proofs.number.put_zeros.Goals.{After-pow10-power}
+use Rattle.value.proofs.number.put_zeros.Goals.{After-pow10-power, then-number-eq0-via-then-number-eq0, then-number-eq0-via-else-number-eq0+then-zeros-eq0}
 
 pub returns-then-number-eq0 : goal.returns-then-number-eq0
-returns-then-number-eq0 c = word_fits (rw c.if-number-eq0.true (sym (zero-mul _))) (lit< tt)
-
-pub returns-then-zeros-eq0 : goal.returns-then-zeros-eq0
-returns-then-zeros-eq0 c = word_fits (rw c.if-zeros-eq0.true (sym (mul-one _))) (search rules)
+returns-then-number-eq0 c =
+    elim c.then-number-eq0.branch [
+      | then-number-eq0-via-then-number-eq0 w ↦ word_fits (rw w.if-number-eq0.true (sym (zero-mul _))) (search rules)
+      | then-number-eq0-via-else-number-eq0+then-zeros-eq0 w ↦ word_fits (rw w.if-zeros-eq0.true (sym (mul-one _))) (search rules)
+    ]
 
 pub returns-then-zeros-gt-MOST_ZEROS : goal.returns-then-zeros-gt-MOST_ZEROS
 returns-then-zeros-gt-MOST_ZEROS c =

@@ -3,7 +3,4 @@ use Rattle.writing.specs.Digits.{Put}
 use Rattle.writing.proofs.digits.put.Given as goal
 
 abbrev pub invariant-loop-left : goal.invariant-loop-left
-invariant-loop-left l = Put l.initial.buffer l.place l.initial.left l.initial.rest l.buffer l.left l.rest
-
-abbrev pub decreases-loop-left : goal.decreases-loop-left
-decreases-loop-left l = l.left
+invariant-loop-left l = Put l.initial.buffer l.place l.fn.digits.count l.fn.digits.number l.buffer l.left l.rest

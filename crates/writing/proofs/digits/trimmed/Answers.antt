@@ -1,18 +1,17 @@
 -- `writing::digits::trimmed` meets its contract: a last digit that is zero goes, and the first from behind that is not stays with all before it.
 -- Assumes nothing.
-use mathlib.Core.Path.{refl, ◌∙◌}
-use borrow.Author.Rules.{rules}
+use Rattle.std.proofs.Common.{◌∙◌, arith}
 use Rattle.writing.specs.Digits.{trailing_kept, trailing_dropped, trailing_none}
 use Rattle.writing.proofs.digits.trimmed.Goals as goal
 
-pub loop-count-init : goal.loop-count-init
-loop-count-init c = (refl, search rules)
+pub returns-else-left-eq0 : goal.returns-else-left-eq0
+returns-else-left-eq0 c = (c.loop-left.invariant.same_digits ∙ trailing_kept _ _ c.loop-left-test.true c.if-left-eq0.false, c.loop-left.invariant.few)
 
-pub returns-then-rest-ne0 : goal.returns-then-rest-ne0
-returns-then-rest-ne0 c = (c.loop-count.invariant.0 ∙ trailing_kept _ _ (search rules) c.if-rest-ne0.true, c.loop-count.invariant.1)
+pub loop-left-preserved : goal.loop-left-preserved
+loop-left-preserved c = record {
+  same_digits = c.loop-left.invariant.same_digits ∙ trailing_dropped c.loop-left.left.count _ c.loop-left-test.true c.if-left-eq0.true;
+  few = omega arith;
+}
 
-pub loop-count-preserved : goal.loop-count-preserved
-loop-count-preserved c = (c.loop-count.invariant.0 ∙ trailing_dropped c.loop-count.count _ (search rules) c.if-rest-ne0.false, search rules)
-
-pub returns : goal.returns
-returns c = (c.loop-count.invariant.0 ∙ trailing_none _ _ c.loop-count-test.false, c.loop-count.invariant.1)
+pub returns-after-loop-left : goal.returns-after-loop-left
+returns-after-loop-left c = (c.loop-left.invariant.same_digits ∙ trailing_none _ _ c.loop-left-test.false, c.loop-left.invariant.few)

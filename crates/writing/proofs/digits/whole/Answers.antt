@@ -3,7 +3,7 @@
 use Prim.Native.Nat.{◌+◌, ◌≤◌}
 use native.Mathlib.Omega.{arith}
 use borrow.Author.Rules.{rules}
-use Rattle.writing.specs.Digits.{Digits, counted_none, counted_four, counted_most, counted_on, leads_most, whole_is}
+use Rattle.writing.specs.Digits.{Digits, counted_four, counted_most, counted_on, leads_most, whole_is}
 use Rattle.writing.proofs.digits.whole.Goals as goal
 use Rattle.writing.proofs.digits.whole.Goals.{After-few_digits}
 
@@ -13,9 +13,6 @@ found c = counted_on _ _ _ _ c.loop-rest.invariant c.few_digits.ensures
 
 most : (c : After-few_digits) → c.loop-rest.count + c.few_digits.result ≤ 20
 most c = leads_most _ c.args.seconds (search rules) (found c).2
-
-pub loop-rest-init : goal.loop-rest-init
-loop-rest-init c = counted_none _
 
 pub overflow_add-count : goal.overflow_add-count
 overflow_add-count c =

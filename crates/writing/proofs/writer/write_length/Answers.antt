@@ -9,8 +9,8 @@ use lib.ListN.{length}
 use Rattle.rules.specs.ThePartOfTheCrateWeTake.{well_formed}
 use Rattle.rules.specs.NumbersHandedBack.{done}
 use Rattle.rules.specs.WriterAndShiftTotal.{sign_byte, written}
-use Rattle.writing.specs.Forms.{fraction_size_most, form_bytes, form_length, form_is, written_size, write_malformed, write_beyond, write_no_room, write_done}
-use Rattle.writing.specs.Laid.{laid, laid_length}
+use Rattle.writing.specs.Forms.{fraction_size_most, form_bytes, form_is, written_size, write_malformed, write_beyond, write_no_room, write_done}
+use Rattle.writing.specs.Laid.{laid}
 use Rattle.std.proofs.Common.{not}
 use Rattle.writing.proofs.writer.write_length.Goals as goal
 use Rattle.writing.proofs.writer.write_length.Goals.{After-fraction-decimals, After-fraction_size, Else-not-well_formed}
@@ -48,14 +48,6 @@ returns-then-size-buffer c =
     let kept =
     write_no_room args.length args.buffer.now args.place (good (goal.at.returns-then-size-buffer c).Else-not-well_formed) c.if-place-buffer.false
     (omega (arith, size_is (goal.at.returns-then-size-buffer c).After-fraction_size, c.if-size-buffer.true)) in record { value = c.refusal-then-size-buffer.ensures ∙ kept.0; buffer_after = kept.1 }
-
-pub put_form-requires : goal.put_form-requires
-put_form-requires c = omega (arith, c.fraction_size.ensures, c.if-size-buffer.false, c.if-place-buffer.false)
-
-pub shape_of-buffer : goal.shape_of-buffer
-shape_of-buffer c =
-    let bytes = form_length c.fraction-decimals.result c.sign_byte.result c.whole-seconds.result in
-    ap length c.put_form.ensures ∙ laid_length _ _ _ (omega (arith, bytes, c.fraction_size.ensures, c.if-size-buffer.false, c.if-place-buffer.false))
 
 pub returns : goal.returns
 returns c =

@@ -1,8 +1,0 @@
--- `readings::read_often` is safe and ends: each turn leaves fewer, and the card stays as it was accepted. Assumes nothing.
-use Rattle.readings.proofs.read_often.Given as goal
-
-abbrev pub invariant-loop-left : goal.invariant-loop-left
-invariant-loop-left l = Unit {0}
-
-abbrev pub decreases-loop-left : goal.decreases-loop-left
-decreases-loop-left l = l.left
