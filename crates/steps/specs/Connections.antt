@@ -1,6 +1,5 @@
 -- Laws of the connection: the first listed conjunction, what follows it, and the whole step. Assumes nothing.
-use Rattle.std.specs.Prelude.{◌≡◌, refl, true, false, List, ◌∷◌, ℕ, zero, suc, ◌+◌, ◌≤◌, ◌<◌, length, get_or, drop, Option, Some, None}
-use Rattle.std.proofs.lemmas.Option.{none-some, same_Some}
+use Rattle.std.specs.Prelude.{◌≡◌, Bool, true, false, List, ◌∷◌, ℕ, ◌+◌, ◌≤◌, ◌<◌, length, get_or, drop}
 use Rattle.std.proofs.Common.{sym, ◌∙◌, arith, drop_of_length-le, drop-cons, get_or-take}
 use Rattle.std.proofs.Math.Path.{ap}
 use Rattle.std.proofs.Math.Numerals.{add-one}
@@ -11,13 +10,13 @@ use Rattle.rules.specs.declared.Conjunction.{Conjunction}
 use Rattle.rules.specs.declared.Settings.{Settings}
 use Rattle.rules.specs.declared.Refusal.{Refusal}
 use Rattle.rules.specs.declared.Refusal.TheVariants.{ConjunctionEnds, ConjunctionGoesOn}
-use Rattle.rules.specs.Common.{when◌then◌else◌, ends, sees}
+use Rattle.rules.specs.Common.{when◌then◌else◌, all, ends, sees}
 use Rattle.rules.specs.NumbersHandedBack.{got, refused}
-use Rattle.rules.specs.SettingsAndUnitTable.{is_next_duration, holds, letters_of, conjunctions_of, conjunction_accepted, settings_check}
+use Rattle.rules.specs.SettingsAndUnitTable.{LETTER, is, most_conjunctions, is_next_duration, holds, letters_of, conjunctions_of, conjunction_accepted, settings_check}
 use Rattle.rules.specs.ReadingOnePart.{says, delimiters, conjunction_size, after_conjunction, conjunction_step, connection}
 use Rattle.rules.proofs.Laws.Outcomes.{bind_got, bind_refused}
 use Rattle.rules.proofs.Laws.Texts.{sees_here}
-use Rattle.settings.specs.Laws.Accepted.{conjunction_good, conjunctions_most}
+use Rattle.settings.specs.Laws.Accepted.{conjunction_good, conjunction_letters}
 use Rattle.settings.specs.Conjunctions.{conjunctions_listed}
 
 -- ---- the conjunctions one after another: those from i on
@@ -34,7 +33,9 @@ module _ (s : Settings) (text : List ℕ) (place i : ℕ) where
   unfolding conjunctions_of
   size_end h = size_beyond (simp length-take (omega arith))
 
-  module _ (h : i < s.conjunctions) (most : s.conjunctions ≤ 4) {c : Conjunction} (at : c ≡ get_or (conjunctions_listed s) i s.fourth) where
+  module _
+      (h : i < s.conjunctions) (k : i < most_conjunctions)
+      {c : Conjunction} (at : c ≡ get_or (conjunctions_listed s) i s.fourth) where
     from : drop i (conjunctions_of s) ≡ c ∷ drop (i + 1) (conjunctions_of s)
     unfolding conjunctions_of
     from =
@@ -49,56 +50,55 @@ module _ (s : Settings) (text : List ℕ) (place i : ℕ) where
     unfolding conjunction_size when◌then◌else◌
     size_next e = rw (from, e)
 
--- under accepted settings a listed conjunction is accepted
-pub listed_accepted : (s : Settings) → settings_check s ≡ got tt → (i : ℕ) → i < s.conjunctions → {c : Conjunction} → c ≡ get_or (conjunctions_listed s) i s.fourth → conjunction_accepted c ≡ true
+-- under accepted settings a listed conjunction is one of letters
+pub listed_letters :
+    (s : Settings)
+    → settings_check s ≡ got tt
+    → (i : ℕ)
+    → i < s.conjunctions
+    → i < most_conjunctions
+    → {c : Conjunction}
+    → c ≡ get_or (conjunctions_listed s) i s.fourth
+    → all (is LETTER) (letters_of c) ≡ true
 unfolding conjunctions_of
-listed_accepted s good i h at =
-    let most = conjunctions_most s good in
-    ap conjunction_accepted (at ∙ sym (get_or-take s.conjunctions (conjunctions_listed s) i s.fourth h))
-    ∙ conjunction_good s good i s.fourth (simp length-take (omega arith))
-
--- the letters of one that stands there, if one does
-abbrev pub some_size : ℕ → Option ℕ
-some_size zero = None
-some_size (suc n) = Some (suc n)
-
-pub size_some : (n : ℕ) → 1 ≤ n → Some n ≡ some_size n
-size_some zero h = absurd (omega arith)
-size_some (suc n) h = refl
-
-pub none_size : (n : ℕ) → None ≡ some_size n → n ≡ 0
-none_size zero e = refl
-none_size (suc n) e = absurd (none-some (suc n) e)
-
-pub sized : (n : ℕ) {size : ℕ} → Some size ≡ some_size n → (size ≡ n) × (n ≡ 0 → ⊥)
-sized zero {size = size} e = absurd (none-some size (sym e))
-sized (suc n) e = (same_Some _ _ e, λ z. omega arith)
+listed_letters s good i h k {c = c} at =
+    conjunction_letters c
+    (ap conjunction_accepted (at ∙ sym (get_or-take s.conjunctions (conjunctions_listed s) i s.fourth h))
+    ∙ conjunction_good s good i s.fourth (simp length-take (omega arith)))
 
 -- ---- after the word
 
-module _ (s : Settings) {outer : ByteSet} (o : outer ≡ s.outer) (text : List ℕ) (word place : ℕ) where
+module _ (s : Settings) {outer : ByteSet} (o : s.outer ≡ outer) (text : List ℕ) (word place : ℕ) where
   pub after_ends : length text ≤ place → refused (ConjunctionEnds word) ≡ after_conjunction s text word place
   unfolding after_conjunction ends when◌then◌else◌
   after_ends h = rw (le-leb (length text) place h)
 
-  module _ (h : place < length text) {b : ℕ} (at : b ≡ get_or text place 0) where
-    pub delimiter_there : holds outer b ≡ true → sees (holds outer) text place ≡ true
-    delimiter_there e = sees_here (holds outer) text place h ∙ rw at at e
+  module _ (h : place < length text) where
+    outer_at : {b : Bool} → b ≡ sees (holds outer) text place → {t : Bool} → b ≡ t → sees (holds s.outer) text place ≡ t
+    outer_at asked e = ap (λ set. sees (holds set) text place) o ∙ sym asked ∙ e
 
-    pub after_delimiters : holds outer b ≡ true → delimiters outer text place ≡ after_conjunction s text word place
+    pub after_delimiters :
+        {b : Bool}
+        → b ≡ sees (holds outer) text place
+        → b ≡ true
+        → delimiters outer text place ≡ after_conjunction s text word place
     unfolding after_conjunction ends when◌then◌else◌
-    after_delimiters e = rw (o, lt-leb (length text) place h, sees_here (holds s.outer) text place h, (rw (o, at) at e))
+    after_delimiters asked e = ap (λ set. delimiters set text place) (sym o) ∙ rw (lt-leb (length text) place h, outer_at asked e)
 
-    module _ (none : holds outer b ≡ false) where
-      after_here : (when is_next_duration b then got place else refused (ConjunctionGoesOn place)) ≡ after_conjunction s text word place
+    module _ {b : Bool} (asked : b ≡ sees (holds outer) text place) (none : b ≡ false) where
+      after_here :
+          (when is_next_duration (get_or text place 0) then got place else refused (ConjunctionGoesOn place))
+          ≡ after_conjunction s text word place
       unfolding after_conjunction ends when◌then◌else◌
-      after_here = rw (at, lt-leb (length text) place h, sees_here (holds s.outer) text place h, (rw (o, at) at none), sees_here is_next_duration text place h)
+      after_here = rw (lt-leb (length text) place h, outer_at asked none, sees_here is_next_duration text place h)
 
-      pub after_part : is_next_duration b ≡ true → got place ≡ after_conjunction s text word place
+      pub after_part : is_next_duration (get_or text place 0) ≡ true → got place ≡ after_conjunction s text word place
       unfolding when◌then◌else◌
       after_part e = rw e at after_here
 
-      pub after_other : is_next_duration b ≡ false → refused (ConjunctionGoesOn place) ≡ after_conjunction s text word place
+      pub after_other :
+          is_next_duration (get_or text place 0) ≡ false
+          → refused (ConjunctionGoesOn place) ≡ after_conjunction s text word place
       unfolding when◌then◌else◌
       after_other e = rw e at after_here
 

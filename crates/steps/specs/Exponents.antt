@@ -1,7 +1,7 @@
 -- Laws of an exponent's digits, one after another. Assumes nothing.
-use Rattle.std.specs.Prelude.{◌≡◌, Bool, List, ℕ, ◌+◌, ◌*◌, ◌-◌, ◌≤◌, ◌<◌, max, leb, eqb, length, get_or, drop}
+use Rattle.std.specs.Prelude.{◌≡◌, Bool, List, ℕ, ◌+◌, ◌*◌, ◌-◌, ◌≤◌, ◌<◌, eqb, length, get_or, drop}
 use Rattle.std.proofs.Math.Path.{refl}
-use Rattle.std.proofs.Common.{ap, sym, ◌∙◌, leb-true, leb-false, lit≤, drop_of_length-le, drop-cons}
+use Rattle.std.proofs.Common.{ap, lit≤, drop_of_length-le, drop-cons}
 use Rattle.std.proofs.Math.Bool.{true, false}
 use Rattle.std.proofs.Math.Numerals.{add-one}
 use native.Mathlib.Omega.{arith}
@@ -31,7 +31,7 @@ abbrev pub digits_from : Bool → List ℕ → ℕ → ℕ → Outcome Scaled
 digits_from negative text power place = exponent_digits negative (drop place text) power place
 
 module _ (negative : Bool) (text : List ℕ) (power place : ℕ) where
-  digits_end : length text ≤ place → digits_from negative text power place ≡ scaled_at negative power place
+  pub digits_end : length text ≤ place → digits_from negative text power place ≡ scaled_at negative power place
   unfolding exponent_digits
   digits_end h = rw (drop_of_length-le text h)
 
@@ -40,33 +40,18 @@ module _ (negative : Bool) (text : List ℕ) (power place : ℕ) where
     unfolding exponent_digits when◌then◌else◌
     digits_stop e = rw (drop-cons text place 0 h, e)
 
-    module _ (d : is DIGIT (get_or text place 0) ≡ true) {digit : ℕ} (v : digit ≡ get_or text place 0 - 48) where
-      pub digits_passed : exponent_limit negative < power * 10 + digit → digits_from negative text power place ≡ refused (exponent_passed negative place)
+    module _ (d : is DIGIT (get_or text place 0) ≡ true) where
+      pub digits_passed :
+          exponent_limit negative < power * 10 + (get_or text place 0 - 48)
+          → digits_from negative text power place ≡ refused (exponent_passed negative place)
       unfolding exponent_digits when◌then◌else◌
-      digits_passed k = rw (drop-cons text place 0 h, d, lt-leb _ _ (rw v at k))
+      digits_passed k = rw (drop-cons text place 0 h, d, lt-leb _ _ k)
 
-      pub digits_more : power * 10 + digit ≤ exponent_limit negative → digits_from negative text power place ≡ digits_from negative text (power * 10 + digit) (place + 1)
+      pub digits_more :
+          power * 10 + (get_or text place 0 - 48) ≤ exponent_limit negative
+          → digits_from negative text power place ≡ digits_from negative text (power * 10 + (get_or text place 0 - 48)) (place + 1)
       unfolding exponent_digits when◌then◌else◌
-      digits_more k = rw (drop-cons text place 0 h, d, ← v, le-leb _ _ k, add-one place)
-
--- digits that have come to the text's end
-pub digits_over :
-    (negative : Bool) (text : List ℕ) (place power next : ℕ)
-    → digits_from negative text power next ≡ digits_from negative text 0 place
-    → (length text < place → power ≡ 0)
-    → length text ≤ next
-    → (place ≤ length text → next ≤ length text)
-    → scaled_at negative power (max (length text) place) ≡ digits_from negative text 0 place
-digits_over negative text place power next e nothing over within = go (leb place (length text)) refl
-  where
-    go : (b : Bool) → leb place (length text) ≡ b → scaled_at negative power (max (length text) place) ≡ digits_from negative text 0 place
-    go true inside =
-        let end : max (length text) place ≡ next = omega (arith, over, within (leb-true place (length text) inside), leb-true place (length text) inside) in
-        rw end (sym (digits_end negative text power next over) ∙ e)
-    go false beyond =
-        let past = leb-false place (length text) beyond in
-        let end : max (length text) place ≡ place = omega (arith, past) in
-        rw (end, nothing past) (sym (digits_end negative text 0 place (omega (arith, past))))
+      digits_more k = rw (drop-cons text place 0 h, d, le-leb _ _ k, add-one place)
 
 -- ---- the number after the sign
 
@@ -80,7 +65,7 @@ module _ (text : List ℕ) (negative : Bool) (place : ℕ) where
     unfolding exponent_number ends when◌then◌else◌
     number_byte e = rw (sees_here (is DIGIT) text place h, e, lt-leb (length text) place h)
 
-    pub number_digits : is DIGIT (get_or text place 0) ≡ true → exponent_digits negative (drop place text) 0 place ≡ exponent_number text negative place
+    pub number_digits : is DIGIT (get_or text place 0) ≡ true → digits_from negative text 0 place ≡ exponent_number text negative place
     unfolding exponent_number when◌then◌else◌
     number_digits e = rw (sees_here (is DIGIT) text place h, e)
 

@@ -1,7 +1,5 @@
 -- Infinity up to its last letter: the step without the connection that follows it. Assumes nothing.
-use Rattle.std.specs.Prelude.{◌≡◌, Bool, true, false, List, [], ◌∷◌, ℕ, suc, ◌+◌, ◌-◌, ◌≤◌, ◌<◌, leb, length, drop, Option, Some, None, IsTrue}
-use Rattle.std.specs.Option.{MatchOption}
-use denote.Ref.{Bor}
+use Rattle.std.specs.Prelude.{◌≡◌, Bool, true, false, List, [], ◌∷◌, ℕ, suc, ◌+◌, ◌-◌, ◌≤◌, ◌<◌, leb, length, drop}
 use Rattle.std.proofs.Math.Path.{refl, sym, ap}
 use Rattle.std.proofs.Common.{◌∙◌, zero-le, suc-le-suc, add-zero, add-suc, suc-add, arith, length-drop}
 use borrow.Author.Tests.{le-leb, lt-leb}
@@ -9,15 +7,13 @@ use Rattle.std.proofs.Math.Dec.{leb-suc-zero, leb-suc-suc}
 use Rattle.rules.specs.declared.ByteSet.{ByteSet}
 use Rattle.rules.specs.declared.Settings.{Settings}
 use Rattle.rules.specs.declared.Refusal.TheVariants.{InfinityByte, InfinityEnds, InfinityGoesOn}
-use Rattle.rules.specs.Common.{when◌then◌else◌, ascii, ends}
+use Rattle.rules.specs.Common.{when◌then◌else◌, ascii, ends, sees}
 use Rattle.rules.specs.NumbersHandedBack.{Outcome, got, refused, ◌>>=◌}
 use Rattle.rules.specs.SettingsAndUnitTable.{holds}
 use Rattle.rules.specs.ReadingOnePart.{same_letter, connection, closes_infinity, letters_step, infinity_closed, infinity_step}
 use Rattle.rules.proofs.Laws.Outcomes.{bind_got, bind_refused}
 use Rattle.steps.specs.Joined.{then_joined, if_joined}
-use Rattle.rules.proofs.Laws.Texts.{sees_here}
 use Rattle.steps.specs.Letters.{matching}
-use Rattle.steps.specs.Sights.{Looked}
 
 -- what closes the word, at the place after it
 unfoldable pub word_closed : Settings → List ℕ → ℕ → Outcome ℕ
@@ -131,13 +127,11 @@ module _ (s : Settings) (text : List ℕ) (inf : ℕ) where
   unfolding infinity_word when◌then◌else◌
   word_long e = rw e
 
--- the text's end closes the word, or an outer delimiter
-pub closed :
-    (s : Settings) {outer : ByteSet} → outer ≡ s.outer → (text : List ℕ) (place : ℕ) (looked : Option (Bor ℕ)) {result : Bool} (Q : Bor ℕ → Type 0)
-    → Looked text place looked
-    → MatchOption looked (IsTrue result) Q
-    → ((x : Bor ℕ) → Q x → result ≡ holds outer x.now)
-    → result ≡ closes_infinity s text place
-unfolding closes_infinity ends
-closed s o text place None Q h e f = e ∙ rw (le-leb (length text) place h)
-closed s o text place (Some x) Q h e f = rw (lt-leb (length text) place h.0, sees_here (holds s.outer) text place h.0, ← h.1 0, ← o) (f x e)
+module _ (s : Settings) (text : List ℕ) (place : ℕ) where
+  pub closes_end : length text ≤ place → true ≡ closes_infinity s text place
+  unfolding closes_infinity ends
+  closes_end h = rw (le-leb (length text) place h)
+
+  pub closes_here : place < length text → {outer : ByteSet} → s.outer ≡ outer → sees (holds outer) text place ≡ closes_infinity s text place
+  unfolding closes_infinity ends
+  closes_here h o = ap (λ set. sees (holds set) text place) (sym o) ∙ rw (lt-leb (length text) place h)

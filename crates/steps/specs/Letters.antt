@@ -1,22 +1,32 @@
 -- A word at a place: how many of its letters stand there. Assumes nothing.
-use Rattle.std.specs.Prelude.{◌≡◌, refl, Bool, true, false, cond, ◌&&◌, List, [], ◌∷◌, ℕ, zero, suc, ◌+◌, ◌/◌, ◌%◌, ◌^◌, ◌≤◌, eqb, leb, length, take, drop}
-use Rattle.std.proofs.Common.{sym, ◌∙◌, ap, ne_eqb, le-leb, leb-true, leb-false, arith}
-use Rattle.std.proofs.lemmas.Bool.{lt-leb}
-use Rattle.std.proofs.Math.Nat.{div-div-eq-div-mul, div-one, pow-suc}
-use Rattle.std.specs.Int.{w64, byte_at, bytes_low_first, to_le_bytes}
-use Rattle.std.specs.Char.{to_ascii_lowercase, eq_ignore_ascii_case}
-use Rattle.std.specs.List.{prefix_len, zip}
-use Rattle.rules.specs.declared.Conjunction.{Conjunction}
-use Rattle.rules.specs.Common.{when◌then◌else◌, between}
-use Rattle.rules.specs.SettingsAndUnitTable.{lower, low_bytes, letters_of}
+use Rattle.std.specs.Prelude.{◌≡◌, refl, Bool, true, false, ◌&&◌, List, [], ◌∷◌, ℕ, zero, suc, ◌+◌, ◌-◌, ◌/◌, ◌%◌, ◌≤◌, ◌<◌, eqb, length, get_or, drop}
+use Rattle.std.proofs.Common.{sym, ◌∙◌, ne_eqb, sub-one}
+use Rattle.std.proofs.Math.Path.{ap}
+use Rattle.std.proofs.Math.Numerals.{add-one}
+use native.Mathlib.Omega.{arith}
+use Rattle.std.proofs.Math.ListN.{drop_of_length-le}
+use Rattle.std.proofs.Math.Seq.{drop-cons}
+use Rattle.rules.specs.Common.{when◌then◌else◌, all}
+use Rattle.rules.specs.SettingsAndUnitTable.{low_bytes}
 use Rattle.rules.specs.ReadingOnePart.{same_letter, prefix, says}
 use Rattle.rules.proofs.Laws.Tests.{eqb_iff}
+
+-- of the n low bytes: the lowest, and those above it
+pub all_letters : (test : ℕ → Bool) (n x : ℕ) → 0 < n → all test (low_bytes n x) ≡ (test (x % 256) && all test (low_bytes (n - 1) (x / 256)))
+unfolding all low_bytes
+all_letters test zero x h = absurd (omega arith)
+all_letters test (suc n) x h = rw (sub-one (suc n))
 
 -- how many letters of the word the rest of the text begins with
 unfoldable pub matching : List ℕ → List ℕ → ℕ
 matching [] rest = 0
 matching (w ∷ word) [] = 0
 matching (w ∷ word) (b ∷ rest) = let more = suc (matching word rest) in when same_letter w b then more else 0
+
+matching_nothing : (word : List ℕ) → matching word [] ≡ 0
+unfolding matching
+matching_nothing [] = refl
+matching_nothing (w ∷ word) = refl
 
 -- the word stands there if all of its letters do
 prefix_matching : (word rest : List ℕ) → prefix word rest ≡ eqb (matching word rest) (length word)
@@ -36,44 +46,52 @@ pub says_matching : (word text : List ℕ) (place : ℕ) → eqb (matching word 
 unfolding says
 says_matching word text place = sym (prefix_matching word (drop place text))
 
--- the library's test of two bytes in any case
-lower_same : (b : ℕ) → to_ascii_lowercase b ≡ lower b
-unfolding lower between when◌then◌else◌
-lower_same b = go (leb 65 b) refl (leb b 90) refl
-  where
-    go : (x : Bool) → leb 65 b ≡ x → (y : Bool) → leb b 90 ≡ y → to_ascii_lowercase b ≡ (when x && y then b + 32 else b)
-    go true e true f = rw (lt-leb (suc b) 65 (omega (arith, leb-true 65 b e)), le-leb (suc b) 91 (omega (arith, leb-true b 90 f)))
-    go true e false f = rw (lt-leb (suc b) 65 (omega (arith, leb-true 65 b e)), lt-leb (suc b) 91 (omega (arith, leb-false b 90 f)))
-    go false e y f = rw (le-leb (suc b) 65 (omega (arith, leb-false 65 b e)))
+-- ---- letter by letter, from letter i of the word and from a place of the text on
 
-any_case : (a b : ℕ) → eq_ignore_ascii_case a b ≡ same_letter a b
-unfolding same_letter
-any_case a b = rw (lower_same a, lower_same b)
+module _ (word text : List ℕ) (i place : ℕ) where
+  pub matching_ends : length text ≤ place → matching (drop i word) (drop place text) ≡ 0
+  matching_ends h = rw (drop_of_length-le text h) (matching_nothing (drop i word))
 
--- how many pairs of a letter and a byte match from the front on
-pub matching_pairs : (word rest : List ℕ) → prefix_len (λ (p : ℕ × ℕ). eq_ignore_ascii_case p.0 p.1) (zip word rest) ≡ matching word rest
-unfolding matching when◌then◌else◌
-matching_pairs [] rest = refl
-matching_pairs (w ∷ word) [] = refl
-matching_pairs (w ∷ word) (b ∷ rest) = ap (λ c. cond c (1 + prefix_len (λ (p : ℕ × ℕ). eq_ignore_ascii_case p.0 p.1) (zip word rest)) 0) (any_case w b) ∙ go (same_letter w b) (matching_pairs word rest)
-  where
-    go : (c : Bool) → prefix_len (λ (p : ℕ × ℕ). eq_ignore_ascii_case p.0 p.1) (zip word rest) ≡ matching word rest → cond c (1 + prefix_len (λ (p : ℕ × ℕ). eq_ignore_ascii_case p.0 p.1) (zip word rest)) 0 ≡ (when c then suc (matching word rest) else 0)
-    go true e = omega (arith, e)
-    go false e = refl
+  pub matching_done : length word ≤ i → matching (drop i word) (drop place text) ≡ 0
+  unfolding matching
+  matching_done h = rw (drop_of_length-le word h)
 
--- ---- letters in a number, the first in the low byte
+  module _ (hi : i < length word) (hp : place < length text) where
+    pub matching_more :
+        same_letter (get_or word i 0) (get_or text place 0) ≡ true
+        → matching (drop i word) (drop place text) ≡ suc (matching (drop (i + 1) word) (drop (place + 1) text))
+    unfolding matching when◌then◌else◌
+    matching_more e = rw (drop-cons word i 0 hi, drop-cons text place 0 hp, e, add-one i, add-one place)
 
-byte_there : (i n : ℕ) → byte_at i n ≡ n / 256 ^ i % 256
-byte_there zero n = rw (div-one n)
-byte_there (suc i) n = refl
+    pub matching_stops : same_letter (get_or word i 0) (get_or text place 0) ≡ false → matching (drop i word) (drop place text) ≡ 0
+    unfolding matching when◌then◌else◌
+    matching_stops e = rw (drop-cons word i 0 hi, drop-cons text place 0 hp, e)
 
-low_taken : (m k i n : ℕ) → m ≤ k → take m (bytes_low_first i k n) ≡ low_bytes m (n / 256 ^ i)
-unfolding low_bytes
-low_taken zero k i n h = refl
-low_taken (suc m) zero i n h = absurd (omega arith)
-low_taken (suc m) (suc k) i n h = rw (byte_there i n, div-div-eq-div-mul n (256 ^ i) 256, ← (pow-suc 256 i)) (ap (λ l. n / 256 ^ i % 256 ∷ l) (low_taken m k (suc i) n (omega arith)))
+-- ---- the same for a word whose letters stand in a number
 
--- the first bytes of the number are the conjunction's letters
-pub letters_taken : (c : Conjunction) → c.size ≤ 8 → take c.size (to_le_bytes w64 c.letters) ≡ letters_of c
-unfolding letters_of
-letters_taken c h = low_taken c.size 8 0 c.letters h ∙ rw (div-one c.letters)
+module _ (size letters : ℕ) (text : List ℕ) (place : ℕ) where
+  pub letters_done : size ≤ 0 → says (low_bytes size letters) text place ≡ true
+  unfolding says low_bytes prefix
+  letters_done h = let none : size ≡ 0 = omega arith in rw none
+
+  one_more : 0 < size → size ≡ suc (size - 1)
+  one_more h = omega arith
+
+  pub letters_end : 0 < size → length text ≤ place → says (low_bytes size letters) text place ≡ false
+  unfolding says low_bytes prefix
+  letters_end h k = rw (one_more h, drop_of_length-le text k)
+
+  module _ (h : 0 < size) (k : place < length text) where
+    letters_here :
+        says (low_bytes size letters) text place
+        ≡ (same_letter (letters % 256) (get_or text place 0) && says (low_bytes (size - 1) (letters / 256)) text (place + 1))
+    unfolding says low_bytes prefix
+    letters_here = ap (λ n. prefix (low_bytes n letters) (drop place text)) (one_more h) ∙ rw (drop-cons text place 0 k, add-one place)
+
+    pub letters_more :
+        same_letter (letters % 256) (get_or text place 0) ≡ true
+        → says (low_bytes size letters) text place ≡ says (low_bytes (size - 1) (letters / 256)) text (place + 1)
+    letters_more e = letters_here ∙ rw e
+
+    pub letters_stop : same_letter (letters % 256) (get_or text place 0) ≡ false → says (low_bytes size letters) text place ≡ false
+    letters_stop e = letters_here ∙ rw e

@@ -1,8 +1,7 @@
 -- What the contracts of the steps need besides the definitions of document 01, and laws of those definitions.
 pub mod Joined
-pub mod Sights
-pub mod Sets
 pub mod Bytes
+pub mod Sets
 pub mod Delimiters
 pub mod Letters
 pub mod Signs

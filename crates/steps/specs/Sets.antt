@@ -1,11 +1,10 @@
 -- Bytes of a set, and bytes outside it: a run of either. Assumes nothing.
-use Rattle.std.specs.Prelude.{◌≡◌, refl, Bool, true, false, List, ℕ, ◌+◌, ◌≤◌, ◌<◌, max, leb, length, get_or}
-use Rattle.std.proofs.Common.{arith, leb-true, leb-false}
+use Rattle.std.specs.Prelude.{◌≡◌, Bool, true, false, List, ℕ, ◌+◌, ◌<◌, length, get_or}
 use Rattle.std.specs.Bool.{xor}
 use Rattle.rules.specs.declared.ByteSet.{ByteSet}
 use Rattle.rules.specs.Common.{run}
 use Rattle.rules.specs.SettingsAndUnitTable.{holds}
-use Rattle.value.specs.Digits.{run_on, run_off, run_end}
+use Rattle.value.specs.Digits.{run_on, run_off}
 use Rattle.settings.specs.Sets.{passes}
 use Rattle.settings.specs.Laws.Sets.{held_alike, held_unlike}
 
@@ -18,17 +17,3 @@ module _
 
   pub passes_off : xor found held ≡ true → run (passes set held) text place ≡ place
   passes_off e = run_off _ text place h (held_unlike set held _ asked e)
-
--- a run that has come to the text's end
-pub passed_all :
-    (test : ℕ → Bool) (text : List ℕ) (place next : ℕ)
-    → run test text next ≡ run test text place
-    → length text ≤ next
-    → place ≤ next
-    → (place ≤ length text → next ≤ length text)
-    → max (length text) place ≡ run test text place
-passed_all test text place next e over from within = go (leb place (length text)) refl
-  where
-    go : (b : Bool) → leb place (length text) ≡ b → max (length text) place ≡ run test text place
-    go true inside = omega (arith, e, run_end test text next over, within (leb-true place (length text) inside), leb-true place (length text) inside)
-    go false beyond = omega (arith, run_end test text place (omega (arith, leb-false place (length text) beyond)), leb-false place (length text) beyond)

@@ -1,11 +1,18 @@
-// Bytes of a text: what a single one is, and those from a place on.
-ghost use Rattle.std.specs.Prelude.{◌≡◌, drop};
-ghost use Rattle.rules.specs.SettingsAndUnitTable.{DIGIT, SIGN, is, is_next_duration};
+// What a single byte is.
+ghost use Rattle.std.specs.Prelude.{◌≡◌, true};
+ghost use Rattle.rules.specs.SettingsAndUnitTable.{DIGIT, SIGN, LETTER, is, is_next_duration};
+ghost use Rattle.rules.specs.ReadingOnePart.{same_letter};
+
+// The bit that a lower-case letter has and the upper-case one has not.
+const CASE: u8 = 32;
 
 pub fn is_digit(byte: u8) -> bool
     ensures { result ≡ is DIGIT byte }
 {
-    byte.is_ascii_digit()
+    match byte {
+        48..=57 => true,
+        _ => false,
+    }
 }
 
 pub fn is_sign(byte: u8) -> bool
@@ -21,9 +28,10 @@ pub fn is_next_duration(byte: u8) -> bool
     is_digit(byte) || is_sign(byte)
 }
 
-// The bytes from a place on; beyond the text's end there are none.
-pub fn rest(text: &[u8], place: usize) -> &[u8]
-    ensures { result.now ≡ drop place text.now }
+// Whether a byte is the letter, in any case: the two cases differ in one bit, and no byte but a letter comes to one with it.
+pub fn same_letter(letter: u8, byte: u8) -> bool
+    requires { is LETTER letter ≡ true }
+    ensures { result ≡ same_letter letter byte }
 {
-    text.get(place..).unwrap_or_default()
+    letter | CASE == byte | CASE
 }

@@ -15,20 +15,25 @@ use settings::sets::{AsciiSet, holds, inner_delimiters};
 pub fn is_delimiter(set: AsciiSet, text: &[u8], place: usize) -> bool
     ensures { result ≡ sees (holds (bytes_of set)) text.now place }
 {
-    text.get(place).is_some_and(|byte| holds(set, *byte))
+    if text.len() <= place {
+        return false;
+    }
+    holds(set, text[place])
 }
 
-// The place after the bytes from here on that are all in the set or, with held false, all outside it.
-// A flag and no test that is passed in: inside and outside one set is all that is asked for, and so the clause is an equation.
+// The place after the bytes from here on that are all in the set or, with held false, all outside it. A loop by index, for its speed (see the crate's head);
+// inside and outside one set is all that is asked for, and so the flag.
 pub fn past(set: AsciiSet, held: bool, text: &[u8], place: usize) -> usize
     ensures { result ≡ run (passes (bytes_of set) held) text.now place }
 {
-    for next in place..text.len() {
+    let mut next = place;
+    while next < text.len() {
         if holds(set, text[next]) != held {
             return next;
         }
+        next += 1;
     }
-    text.len().max(place)
+    next
 }
 
 // The run of delimiters that begins at the place. One that ends the text is refused at its first byte.

@@ -5,12 +5,11 @@ ghost use Rattle.rules.specs.SettingsAsWords.{settings_of};
 ghost use Rattle.rules.specs.Common.{sees};
 ghost use Rattle.rules.specs.ReadingOnePart.{same_letter, exponent_limit, exponent_passed, exponent_digits, exponent_number, exponent_step};
 
-use crate::bytes::is_digit;
+use crate::bytes::{is_digit, same_letter};
 use crate::sign::sign_at;
 use rules::{Exponent, Refusal, Scaled};
 use settings::fields::exponents;
 
-// The largest power of a sign, and what a power beyond it is refused with, each as its definition has it.
 fn exponent_limit(negative: bool) -> u32
     ensures { result ≡ exponent_limit negative }
 {
@@ -36,40 +35,47 @@ fn exponent_at(negative: bool, power: u16, next: usize) -> Result<Scaled, Refusa
     })
 }
 
-// The first digit at which the power passes its limit decides, so the power stays small.
+// The first digit at which the power passes its limit decides, so the power stays small. A loop by index, for its speed (see the crate's head).
 fn exponent_digits(text: &[u8], negative: bool, place: usize) -> Result<Scaled, Refusal>
     ensures { result ≡ exponent_digits negative (drop place text.now) 0 place }
 {
     let limit = exponent_limit(negative);
     let mut power: u32 = 0;
-    for next in place..text.len() {
+    let mut next = place;
+    while next < text.len() {
         let byte = text[next];
         if !is_digit(byte) {
             return exponent_at(negative, power as u16, next);
         }
-        power = power * 10 + u32::from(byte - b'0');
-        if limit < power {
+        let more = power * 10 + (byte - b'0') as u32;
+        if limit < more {
             return Err(exponent_passed(negative, next));
         }
+        power = more;
+        next += 1;
     }
-    exponent_at(negative, power as u16, text.len().max(place))
+    exponent_at(negative, power as u16, next)
 }
 
 fn parse_exponent(text: &[u8], negative: bool, place: usize) -> Result<Scaled, Refusal>
     ensures { result ≡ exponent_number text.now negative place }
 {
-    match text.get(place) {
-        None => Err(Refusal::ExponentEnds(place)),
-        Some(byte) if is_digit(*byte) => exponent_digits(text, negative, place),
-        Some(_) => Err(Refusal::ExponentByte(place)),
+    if text.len() <= place {
+        return Err(Refusal::ExponentEnds(place));
     }
+    if !is_digit(text[place]) {
+        return Err(Refusal::ExponentByte(place));
+    }
+    exponent_digits(text, negative, place)
 }
 
 fn is_exponent(text: &[u8], place: usize) -> bool
     ensures { result ≡ sees (same_letter 101) text.now place }
 {
-    text.get(place)
-        .is_some_and(|byte| *byte == b'e' || *byte == b'E')
+    if text.len() <= place {
+        return false;
+    }
+    same_letter(b'e', text[place])
 }
 
 pub fn parse_number_exponent(

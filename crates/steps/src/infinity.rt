@@ -6,22 +6,25 @@ ghost use Rattle.rules.specs.SettingsAndUnitTable.{settings_check};
 ghost use Rattle.rules.specs.ReadingOnePart.{closes_infinity};
 ghost use Rattle.steps.specs.Infinity.{infinity_long, infinity_word};
 
+use crate::delimiters::is_delimiter;
 use crate::letters::letters_matching;
 use rules::Refusal;
-use settings::sets::{holds, outer_delimiters};
+use settings::sets::outer_delimiters;
 
-// Letters of `inf`, and those that may follow it.
+// Letters of `inf`, and of `inity`.
 const INF: usize = 3;
 
-const INITY: &[u8; 5] = b"inity";
+const INITY: usize = 5;
 
 // What the word must be followed by: the text's end, or a connection.
 fn closes_infinity(settings: &[u64; 25], text: &[u8], place: usize) -> bool
     requires { settings_check (settings_of settings.now) ≡ got tt }
     ensures { result ≡ closes_infinity (settings_of settings.now) text.now place }
 {
-    let outer = outer_delimiters(settings);
-    text.get(place).is_none_or(|byte| holds(outer, *byte))
+    if text.len() <= place {
+        return true;
+    }
+    is_delimiter(outer_delimiters(settings), text, place)
 }
 
 // The place after `infinity`, of which `inf` has been read.
@@ -31,9 +34,9 @@ fn parse_inity(settings: &[u64; 25], text: &[u8], inf: usize) -> Result<usize, R
     ensures { result ≡ infinity_long (settings_of settings.now) text.now inf }
 {
     let start = inf + INF;
-    let letters = letters_matching(INITY, text, start);
+    let letters = letters_matching(b"inity", text, start);
     let end = start + letters;
-    if letters < INITY.len() {
+    if letters < INITY {
         if text.len() <= end {
             return Err(Refusal::InfinityEnds(inf));
         }

@@ -1,21 +1,30 @@
 // Words, compared with the text at a place in any case.
 ghost use Rattle.std.specs.Prelude.{◌≡◌, true, drop};
 ghost use Rattle.rules.specs.Common.{all};
-ghost use Rattle.rules.specs.SettingsAndUnitTable.{LETTER, is, letters_of, conjunction_accepted};
+ghost use Rattle.rules.specs.SettingsAndUnitTable.{LETTER, is, low_bytes};
 ghost use Rattle.rules.specs.ReadingOnePart.{says};
 ghost use Rattle.steps.specs.Letters.{matching};
 
-use crate::bytes::rest;
-use rules::Conjunction;
+use crate::bytes::same_letter;
 
-// How many letters of the word stand at the place, one after another.
+// How many letters of the word stand at the place, one after another. A loop by index, for its speed (see the crate's head).
 pub fn letters_matching(word: &[u8], text: &[u8], place: usize) -> usize
+    requires { all (is LETTER) word.now ≡ true }
     ensures { result ≡ matching word.now (drop place text.now) }
 {
-    let pairs = word.iter().zip(rest(text, place));
-    pairs
-        .take_while(|(letter, byte)| letter.eq_ignore_ascii_case(byte))
-        .count()
+    let mut count = 0;
+    let mut next = place;
+    while count < word.len() {
+        if text.len() <= next {
+            return count;
+        }
+        if !same_letter(word[count], text[next]) {
+            return count;
+        }
+        count += 1;
+        next += 1;
+    }
+    count
 }
 
 pub fn next_is_ignore_ascii_case(word: &[u8], text: &[u8], place: usize) -> bool
@@ -25,11 +34,24 @@ pub fn next_is_ignore_ascii_case(word: &[u8], text: &[u8], place: usize) -> bool
     letters_matching(word, text, place) == word.len()
 }
 
-// Whether the conjunction stands at the place. Its letters are the low bytes of a number.
-pub fn next_is_conjunction(conjunction: Conjunction, text: &[u8], place: usize) -> bool
-    requires { conjunction_accepted conjunction ≡ true }
-    ensures { result ≡ says (letters_of conjunction) text.now place }
+// The same for a word of which the letters stand in a number, the first in the low byte: no bytes of it are put on the stack.
+pub fn next_is_letters(size: u8, letters: u64, text: &[u8], place: usize) -> bool
+    requires { all (is LETTER) (low_bytes size letters) ≡ true }
+    ensures { result ≡ says (low_bytes size letters) text.now place }
 {
-    let letters = conjunction.letters.to_le_bytes();
-    next_is_ignore_ascii_case(&letters[..conjunction.size as usize], text, place)
+    let mut left = size;
+    let mut rest = letters;
+    let mut next = place;
+    while left > 0 {
+        if text.len() <= next {
+            return false;
+        }
+        if !same_letter((rest % 256) as u8, text[next]) {
+            return false;
+        }
+        rest = rest / 256;
+        left -= 1;
+        next += 1;
+    }
+    true
 }

@@ -22,7 +22,10 @@ pub struct SummedNumber {
 fn is_point(text: &[u8], place: usize) -> bool
     ensures { result ≡ sees (is POINT) text.now place }
 {
-    text.get(place) == Some(&b'.')
+    if text.len() <= place {
+        return false;
+    }
+    text[place] == b'.'
 }
 
 // A point may have no digits after it where there are some before it.
@@ -56,8 +59,10 @@ fn parse_number_fraction(
     let after = place + 1;
     let digits = sum_digits(so_far, text, after);
     let next = digits.end;
-    if next == after && !any_whole {
-        return Err(Refusal::FractionEmpty(place));
+    if next == after {
+        if !any_whole {
+            return Err(Refusal::FractionEmpty(place));
+        }
     }
     Ok(SummedNumber {
         typed: Number {

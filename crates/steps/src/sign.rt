@@ -15,15 +15,22 @@ use settings::fields::after_sign;
 pub fn sign_at(text: &[u8], place: usize) -> Signed
     ensures { result ≡ sign_at text.now place }
 {
-    match text.get(place) {
-        Some(byte) if is_sign(*byte) => Signed {
-            negative: *byte == b'-',
-            next: place + 1,
-        },
-        _ => Signed {
+    if text.len() <= place {
+        return Signed {
             negative: false,
             next: place,
-        },
+        };
+    }
+    let byte = text[place];
+    if is_sign(byte) {
+        return Signed {
+            negative: byte == b'-',
+            next: place + 1,
+        };
+    }
+    Signed {
+        negative: false,
+        next: place,
     }
 }
 

@@ -1,29 +1,27 @@
 -- `steps::connection::after_conjunction` meets its contract: the text's end, delimiters, the next part, and any other byte. Assumes nothing.
-use Rattle.std.proofs.Common.{sym, ◌∙◌}
+use mathlib.Core.Path.{sym, ◌∙◌}
 use Rattle.rules.specs.SettingsAsWords.{settings_of}
-use Rattle.steps.specs.Connections.{after_ends, delimiter_there, after_delimiters, after_part, after_other}
+use Rattle.steps.specs.Connections.{after_ends, after_delimiters, after_part, after_other}
 use Rattle.steps.proofs.connection.after_conjunction.Goals as goal
 
-pub returns-in-None : goal.returns-in-None
-returns-in-None c = after_ends (settings_of c.args.settings.now) c.outer_delimiters-outer.ensures _ _ _ c.in-None.ensures.lookup.3
+pub returns-then-text-place : goal.returns-then-text-place
+returns-then-text-place c = after_ends (settings_of c.args.settings.now) (sym c.outer_delimiters-outer.ensures) _ _ _ c.if-text-place.true
 
 pub try_consume_delimiter-requires : goal.try_consume_delimiter-requires
-try_consume_delimiter-requires c =
-    let here = c.in-Some.ensures.lookup.3 in
-    delimiter_there (settings_of c.args.settings.now) c.outer_delimiters-outer.ensures _ c.args.word _ here.0 (here.1 0) (sym c.holds.ensures ∙ c.if-holds.true)
+try_consume_delimiter-requires c = sym c.is_delimiter.ensures ∙ c.if-is_delimiter.true
 
-pub returns-in-Some : goal.returns-in-Some
-returns-in-Some c =
-    let here = c.in-Some.ensures.lookup.3 in
+pub returns-then-is_delimiter : goal.returns-then-is_delimiter
+returns-then-is_delimiter c =
     c.try_consume_delimiter.ensures
-    ∙ after_delimiters (settings_of c.args.settings.now) c.outer_delimiters-outer.ensures _ _ _ here.0 (here.1 0) (sym c.holds.ensures ∙ c.if-holds.true)
+    ∙ after_delimiters (settings_of c.args.settings.now) (sym c.outer_delimiters-outer.ensures) _ _ _ c.if-text-place.false
+    c.is_delimiter.ensures c.if-is_delimiter.true
 
-pub returns-in-Some-2 : goal.returns-in-Some-2
-returns-in-Some-2 c =
-    let here = c.in-Some.ensures.lookup.3 in
-    after_part (settings_of c.args.settings.now) c.outer_delimiters-outer.ensures _ _ _ here.0 (here.1 0) (sym c.holds.ensures ∙ c.if-holds.false) (sym c.is_next_duration.ensures ∙ c.if-is_next_duration.true)
+pub returns-then-is_next_duration : goal.returns-then-is_next_duration
+returns-then-is_next_duration c =
+    after_part (settings_of c.args.settings.now) (sym c.outer_delimiters-outer.ensures) _ _ _ c.if-text-place.false
+    c.is_delimiter.ensures c.if-is_delimiter.false (sym c.is_next_duration.ensures ∙ c.if-is_next_duration.true)
 
-pub returns-in-Some-3 : goal.returns-in-Some-3
-returns-in-Some-3 c =
-    let here = c.in-Some.ensures.lookup.3 in
-    after_other (settings_of c.args.settings.now) c.outer_delimiters-outer.ensures _ _ _ here.0 (here.1 0) (sym c.holds.ensures ∙ c.if-holds.false) (sym c.is_next_duration.ensures ∙ c.if-is_next_duration.false)
+pub returns : goal.returns
+returns c =
+    after_other (settings_of c.args.settings.now) (sym c.outer_delimiters-outer.ensures) _ _ _ c.if-text-place.false
+    c.is_delimiter.ensures c.if-is_delimiter.false (sym c.is_next_duration.ensures ∙ c.if-is_next_duration.false)

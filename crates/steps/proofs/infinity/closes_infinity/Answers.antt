@@ -1,8 +1,13 @@
 -- `steps::infinity::closes_infinity` meets its contract: the text's end, or an outer delimiter. Assumes nothing.
-use Rattle.std.proofs.Common.{rules}
+use mathlib.Core.Path.{sym, ◌∙◌}
 use Rattle.rules.specs.SettingsAsWords.{settings_of}
-use Rattle.steps.specs.Infinity.{closed}
+use Rattle.steps.specs.Infinity.{closes_end, closes_here}
 use Rattle.steps.proofs.infinity.closes_infinity.Goals as goal
 
+pub returns-then-text-place : goal.returns-then-text-place
+returns-then-text-place c = closes_end (settings_of c.args.settings.now) _ _ c.if-text-place.true
+
 pub returns : goal.returns
-returns c = closed (settings_of c.args.settings.now) c.outer_delimiters-outer.ensures _ _ _ _ c.get.ensures.lookup.3 c.is_none_or.ensures (λ x p. search rules)
+returns c =
+    c.is_delimiter.ensures
+    ∙ closes_here (settings_of c.args.settings.now) _ _ c.if-text-place.false (sym c.outer_delimiters.ensures)

@@ -1,18 +1,42 @@
--- `steps::letters::letters_matching` meets its contract: the pairs that are taken are those that match. Assumes nothing.
-use Rattle.std.proofs.Common.{rules, tests, ap, ◌∙◌, ℕ}
-use Rattle.std.specs.Char.{eq_ignore_ascii_case}
-use Rattle.std.specs.List.{zip}
-use Rattle.std.proofs.lemmas.Iterator.{YieldsList-from_slice, YieldsList-from_zip}
-use Rattle.std.proofs.lemmas.Iterator.Consumers.{count_from_yields_List}
-use Rattle.std.proofs.lemmas.Iterator.Search.{YieldsList-from_take_while}
-use Rattle.std.proofs.lemmas.List.Folds.{length-prefix_len}
-use Rattle.steps.specs.Letters.{matching, matching_pairs}
+-- `steps::letters::letters_matching` meets its contract: the letters counted, and those that match from here on, are all that match. Assumes nothing.
+use mathlib.Core.Path.{sym, ◌∙◌}
+use native.Mathlib.Omega.{arith}
+use borrow.Author.Rules.{rules}
+use borrow.Author.Tests.{not-true, not-false}
+use Rattle.rules.specs.SettingsAndUnitTable.{LETTER, is}
+use Rattle.rules.proofs.Laws.Lists.{all_index}
+use Rattle.steps.specs.Letters.{matching_ends, matching_done, matching_more, matching_stops}
+use Rattle.std.proofs.Common.{ap, not}
 use Rattle.steps.proofs.letters.letters_matching.Goals as goal
 
+pub loop-count-init : goal.loop-count-init
+loop-count-init c = (search rules, search rules)
+
+pub returns-then-text-next : goal.returns-then-text-next
+returns-then-text-next c = omega (arith, matching_ends c.args.word.now c.args.text.now c.loop-count.count c.loop-count.next c.if-text-next.true, c.loop-count.invariant.0)
+
+pub same_letter-requires : goal.same_letter-requires
+same_letter-requires c = all_index (is LETTER) c.args.word.now c.loop-count.count 0 c.requires c.loop-count-test.true
+
+pub returns-then-not-same_letter : goal.returns-then-not-same_letter
+returns-then-not-same_letter c =
+    omega (
+      arith,
+      matching_stops c.args.word.now c.args.text.now c.loop-count.count c.loop-count.next (search rules) (search rules)
+          (sym c.same_letter.ensures ∙ not-true c.same_letter.result (ap not c.if-not-same_letter.true)),
+      c.loop-count.invariant.0,
+    )
+
+pub loop-count-preserved : goal.loop-count-preserved
+loop-count-preserved c = (
+  omega (
+    arith,
+    matching_more c.args.word.now c.args.text.now c.loop-count.count c.loop-count.next (search rules) (search rules)
+        (sym c.same_letter.ensures ∙ not-false c.same_letter.result (ap not c.if-not-same_letter.false)),
+    c.loop-count.invariant.0,
+  ),
+  search rules,
+)
+
 pub returns : goal.returns
-returns c =
-    let taken =
-    count_from_yields_List c.take_while.result _ c.count.ensures.ran
-    (YieldsList-from_take_while _ (λ (p : ℕ × ℕ). eq_ignore_ascii_case p.0 p.1) (YieldsList-from_zip (YieldsList-from_slice c.args.word.now (cc)) (YieldsList-from_slice c.rest.result.now (cc))) c.take_while.ensures.closure c.take_while.ensures.done (λ x b q k. search (rules, tests)))
-    ∙ length-prefix_len (λ (p : ℕ × ℕ). eq_ignore_ascii_case p.0 p.1) (zip c.args.word.now c.rest.result.now) in
-    taken ∙ matching_pairs c.args.word.now c.rest.result.now ∙ ap (matching c.args.word.now) c.rest.ensures
+returns c = omega (arith, matching_done c.args.word.now c.args.text.now c.loop-count.count c.loop-count.next c.loop-count-test.false, c.loop-count.invariant.0)

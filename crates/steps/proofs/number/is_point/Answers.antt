@@ -1,9 +1,12 @@
 -- `steps::number::is_point` meets its contract: nothing stands at the text's end, and elsewhere the byte there. Assumes nothing.
-use Rattle.std.proofs.Common.{◌∙◌, arith}
-use Rattle.rules.specs.SettingsAndUnitTable.{POINT, is}
-use Rattle.steps.specs.Sights.{stands}
+use mathlib.Core.Path.{sym, ◌∙◌}
+use native.Mathlib.Omega.{arith}
+use Rattle.rules.proofs.Laws.Texts.{sees_here, sees_end}
 use Rattle.steps.specs.Bytes.{point_byte}
 use Rattle.steps.proofs.number.is_point.Goals as goal
 
+pub returns-then-text-place : goal.returns-then-text-place
+returns-then-text-place c = sym (sees_end _ _ _ c.if-text-place.true)
+
 pub returns : goal.returns
-returns c = c.eq.ensures ∙ stands (is POINT) _ _ _ _ c.get.ensures.lookup.3 (point_byte _ (omega (arith, c.type_inv.text c.args.place)))
+returns c = sym (sees_here _ _ _ c.if-text-place.false ∙ point_byte _ (omega (arith, c.shared_slice_known-1.given c.args.place)))
