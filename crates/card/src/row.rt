@@ -1,5 +1,5 @@
 // What is asked of one row, by itself and beside another's name.
-ghost use Rattle.std.specs.Prelude.{◌≡◌, true, false, ◌&&◌, ◌%◌, eqb, length, drop};
+ghost use Rattle.std.specs.Prelude.{◌≡◌, true, false, ◌%◌, eqb, length, drop};
 ghost use Rattle.rules.specs.Common.{all, between, same};
 ghost use Rattle.rules.specs.SettingsAndUnitTable.{LETTER, is, row_size, zeros_at, name, led_by_e};
 ghost use Rattle.settings.specs.Sets.{bytes_of, passes};
@@ -85,7 +85,7 @@ fn short_letters(row: &[u8]) -> bool
 
 // Whether a row is as nearly all are: a short name of letters, and fields that are right as they stand. One test that is enough for such a row, before
 // document 01's whole test.
-fn simple(row: &[u8]) -> bool
+pub fn simple(row: &[u8]) -> bool
     requires { length row.now ≡ row_size }
     ensures { result ≡ true → Simple row.now }
 {
@@ -169,7 +169,7 @@ fn ascii_seconds(row: &[u8]) -> bool
 }
 
 // What is asked of a row after its form.
-fn further_right(further: Further, row: &[u8]) -> bool
+pub fn further_right(further: Further, row: &[u8]) -> bool
     requires { (length row.now ≡ row_size) × (padded row.now ≡ true) }
     ensures { result ≡ asked_further further row.now }
 {
@@ -180,28 +180,17 @@ fn further_right(further: Further, row: &[u8]) -> bool
     }
 }
 
-// What is asked of a row's form. It stands apart and is called cold, so that the registers are left to the short test, which nearly all rows pass.
-#[cold]
-#[inline(never)]
-fn formed(set: AsciiSet, row: &[u8]) -> bool
-    requires { (length row.now ≡ row_size) × Letterless (bytes_of set) }
-    ensures { result ≡ (name_right set row.now && fields_right row.now) }
-{
-    name_right(set, row) && fields_right(row)
-}
-
-// The same, with the short test first.
-fn soon_formed(set: AsciiSet, row: &[u8]) -> bool
-    requires { (length row.now ≡ row_size) × Letterless (bytes_of set) }
-    ensures { result ≡ (name_right set row.now && fields_right row.now) }
-{
-    simple(row) || formed(set, row)
-}
-
 // All that is asked of a row by itself; what is left is that no earlier row has its name.
 pub fn row_alone(rule: RowRule, row: &[u8]) -> bool
     requires { (length row.now ≡ row_size) × Letterless (bytes_of rule.set) }
     ensures { result ≡ alone rule row.now }
 {
-    soon_formed(rule.set, row) && further_right(rule.further, row)
+    let set = rule.set;
+    if !name_right(set, row) {
+        return false;
+    }
+    if !fields_right(row) {
+        return false;
+    }
+    further_right(rule.further, row)
 }

@@ -51,10 +51,10 @@ pub fn read_total_indexed<'a>(
     match indexed_check(settings, hall, hall_index, line, line_index, numerals) {
         Err(cause) => refusal(cause),
         Ok(()) => {
-            let card = AcceptedCard::with_indexes(
+            let accepted = AcceptedCard::with_indexes(
                 settings, hall, hall_index, line, line_index, numerals,
             );
-            read_total_checked(&card, text)
+            read_total_checked(&accepted, text)
         }
     }
 }
@@ -75,10 +75,10 @@ pub fn shifted_total_indexed<'a>(
     match indexed_check(settings, hall, hall_index, line, line_index, numerals) {
         Err(cause) => kept(total, cause),
         Ok(()) => {
-            let card = AcceptedCard::with_indexes(
+            let checked = AcceptedCard::with_indexes(
                 settings, hall, hall_index, line, line_index, numerals,
             );
-            shifted_total_checked(total, &card, text)
+            shifted_total_checked(total, &checked, text)
         }
     }
 }
