@@ -99,20 +99,31 @@ fn none_held(set: AsciiSet, bytes: &[u8]) -> bool
     bytes.iter().all(|b| !holds(set, *b))
 }
 
-// Whether the set holds none of these bytes. It holds no letter, so that eight of them are asked one by one only where one of them is none.
-fn part_accepted(set: AsciiSet, part: &[u8]) -> bool
-    requires { Letterless (bytes_of set) }
-    ensures { result ≡ all (passes (bytes_of set) false) part.now }
+// Whether the set holds none of eight bytes. It holds no letter, so that it is asked only where one of them is none.
+fn word_accepted(set: AsciiSet, word: &[u8]) -> bool
+    requires { (length word.now ≡ 8) × Letterless (bytes_of set) }
+    ensures { result ≡ all (passes (bytes_of set) false) word.now }
 {
-    part.len() == WORD && letter_marks(part, 0) == HIGH_BITS || none_held(set, part)
+    if letter_marks(word, 0) == HIGH_BITS {
+        return true;
+    }
+    none_held(set, word)
 }
 
-// Whether the set holds none of the name's bytes, eight at a time.
+// Whether the set holds none of the name's bytes, eight at a time. A loop, and no chain of chunks, of which the last may have fewer: each would be asked for its
+// size.
 fn name_accepted(set: AsciiSet, name: &[u8]) -> bool
     requires { Letterless (bytes_of set) }
     ensures { result ≡ all (passes (bytes_of set) false) name.now }
 {
-    name.chunks(WORD).all(|part| part_accepted(set, part))
+    let mut rest = name;
+    while rest.len() >= WORD {
+        if !word_accepted(set, &rest[..WORD]) {
+            return false;
+        }
+        rest = &rest[WORD..];
+    }
+    none_held(set, rest)
 }
 
 // A name in its room that the set holds no byte of.
