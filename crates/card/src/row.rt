@@ -1,7 +1,7 @@
 // What is asked of one row, by itself and beside another's name.
-ghost use Rattle.std.specs.Prelude.{◌≡◌, true, false, ◌%◌, eqb, length, drop};
+ghost use Rattle.std.specs.Prelude.{◌≡◌, true, false, ◌+◌, ◌-◌, ◌%◌, eqb, length, take, drop};
 ghost use Rattle.rules.specs.Common.{all, between, same};
-ghost use Rattle.rules.specs.SettingsAndUnitTable.{LETTER, is, row_size, zeros_at, name, led_by_e};
+ghost use Rattle.rules.specs.SettingsAndUnitTable.{LETTER, is, row_size, kind_at, zeros_at, name, led_by_e};
 ghost use Rattle.settings.specs.Sets.{bytes_of, passes};
 ghost use Rattle.rows.specs.Named.{padded};
 ghost use Rattle.card.specs.Fields.{Letterless, Simple, asked_further, name_right, fields_right, alone};
@@ -43,12 +43,19 @@ fn zeros(row: &[u8]) -> bool
     half_at(row, ZEROS_AT) == 0
 }
 
-// Whether these words are zero.
-fn zero_words(words: &[u8]) -> bool
-    requires { length words.now % 8 ≡ 0 }
-    ensures { result ≡ all (eqb 0) words.now }
+// Whether the words of the name's room are zero from this place on.
+fn zero_words(row: &[u8], from: usize) -> bool
+    requires { (length row.now ≡ row_size) × (from % 8 ≡ 1) }
+    ensures { result ≡ all (eqb 0) (take (kind_at - from) (drop from row.now)) }
 {
-    words.chunks_exact(WORD).all(|word| word_at(word, 0) == 0)
+    let mut at = from;
+    while at < KIND_AT {
+        if word_at(row, at) != 0 {
+            return false;
+        }
+        at += WORD;
+    }
+    true
 }
 
 // A name of 1 to 32 bytes, and zeros after it. What stands behind the name in the word that it ends in is asked at once, and then each word after it.
@@ -57,7 +64,10 @@ fn padded(row: &[u8]) -> bool
     ensures { result ≡ padded row.now }
 {
     let size = row[0];
-    if size < 1 || size > NAME_ROOM {
+    if size < 1 {
+        return false;
+    }
+    if size > NAME_ROOM {
         return false;
     }
     if size == NAME_ROOM {
@@ -65,7 +75,10 @@ fn padded(row: &[u8]) -> bool
     }
     let over = size % 8;
     let last = NAME_AT + (size - over) as usize;
-    word_at(row, last) >> (BYTE_BITS * over as u64) == 0 && zero_words(&row[last + WORD..KIND_AT])
+    if word_at(row, last) >> (BYTE_BITS * over as u64) != 0 {
+        return false;
+    }
+    zero_words(row, last + WORD)
 }
 
 // Whether a row has a name as nearly all have one: fewer than eight bytes, all of them letters, and zeros after it.
@@ -74,13 +87,20 @@ fn short_letters(row: &[u8]) -> bool
     ensures { result ≡ true → (padded row.now ≡ true) × (all (is LETTER) (name row.now) ≡ true) }
 {
     let size = row[0] as u64;
-    if size < 1 || size > 7 {
+    if size < 1 {
+        return false;
+    }
+    if size > 7 {
         return false;
     }
     let bits = BYTE_BITS * size;
-    word_at(row, NAME_AT) >> bits == 0
-        && letter_marks(row, NAME_AT) == HIGH_BITS >> (WORD_BITS - bits)
-        && zero_words(&row[SECOND_WORD_AT..KIND_AT])
+    if word_at(row, NAME_AT) >> bits != 0 {
+        return false;
+    }
+    if letter_marks(row, NAME_AT) != HIGH_BITS >> (WORD_BITS - bits) {
+        return false;
+    }
+    zero_words(row, SECOND_WORD_AT)
 }
 
 // Whether a row is as nearly all are: a short name of letters, and fields that are right as they stand. One test that is enough for such a row, before
