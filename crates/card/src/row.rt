@@ -116,7 +116,12 @@ pub fn simple(row: &[u8]) -> bool
 fn none_held(set: AsciiSet, bytes: &[u8]) -> bool
     ensures { result ≡ all (passes (bytes_of set) false) bytes.now }
 {
-    bytes.iter().all(|b| !holds(set, *b))
+    for i in 0..bytes.len() {
+        if holds(set, bytes[i]) {
+            return false;
+        }
+    }
+    true
 }
 
 // Whether the set holds none of eight bytes. It holds no letter, so that it is asked only where one of them is none.
