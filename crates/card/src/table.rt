@@ -100,21 +100,35 @@ fn further_rows(further: Further, table: &[u8], count: usize) -> usize
     count
 }
 
-// How many rows, from the first on, have all that is asked of a row by itself. The short test goes first, and is asked of no row behind one that fails it:
-// from there on document 01's whole test decides. Asked of each row, with the whole test behind it, it takes up to half as many instructions more where names
-// are long or not ASCII, and what is asked further in the same pass some more for all. Loops, since a chain of the library's takes more too.
-fn rows_alone(rule: RowRule, table: &[u8]) -> usize
-    requires { Letterless (bytes_of rule.set) }
+// How many rows, from the first on, have all that is asked of a row by itself, where so many are known to. It stands apart, so that the registers are left to
+// the short test, which nearly all rows pass.
+#[inline(never)]
+fn rows_alone_from(rule: RowRule, table: &[u8], known: usize) -> usize
+    requires letterless { Letterless (bytes_of rule.set) }
+    requires known { (known ≤ rows table.now) × Each (λ row. alone rule row ≡ true) table.now known }
     ensures { result ≡ first_bad (λ i. alone rule (row table.now i)) 0 (rows table.now) }
 {
     let count = table.len() / ROW_SIZE;
-    let soon = further_rows(rule.further, table, simple_rows(table));
-    for i in soon..count {
+    for i in known..count {
         if !row_alone(rule, row_at(table, i)) {
             return i;
         }
     }
     count
+}
+
+// The same. The short test goes first, and is asked of no row behind one that fails it: from there on document 01's whole test decides. Asked of each row, with
+// the whole test behind it, it takes up to half as many instructions more where names are long or not ASCII, and what is asked further in the same pass some
+// more for all. Loops, since a chain of the library's takes more too.
+fn rows_alone(rule: RowRule, table: &[u8]) -> usize
+    requires { Letterless (bytes_of rule.set) }
+    ensures { result ≡ first_bad (λ i. alone rule (row table.now i)) 0 (rows table.now) }
+{
+    let soon = further_rows(rule.further, table, simple_rows(table));
+    if soon == table.len() / ROW_SIZE {
+        return soon;
+    }
+    rows_alone_from(rule, table, soon)
 }
 
 // How many of them, from the first on, have a name that none before has. The first has one.
