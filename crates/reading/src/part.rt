@@ -18,7 +18,7 @@ use value::evaluation::evaluate;
 fn typed_part(card: &ReadyCard, text: &[u8], place: usize) -> Result<SummedPart, Refusal>
     ensures { result ≡ codes text.now (typed_part (meant card.now) text.now place) }
 {
-    let start = part_start(card, text, place)?;
+    let start = part_start(card.settings, text, place)?;
     unsigned_part(card, text, start)
 }
 

@@ -1,5 +1,5 @@
 // Digits of a text: where a run of them ends, and the number that they spell.
-ghost use Rattle.std.specs.Prelude.{◌≡◌, true, Bool, ℕ, ◌+◌, ◌*◌, ◌-◌, ◌≤◌, ◌<◌, ◌^◌, eqb, ltb, length, take, drop};
+ghost use Rattle.std.specs.Prelude.{◌≡◌, true, Bool, ℕ, ◌+◌, ◌*◌, ◌-◌, ◌≤◌, ◌<◌, ◌^◌, min, eqb, ltb, length, take, drop};
 ghost use Rattle.std.proofs.Math.Seq.{slice};
 ghost use Rattle.rules.specs.Common.{all, between, run};
 ghost use Rattle.rules.specs.SettingsAndUnitTable.{DIGIT, is};
@@ -41,6 +41,13 @@ const SURE: u64 = 1_000_000_000_000_000_000;
 
 // The byte `0`.
 const ZERO: u64 = 48;
+
+// A byte as a number, for crates that count with digits of their own.
+pub fn wide(byte: u8) -> u64
+    ensures { result ≡ byte }
+{
+    u64::from(byte)
+}
 
 // The place after the bytes from low to high that stand at the place and after it.
 fn past(text: &[u8], place: usize, low: u8, high: u8) -> usize
@@ -140,6 +147,19 @@ pub fn parse_digits(text: &[u8], place: usize) -> Span
         start: place,
         end: past_digits(text, place),
     }
+}
+
+// The place so many bytes into a span, and the span's end if it has fewer.
+pub fn place_within(start: usize, end: usize, count: usize) -> usize
+    ensures { result ≡ start + min count (end - start) }
+{
+    if end <= start {
+        return start;
+    }
+    if end - start < count {
+        return end;
+    }
+    start + count
 }
 
 // Whether a u64 holds a number with one more digit behind it. It is seen before the number is multiplied: the library's checked product asks for the
