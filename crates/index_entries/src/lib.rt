@@ -12,6 +12,8 @@ use reading::shift::{kept, shifted_total_checked};
 use rules::{Answer, Length, ShiftedTotal};
 use sorted::checked::indexed_check;
 
+// The card has a name of its own in each function, so that a must-fail edit can say which of them it turns.
+
 // One part of a text, from a place on.
 pub fn read_part_indexed<'a>(
     settings: &[u64; 25],
