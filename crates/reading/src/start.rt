@@ -5,6 +5,7 @@ ghost use Rattle.rules.specs.SettingsAsWords.{settings_of};
 ghost use Rattle.rules.specs.SettingsAndUnitTable.{settings_check};
 ghost use Rattle.reading.specs.Typed.{class_at, signed_start, part_start};
 
+use crate::ready::ReadyCard;
 use rules::Refusal;
 use steps::bytes::is_digit;
 use steps::sign::parse_number_sign;
@@ -54,6 +55,25 @@ pub fn part_start(settings: &[u64; 25], text: &[u8], place: usize) -> Result<Sta
     let class = class_at(text, place);
     match class {
         SIGN => signed_start(settings, text, place),
+        _ => Ok(Start {
+            negative: false,
+            class,
+            next: place,
+        }),
+    }
+}
+
+// The same under a card that is ready. Most parts start with no sign, and only where one does are the settings looked for: lent on before that is known they
+// take a register all through a part, and a reading takes some 3 % more. So it doesn't hand on to the one above.
+pub fn ready_start(card: &ReadyCard, text: &[u8], place: usize) -> Result<Start, Refusal>
+    ensures { result ≡ part_start (settings_of card.now.settings.now) text.now place }
+{
+    if text.len() <= place {
+        return Err(Refusal::Nothing(place));
+    }
+    let class = class_at(text, place);
+    match class {
+        SIGN => signed_start(card.settings, text, place),
         _ => Ok(Start {
             negative: false,
             class,
