@@ -1,7 +1,7 @@
 // What is asked of one row, by itself and beside another's name.
-ghost use Rattle.std.specs.Prelude.{◌≡◌, true, false, ◌&&◌, ◌%◌, eqb, length, drop};
+ghost use Rattle.std.specs.Prelude.{◌≡◌, true, false, ◌+◌, ◌-◌, ◌%◌, eqb, length, take, drop};
 ghost use Rattle.rules.specs.Common.{all, between, same};
-ghost use Rattle.rules.specs.SettingsAndUnitTable.{LETTER, is, row_size, zeros_at, name, led_by_e};
+ghost use Rattle.rules.specs.SettingsAndUnitTable.{LETTER, is, row_size, kind_at, zeros_at, name, led_by_e};
 ghost use Rattle.settings.specs.Sets.{bytes_of, passes};
 ghost use Rattle.rows.specs.Named.{padded};
 ghost use Rattle.card.specs.Fields.{Letterless, Simple, asked_further, name_right, fields_right, alone};
@@ -43,12 +43,19 @@ fn zeros(row: &[u8]) -> bool
     half_at(row, ZEROS_AT) == 0
 }
 
-// Whether these words are zero.
-fn zero_words(words: &[u8]) -> bool
-    requires { length words.now % 8 ≡ 0 }
-    ensures { result ≡ all (eqb 0) words.now }
+// Whether the words of the name's room are zero from this place on.
+fn zero_words(row: &[u8], from: usize) -> bool
+    requires { (length row.now ≡ row_size) × (from % 8 ≡ 1) }
+    ensures { result ≡ all (eqb 0) (take (kind_at - from) (drop from row.now)) }
 {
-    words.chunks_exact(WORD).all(|word| word_at(word, 0) == 0)
+    let mut at = from;
+    while at < KIND_AT {
+        if word_at(row, at) != 0 {
+            return false;
+        }
+        at += WORD;
+    }
+    true
 }
 
 // A name of 1 to 32 bytes, and zeros after it. What stands behind the name in the word that it ends in is asked at once, and then each word after it.
@@ -57,7 +64,10 @@ fn padded(row: &[u8]) -> bool
     ensures { result ≡ padded row.now }
 {
     let size = row[0];
-    if size < 1 || size > NAME_ROOM {
+    if size < 1 {
+        return false;
+    }
+    if size > NAME_ROOM {
         return false;
     }
     if size == NAME_ROOM {
@@ -65,7 +75,10 @@ fn padded(row: &[u8]) -> bool
     }
     let over = size % 8;
     let last = NAME_AT + (size - over) as usize;
-    word_at(row, last) >> (BYTE_BITS * over as u64) == 0 && zero_words(&row[last + WORD..KIND_AT])
+    if word_at(row, last) >> (BYTE_BITS * over as u64) != 0 {
+        return false;
+    }
+    zero_words(row, last + WORD)
 }
 
 // Whether a row has a name as nearly all have one: fewer than eight bytes, all of them letters, and zeros after it.
@@ -74,18 +87,25 @@ fn short_letters(row: &[u8]) -> bool
     ensures { result ≡ true → (padded row.now ≡ true) × (all (is LETTER) (name row.now) ≡ true) }
 {
     let size = row[0] as u64;
-    if size < 1 || size > 7 {
+    if size < 1 {
+        return false;
+    }
+    if size > 7 {
         return false;
     }
     let bits = BYTE_BITS * size;
-    word_at(row, NAME_AT) >> bits == 0
-        && letter_marks(row, NAME_AT) == HIGH_BITS >> (WORD_BITS - bits)
-        && zero_words(&row[SECOND_WORD_AT..KIND_AT])
+    if word_at(row, NAME_AT) >> bits != 0 {
+        return false;
+    }
+    if letter_marks(row, NAME_AT) != HIGH_BITS >> (WORD_BITS - bits) {
+        return false;
+    }
+    zero_words(row, SECOND_WORD_AT)
 }
 
 // Whether a row is as nearly all are: a short name of letters, and fields that are right as they stand. One test that is enough for such a row, before
 // document 01's whole test.
-fn simple(row: &[u8]) -> bool
+pub fn simple(row: &[u8]) -> bool
     requires { length row.now ≡ row_size }
     ensures { result ≡ true → Simple row.now }
 {
@@ -96,23 +116,39 @@ fn simple(row: &[u8]) -> bool
 fn none_held(set: AsciiSet, bytes: &[u8]) -> bool
     ensures { result ≡ all (passes (bytes_of set) false) bytes.now }
 {
-    bytes.iter().all(|b| !holds(set, *b))
+    for i in 0..bytes.len() {
+        if holds(set, bytes[i]) {
+            return false;
+        }
+    }
+    true
 }
 
-// Whether the set holds none of these bytes. It holds no letter, so that eight of them are asked one by one only where one of them is none.
-fn part_accepted(set: AsciiSet, part: &[u8]) -> bool
-    requires { Letterless (bytes_of set) }
-    ensures { result ≡ all (passes (bytes_of set) false) part.now }
+// Whether the set holds none of eight bytes. It holds no letter, so that it is asked only where one of them is none.
+fn word_accepted(set: AsciiSet, word: &[u8]) -> bool
+    requires { (length word.now ≡ 8) × Letterless (bytes_of set) }
+    ensures { result ≡ all (passes (bytes_of set) false) word.now }
 {
-    part.len() == WORD && letter_marks(part, 0) == HIGH_BITS || none_held(set, part)
+    if letter_marks(word, 0) == HIGH_BITS {
+        return true;
+    }
+    none_held(set, word)
 }
 
-// Whether the set holds none of the name's bytes, eight at a time.
+// Whether the set holds none of the name's bytes, eight at a time. A loop, and no chain of chunks, of which the last may have fewer: each would be asked for its
+// size.
 fn name_accepted(set: AsciiSet, name: &[u8]) -> bool
     requires { Letterless (bytes_of set) }
     ensures { result ≡ all (passes (bytes_of set) false) name.now }
 {
-    name.chunks(WORD).all(|part| part_accepted(set, part))
+    let mut rest = name;
+    while rest.len() >= WORD {
+        if !word_accepted(set, &rest[..WORD]) {
+            return false;
+        }
+        rest = &rest[WORD..];
+    }
+    none_held(set, rest)
 }
 
 // A name in its room that the set holds no byte of.
@@ -169,7 +205,7 @@ fn ascii_seconds(row: &[u8]) -> bool
 }
 
 // What is asked of a row after its form.
-fn further_right(further: Further, row: &[u8]) -> bool
+pub fn further_right(further: Further, row: &[u8]) -> bool
     requires { (length row.now ≡ row_size) × (padded row.now ≡ true) }
     ensures { result ≡ asked_further further row.now }
 {
@@ -180,28 +216,17 @@ fn further_right(further: Further, row: &[u8]) -> bool
     }
 }
 
-// What is asked of a row's form. It stands apart and is called cold, so that the registers are left to the short test, which nearly all rows pass.
-#[cold]
-#[inline(never)]
-fn formed(set: AsciiSet, row: &[u8]) -> bool
-    requires { (length row.now ≡ row_size) × Letterless (bytes_of set) }
-    ensures { result ≡ (name_right set row.now && fields_right row.now) }
-{
-    name_right(set, row) && fields_right(row)
-}
-
-// The same, with the short test first.
-fn soon_formed(set: AsciiSet, row: &[u8]) -> bool
-    requires { (length row.now ≡ row_size) × Letterless (bytes_of set) }
-    ensures { result ≡ (name_right set row.now && fields_right row.now) }
-{
-    simple(row) || formed(set, row)
-}
-
 // All that is asked of a row by itself; what is left is that no earlier row has its name.
 pub fn row_alone(rule: RowRule, row: &[u8]) -> bool
     requires { (length row.now ≡ row_size) × Letterless (bytes_of rule.set) }
     ensures { result ≡ alone rule row.now }
 {
-    soon_formed(rule.set, row) && further_right(rule.further, row)
+    let set = rule.set;
+    if !name_right(set, row) {
+        return false;
+    }
+    if !fields_right(row) {
+        return false;
+    }
+    further_right(rule.further, row)
 }

@@ -8,10 +8,10 @@ ghost use Rattle.rules.specs.SettingsAndUnitTable.{settings_check, rows, row, na
 ghost use Rattle.rules.specs.Laws.Lists.{Bytes};
 ghost use Rattle.settings.specs.Sets.{bytes_of};
 ghost use Rattle.rows.specs.Named.{padded};
-ghost use Rattle.card.specs.Fields.{Letterless, unnameable, Each, alone, ruled, tested, said, tabled};
+ghost use Rattle.card.specs.Fields.{Letterless, unnameable, asked_further, Simple, Each, alone, ruled, tested, said, tabled};
 ghost use Rattle.card.specs.Laws.Table.{first_bad};
 
-use crate::row::{Further, RowRule, row_alone, same_name};
+use crate::row::{Further, RowRule, further_right, row_alone, same_name, simple};
 use rows::fields::{ROW_SIZE, row_at};
 use rules::Refusal;
 use settings::check::settings_check;
@@ -71,15 +71,64 @@ fn e_may_lead(settings: &[u64; 25]) -> bool
     exponents(settings) || before_unit(settings) && !empty(inner_delimiters(settings))
 }
 
-// How many rows, from the first on, have all that is asked of a row by itself.
+// How many rows of a table, from the first on, are as nearly all are.
+fn simple_rows(table: &[u8]) -> usize
+    ensures { (result ≤ rows table.now) × Each Simple table.now result }
+{
+    let count = table.len() / ROW_SIZE;
+    for i in 0..count {
+        if !simple(row_at(table, i)) {
+            return i;
+        }
+    }
+    count
+}
+
+// How many of them, from the first on, have what is asked further: most often that is nothing.
+fn further_rows(further: Further, table: &[u8], count: usize) -> usize
+    requires { (count ≤ rows table.now) × Each Simple table.now count }
+    ensures { (result ≤ count) × Each (λ row. asked_further further row ≡ true) table.now result }
+{
+    if let Further::Nothing = further {
+        return count;
+    }
+    for i in 0..count {
+        if !further_right(further, row_at(table, i)) {
+            return i;
+        }
+    }
+    count
+}
+
+// How many rows, from the first on, have all that is asked of a row by itself, where so many are known to. It stands apart, so that the registers are left to
+// the short test, which nearly all rows pass.
+#[inline(never)]
+fn rows_alone_from(rule: RowRule, table: &[u8], known: usize) -> usize
+    requires letterless { Letterless (bytes_of rule.set) }
+    requires known { (known ≤ rows table.now) × Each (λ row. alone rule row ≡ true) table.now known }
+    ensures { result ≡ first_bad (λ i. alone rule (row table.now i)) 0 (rows table.now) }
+{
+    let count = table.len() / ROW_SIZE;
+    for i in known..count {
+        if !row_alone(rule, row_at(table, i)) {
+            return i;
+        }
+    }
+    count
+}
+
+// The same. The short test goes first, and is asked of no row behind one that fails it: from there on document 01's whole test decides. Asked of each row, with
+// the whole test behind it, it takes up to half as many instructions more where names are long or not ASCII, and what is asked further in the same pass some
+// more for all. Loops, since a chain of the library's takes more too.
 fn rows_alone(rule: RowRule, table: &[u8]) -> usize
     requires { Letterless (bytes_of rule.set) }
     ensures { result ≡ first_bad (λ i. alone rule (row table.now i)) 0 (rows table.now) }
 {
-    table
-        .chunks_exact(ROW_SIZE)
-        .take_while(|row| row_alone(rule, row))
-        .count()
+    let soon = further_rows(rule.further, table, simple_rows(table));
+    if soon == table.len() / ROW_SIZE {
+        return soon;
+    }
+    rows_alone_from(rule, table, soon)
 }
 
 // How many of them, from the first on, have a name that none before has. The first has one.
@@ -87,9 +136,12 @@ fn rows_apart(table: &[u8], count: usize) -> usize
     requires { (count ≤ rows table.now) × Each (λ row. padded row ≡ true) table.now count }
     ensures { result ≡ first_bad (λ i. not (named table.now (name (row table.now i)) i)) 0 count }
 {
-    (1..count)
-        .find(|i| named_before(table, *i))
-        .unwrap_or(count)
+    for i in 1..count {
+        if named_before(table, i) {
+            return i;
+        }
+    }
+    count
 }
 
 // The first row that is not accepted, or how many rows there are. The names are asked last, of the rows that are right by themselves: that takes fewer

@@ -12,6 +12,8 @@ use reading::shift::{kept, shifted_total_checked};
 use rules::{Answer, Length, ShiftedTotal};
 use sorted::checked::indexed_check;
 
+// The card has a name of its own in each function, so that a must-fail edit can say which of them it turns.
+
 // One part of a text, from a place on.
 pub fn read_part_indexed<'a>(
     settings: &[u64; 25],
@@ -51,10 +53,10 @@ pub fn read_total_indexed<'a>(
     match indexed_check(settings, hall, hall_index, line, line_index, numerals) {
         Err(cause) => refusal(cause),
         Ok(()) => {
-            let card = AcceptedCard::with_indexes(
+            let accepted = AcceptedCard::with_indexes(
                 settings, hall, hall_index, line, line_index, numerals,
             );
-            read_total_checked(&card, text)
+            read_total_checked(&accepted, text)
         }
     }
 }
@@ -75,10 +77,10 @@ pub fn shifted_total_indexed<'a>(
     match indexed_check(settings, hall, hall_index, line, line_index, numerals) {
         Err(cause) => kept(total, cause),
         Ok(()) => {
-            let card = AcceptedCard::with_indexes(
+            let checked = AcceptedCard::with_indexes(
                 settings, hall, hall_index, line, line_index, numerals,
             );
-            shifted_total_checked(total, &card, text)
+            shifted_total_checked(total, &checked, text)
         }
     }
 }

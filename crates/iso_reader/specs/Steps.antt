@@ -100,6 +100,9 @@ run_ends test text place = ap (starts test) (sym (drop-drop (front test (drop pl
 
 -- ---- the pieces of a number
 
+pub sees_byte : (text : List ℕ) (place b : ℕ) → place < length text → eqb (get_or text place 0) b ≡ sees (eqb b) text place
+sees_byte text place b h = eqb_sym (get_or text place 0) b ∙ sym (sees_here (eqb b) text place h)
+
 pub sees_mark : (text : List ℕ) (place : ℕ) → sees is_mark text place ≡ (sees (eqb 46) text place || sees (eqb 44) text place)
 unfolding is_mark sees starts
 sees_mark text place = go (drop place text)

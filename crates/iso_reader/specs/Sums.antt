@@ -1,5 +1,5 @@
 -- Components summed up as they are read: what is due after one is what was due with it. Assumes nothing.
-use Rattle.std.specs.Prelude.{◌≡◌, ◌||◌, ◌⊎◌, ℕ, suc, ◌+◌, ◌≤◌, ◌<◌, length, get_or, drop, Option, Some}
+use Rattle.std.specs.Prelude.{◌≡◌, ◌||◌, ◌⊎◌, ℕ, suc, ◌+◌, ◌*◌, ◌^◌, ◌≤◌, ◌<◌, length, get_or, drop, Option, Some}
 use Rattle.std.proofs.Math.Path.{refl, sym, ap}
 use Rattle.std.proofs.Common.{◌∙◌, inl, inr, add-one, arith, drop_of_length-le, drop-cons}
 use Rattle.std.proofs.Math.Bool.{true, false, not}
@@ -16,7 +16,7 @@ use Rattle.rules.proofs.Laws.Outcomes.{bind_got, bind_refused}
 use Rattle.rules.proofs.Laws.Tests.{eqb_sym}
 use Rattle.rules.proofs.Laws.Texts.{sees_in, sees_here}
 use Rattle.rules.specs.Evaluation.{spelled}
-use Rattle.iso.specs.IsoTimings.{Component, Stand, DAYS, ANY, start, date, wanted, unit, closed, none, closes, decimals, may_come, nanoseconds_of, after_letter, step, on, may_end, read_from, components, held}
+use Rattle.iso.specs.IsoTimings.{Component, Stand, DAYS, ANY, start, date, wanted, unit, closed, none, closes, decimals, may_come, seconds_of, nanoseconds_of, after_letter, step, on, may_end, read_from, components, held}
 use Rattle.iso.proofs.Laws.Runs.{goes_on}
 use Rattle.iso.proofs.Laws.Letters.{came_date, came_below}
 use Rattle.iso.proofs.Laws.OneComponent.{open_kind}
@@ -28,6 +28,7 @@ use Rattle.iso_reader.specs.declared.counted.Kind.{Kind}
 use Rattle.iso_reader.specs.Kinds.{kind_number}
 use Rattle.iso_reader.specs.Steps.{component_of, component_then}
 use Rattle.iso_reader.specs.Due.{due, worth}
+use Rattle.iso_reader.specs.Tenths.{tenths}
 
 -- ---- what comes of components that are read: their length; with seconds so far; with so many nanoseconds more
 
@@ -41,6 +42,9 @@ abbrev pub due_then : Outcome (List Component) → Option ℕ → ℕ → Outcom
 due_then read total n = read >>= λ cs. due total n
 
 -- ---- a component
+
+pub next_within : {a b : ℕ} → a < b → a + 1 ≤ b
+next_within h = omega arith
 
 no_bytes : (xs : List ℕ) → length xs < 1 → xs ≡ []
 no_bytes [] h = refl
@@ -72,6 +76,10 @@ module _ (c : Counted) where
 
   pub fraction_none : length c.typed.fraction.now < 1 → 0 ≡ fraction_worth comp
   fraction_none h = sym (fraction_empty (no_bytes c.typed.fraction.now h))
+
+  pub fraction_some : tenths (seconds_of (kind_number c.kind) * 10 ^ 9) (drop 1 c.typed.fraction.now) ≡ fraction_worth comp
+  unfolding fraction_worth decimals tenths
+  fraction_some = refl
 
   -- ---- what is due with it
 

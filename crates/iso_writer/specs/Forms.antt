@@ -18,7 +18,7 @@ use Rattle.rules.specs.WriterAndShiftTotal.{decimals, whole_digits, fraction_dig
 use Rattle.iso.specs.IsoTimings.{component, letters, letter, clock_mark, spelling_after, spelling, iso_written, writing_iso, iso_buffer_after, iso_write_answer, iso_written_buffer}
 use Rattle.writing.specs.Digits.{decimals_length}
 use Rattle.writing.specs.Forms.{fraction_size, fraction_size_most, behind_point, behind_length, behind_is}
-use Rattle.writing.specs.Laid.{laid, laid_then, laid_on, laid_byte}
+use Rattle.writing.specs.Laid.{laid, laid_then, laid_on, laid_byte, laid_length}
 use Rattle.iso_writer.specs.Components.{shown, if_shown, chosen, hours_shown, minutes_shown, seconds_shown, one_shown, components_shown}
 use Rattle.writing.specs.declared.digits.Decimal.{Decimal}
 use Rattle.iso_writer.specs.declared.part.Part.{Part}
@@ -53,6 +53,26 @@ part_length (Some p) = simp (length-append, decimals_length, behind_length) (ome
 pub part_most : (o : Option Part) → part_size o ≤ 31
 part_most None = omega arith
 part_most (Some p) = omega (arith, p.small.0, fraction_size_most p.decimals.count p.small.1)
+
+-- laid over a buffer with room for it, it changes no length
+pub part_kept :
+    (o : Option Part) (buffer after : List ℕ) (place : ℕ)
+    → after ≡ laid buffer place (part_bytes o)
+    → place + part_size o ≤ length buffer
+    → length after ≡ length buffer
+part_kept o buffer after place e room = ap length e ∙ laid_length buffer place (part_bytes o) (omega (arith, part_length o))
+
+pub left_size : 0 ≡ part_size None
+left_size = refl
+
+pub left_bytes : [] ≡ part_bytes None
+left_bytes = refl
+
+pub shown_size : (p : Part) → p.whole.count + fraction_size p.decimals.count + 1 ≡ part_size (Some p)
+shown_size p = refl
+
+pub shown_bytes : (p : Part) → decimals p.whole.count p.whole.number ++ behind_point p.decimals ++ p.letter ∷ [] ≡ part_bytes (Some p)
+shown_bytes p = refl
 
 -- the digits, behind them the decimals, and behind them the letter
 pub part_laid :

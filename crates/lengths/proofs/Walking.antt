@@ -19,7 +19,7 @@ Walked x y position i sum = sum + crosswise (drop i x) y (position + 1 - i) ≡ 
 
 module _ (x y : List ℕ) (position : ℕ) where
   -- the walk may begin with the first piece of x, or behind pieces that would meet none of y,
-  walk_start : (i : ℕ) → (i ≡ 0) ⊎ (length y + i ≤ position + 1) → Walked x y position i 0
+  pub walk_start : (i : ℕ) → (i ≡ 0) ⊎ (length y + i ≤ position + 1) → Walked x y position i 0
   unfolding Walked column
   walk_start i (inl e) = zero-add _ ∙ rw (e, sub-zero, add-one)
   walk_start i (inr behind) =
@@ -35,7 +35,7 @@ module _ (x y : List ℕ) (position : ℕ) where
       rw (next, add-one, add_assoc) (rw (here, drop-cons x i 0 h) at w)
 
   -- and ends where either has no more
-  walk_end : (i sum : ℕ) → (length x ≤ i) ⊎ (position + 1 ≤ i) → Walked x y position i sum → sum ≡ column x y position
+  pub walk_end : (i sum : ℕ) → (length x ≤ i) ⊎ (position + 1 ≤ i) → Walked x y position i sum → sum ≡ column x y position
   unfolding Walked crosswise
   walk_end i sum (inl h) w = sym (add-zero sum) ∙ (rw (drop_of_length-le x h) at w)
   walk_end i sum (inr h) w =

@@ -18,13 +18,14 @@ const HALLS_TABLE: u8 = 1;
 
 const LINES_TABLE: u8 = 2;
 
-// The two unit tables and the index beside each; an empty index means the search row by row.
+// The two unit tables and the index beside each; an empty index means the search row by row. A row that is found lives as long as the tables, whatever becomes of
+// the indexes.
 #[derive(Clone, Copy)]
-pub struct UnitTables<'a> {
+pub struct UnitTables<'a, 'b> {
     pub hall: &'a [u8],
-    pub hall_index: &'a [u8],
+    pub hall_index: &'b [u8],
     pub line: &'a [u8],
-    pub line_index: &'a [u8],
+    pub line_index: &'b [u8],
     pub ghost searchable: { ∥ Searchable hall.now hall_index.now × Searchable line.now line_index.now ∥₁ },
 }
 
@@ -46,7 +47,7 @@ enum Held {
     InHall(usize),
 }
 
-impl<'a> UnitTables<'a> {
+impl<'a, 'b> UnitTables<'a, 'b> {
     ghost use Rattle.lookup.specs.Holding.{holder};
 
     // Both tables row by row. The line's is searched for a number and the hall's for a row: with one way for both the compiler is left with fewer

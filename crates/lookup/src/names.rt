@@ -1,10 +1,12 @@
-// The first word of a name, and a row's name held against one by words.
+// Names held against each other: a row's by words, two stretches byte for byte.
 ghost use Rattle.std.specs.Prelude.{◌≡◌, true, length, take};
 ghost use Rattle.rules.specs.Common.{same};
 ghost use Rattle.rules.specs.SettingsAndUnitTable.{row_size, name, low_first};
 ghost use Rattle.rows.specs.Named.{padded};
+ghost use Rattle.index.specs.TheSortedIndex.{order, before};
 
 use rows::fields::{NAME_AT, SECOND_WORD_AT};
+use std::cmp::Ordering;
 use words::{BYTE_BITS, WORD, with_byte, word_at};
 
 // The first eight bytes of a name as a number, or as many as it has.
@@ -38,4 +40,37 @@ pub fn has_name(row: &[u8], wanted: &[u8], first: u64) -> bool
     }
     let end = NAME_AT + size;
     row[SECOND_WORD_AT..end] == wanted[WORD..]
+}
+
+// How two names stand to each other. The first byte that differs decides; if none does, the shorter comes first. A loop of its own: the library's order of
+// slices takes nearly half as many instructions more for an index that is made or held against the true order.
+pub fn order(a: &[u8], b: &[u8]) -> Ordering
+    ensures { result ≡ order a.now b.now }
+{
+    for i in 0..a.len() {
+        if b.len() <= i {
+            return Ordering::Greater;
+        }
+        if a[i] < b[i] {
+            return Ordering::Less;
+        }
+        if b[i] < a[i] {
+            return Ordering::Greater;
+        }
+    }
+    if a.len() < b.len() {
+        return Ordering::Less;
+    }
+    Ordering::Equal
+}
+
+// Whether a name comes before another.
+pub fn before(a: &[u8], b: &[u8]) -> bool
+    ensures { result ≡ before a.now b.now }
+{
+    match order(a, b) {
+        Ordering::Less => true,
+        Ordering::Equal => false,
+        Ordering::Greater => false,
+    }
 }

@@ -1,6 +1,6 @@
 -- Parts of a line as the code has them, by where each starts and ends: which of them are zeros, and what they come to, one laid behind another.
 -- Assumes nothing.
-use Rattle.std.specs.Prelude.{◌≡◌, refl, Bool, true, ◌&&◌, List, ◌++◌, ℕ, ◌+◌, ◌*◌, ◌-◌, ◌≤◌, eqb, length, take, drop, replicate}
+use Rattle.std.specs.Prelude.{◌≡◌, refl, Bool, true, ◌&&◌, List, [], ◌∷◌, ◌++◌, ℕ, ◌+◌, ◌*◌, ◌-◌, ◌≤◌, ◌<◌, eqb, length, take, drop, set, replicate}
 use borrow.Rule.Slice.PartMut.{put_mid}
 use Rattle.std.proofs.Math.Seq.{drop-drop}
 use Rattle.std.proofs.Common.{sym, ap, ◌∙◌, arith, append_assoc, length-append, length-drop, take_all, length-take-le}
@@ -12,7 +12,7 @@ use Rattle.rules.specs.SettingsAndUnitTable.{zeros_at_in}
 use Rattle.rules.proofs.Laws.Tests.{between_to}
 use Rattle.stored.specs.Lines.{line_size_in, line_accepted_in}
 use Rattle.stored.specs.Laws.{line_long}
-use Rattle.writing.specs.Laid.{laid, laid_then}
+use Rattle.writing.specs.Laid.{laid, laid_then, laid_byte}
 use Rattle.moves.specs.NamesLongerThanSixteenBytes.{line_stands}
 use Rattle.moves.specs.Laws.Digits.{zero_digit, told}
 use Rattle.moves.proofs.Laws.Digits.{stands_by_zeros, moved_digits}
@@ -42,6 +42,10 @@ zeros_decide room line name_end room_end end good inside named roomed ended =
     rw (after, named, four, last) (stands_by_zeros room line good inside)
 
 -- ---- bytes laid over a target
+
+-- a byte more
+pub laid_turn : (before target bytes more : List ℕ) (at i b : ℕ) → target ≡ laid before at bytes → length bytes ≡ i → more ≡ bytes ++ b ∷ [] → at + i < length before → set target (at + i) b ≡ laid before at more
+laid_turn before target bytes more at i b so_far long one h = rw (so_far, one) (laid_byte before at (at + i) bytes b (ap (λ n. at + n) (sym long)) h)
 
 -- a part of a target, written anew
 pub part_laid : (a k : ℕ) (target part bytes : List ℕ) → part ≡ bytes → k ≡ length bytes → put_mid a k target part ≡ laid target a bytes

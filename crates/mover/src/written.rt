@@ -8,11 +8,14 @@ ghost use Rattle.moves.specs.Laws.Moves.{moved_pieces, AllMove};
 
 use crate::form::{Room, ZERO_DIGIT, digits_up_to, line_at, name_size};
 
+// Byte by byte: the library's copy calls the C library's `memmove`, which a board may not have.
 fn copy(part: &[u8], target: &mut [u8], at: usize)
     requires { at + length part.now ≤ length target.old }
     ensures { target.new ≡ laid target.old at part.now }
 {
-    target[at..at + part.len()].copy_from_slice(part);
+    for i in 0..part.len() {
+        target[at + i] = part[i];
+    }
 }
 
 fn put_zeros(target: &mut [u8], at: usize, count: usize)

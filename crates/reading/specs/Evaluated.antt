@@ -30,7 +30,7 @@ Asked text d number = Spans text d.whole d.fract × Counts number (digits_of tex
 abbrev one_got : Bool → Outcome Multiplier → Outcome DurationRepr
 one_got negative m = m >>= λ m. got (one negative m)
 
-coded_asked : (text : List ℕ) (d : Repr) (next : ℕ) → PartSpans text d → {repr : DurationRepr} → (coded text d next).repr ≡ got repr → Asked text repr (coded text d next).number
+pub coded_asked : (text : List ℕ) (d : Repr) (next : ℕ) → PartSpans text d → {repr : DurationRepr} → (coded text d next).repr ≡ got repr → Asked text repr (coded text d next).number
 unfolding ◌>>=◌
 coded_asked text (Typed d) next spans {repr = repr} e = let same : d ≡ repr = cc in rw (← same) (spans, typed refl)
 coded_asked text (Spoken d) next spans {repr = repr} e = go (spoken_product d) e
@@ -39,7 +39,7 @@ coded_asked text (Spoken d) next spans {repr = repr} e = go (spoken_product d) e
     go (got m) e = let same : one d.negative m ≡ repr = cc in rw (← same) (no_digits text, spoken (digits_none text 0) refl)
     go (refused cause) e = absurd (not_got cause e)
 
-coded_out : (text : List ℕ) (d : Repr) (next : ℕ) {cause : Refusal} → (coded text d next).repr ≡ refused cause → refused cause ≡ evaluated text d
+pub coded_out : (text : List ℕ) (d : Repr) (next : ℕ) {cause : Refusal} → (coded text d next).repr ≡ refused cause → refused cause ≡ evaluated text d
 unfolding evaluated evaluate_spoken spoken_product product ◌>>=◌
 coded_out text (Typed d) next {cause = cause} e = absurd (not_got cause (sym e))
 coded_out text (Spoken d) next {cause = cause} e = go (spoken_multiplier d) e
@@ -48,7 +48,7 @@ coded_out text (Spoken d) next {cause = cause} e = go (spoken_multiplier d) e
     go (got m) e = absurd (not_got cause (sym e))
     go (refused first) e = let same : cause ≡ first = cc in ap refused same
 
-coded_in : (text : List ℕ) (d : Repr) (next : ℕ) {repr : DurationRepr} → (coded text d next).repr ≡ got repr → evaluated text d ≡ got (evaluate_counted text repr (coded text d next).number)
+pub coded_in : (text : List ℕ) (d : Repr) (next : ℕ) {repr : DurationRepr} → (coded text d next).repr ≡ got repr → evaluated text d ≡ got (evaluate_counted text repr (coded text d next).number)
 unfolding evaluated evaluate_spoken spoken_product product ◌>>=◌
 coded_in text (Typed d) next {repr = repr} e = let same : d ≡ repr = cc in rw (← same) (ap got (sym (evaluate_summed text d refl)))
 coded_in text (Spoken d) next {repr = repr} e = go (spoken_multiplier d) e

@@ -1,5 +1,6 @@
 -- Laws of the shift total: what adding comes to, in the order of its refusals, and what is then handed back and held. Assumes nothing.
-use Rattle.std.specs.Prelude.{◌≡◌, refl, true, false, List, ℕ, leb, length}
+use Rattle.std.specs.Prelude.{◌≡◌, refl, true, false, List, ℕ, ◌≤◌, ◌<◌, leb, length}
+use borrow.Author.Tests.{le-leb, lt-leb}
 use Rattle.rules.specs.declared.Length.{Length}
 use Rattle.rules.specs.declared.Refusal.{Refusal}
 use Rattle.rules.specs.declared.Refusal.TheVariants.{TextTooLong, Malformed}
@@ -33,6 +34,20 @@ module _ (so_far : Length) (card : Card) (text : List ℕ) where
     pub malformed_refused : well_formed so_far ≡ false → refused Malformed ≡ add_total so_far card text
     unfolding add_total unless ◌>>◌
     malformed_refused e = rw (good, e)
+
+    module _ (proper : well_formed so_far ≡ true) where
+      pub long_refused : longest_text < length text → add_total so_far card text ≡ refused TextTooLong
+      unfolding add_total unless ◌>>◌
+      long_refused h = rw (good, proper, lt-leb (length text) longest_text h)
+
+      module _ (short : length text ≤ longest_text) where
+        pub total_refused : {cause : Refusal} → total card text ≡ refused cause → add_total so_far card text ≡ refused cause
+        unfolding add_total shifting unless ◌>>◌ ◌>>=◌
+        total_refused e = rw (good, proper, le-leb (length text) longest_text short, e)
+
+        pub total_added : {l : Length} → total card text ≡ got l → add_total so_far card text ≡ got (sum so_far l)
+        unfolding add_total shifting unless ◌>>◌ ◌>>=◌
+        total_added e = rw (good, proper, le-leb (length text) longest_text short, e)
 
     -- a text that is too long is refused as where its total is read
     pub total_shifted : well_formed so_far ≡ true → add_total so_far card text ≡ (read_total card text >>= λ l. got (sum so_far l))

@@ -7,7 +7,7 @@ ghost use Rattle.reading.specs.Coded.{codes};
 ghost use Rattle.reading.specs.Typed.{typed_part};
 
 use crate::ready::ReadyCard;
-use crate::start::part_start;
+use crate::start::ready_start;
 use crate::typed::{SummedPart, unsigned_part};
 use rules::{Length, Reading, Refusal};
 use settings::fields::negatives;
@@ -18,7 +18,7 @@ use value::evaluation::evaluate;
 fn typed_part(card: &ReadyCard, text: &[u8], place: usize) -> Result<SummedPart, Refusal>
     ensures { result ≡ codes text.now (typed_part (meant card.now) text.now place) }
 {
-    let start = part_start(card, text, place)?;
+    let start = ready_start(card, text, place)?;
     unsigned_part(card, text, start)
 }
 

@@ -17,7 +17,7 @@ use steps::unit::stops;
 #[derive(Clone, Copy)]
 pub struct ReadyCard<'a> {
     pub settings: &'a [u64; 25],
-    pub units: UnitTables<'a>,
+    pub units: UnitTables<'a, 'a>,
     pub numerals: &'a [u8],
     pub stops: AsciiSet,
     pub ghost settings_accepted: { settings_check (settings_of settings.now) ≡ got tt },

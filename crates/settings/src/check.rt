@@ -21,10 +21,8 @@ fn conjunction_accepted(c: Conjunction) -> bool
     if size < 1 || size > 8 {
         return false;
     }
-    c.letters
-        .to_le_bytes()
+    c.letters.to_le_bytes()[..size as usize]
         .iter()
-        .take(size as usize)
         .all(|letter| letter.is_ascii_alphabetic())
 }
 

@@ -71,12 +71,14 @@ fn set_at(settings: &[u64; 25], at: usize) -> ByteSet
     }
 }
 
+#[tactic(auto, unfolding(rules::specs::SettingsAsWords::settings_of, rules::specs::SettingsAsWords::set_of))]
 pub fn inner(settings: &[u64; 25]) -> ByteSet
     ensures { result ≡ (settings_of settings.now).inner }
 {
     set_at(settings, INNER_AT)
 }
 
+#[tactic(auto, unfolding(rules::specs::SettingsAsWords::settings_of, rules::specs::SettingsAsWords::set_of))]
 pub fn outer(settings: &[u64; 25]) -> ByteSet
     ensures { result ≡ (settings_of settings.now).outer }
 {

@@ -6,5 +6,6 @@ pub mod Checks
 pub mod Sifting
 pub mod Making
 pub mod Replacing
+pub mod PuttingRows
 pub mod Allowed
 pub mod Indexed

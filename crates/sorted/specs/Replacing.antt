@@ -1,9 +1,9 @@
 -- A row replaced: the table's other rows stay, the new one may come in or not, and the index is changed with it. Assumes nothing.
-use Rattle.std.specs.Prelude.{◌≡◌, Bool, List, [], ◌∷◌, ◌++◌, ◌≢◌, eqb, ltb, length}
+use Rattle.std.specs.Prelude.{◌≡◌, Bool, List, [], ◌∷◌, ◌++◌, ◌≢◌, eqb, ltb, length, set}
 use Rattle.std.proofs.Math.Path.{refl, ap}
-use Rattle.std.proofs.Common.{sym, ◌∙◌, ⊎_elim, arith, length-drop, length-append, ext_get_or, eqb-true, eq-eqb, ltb-true, ltb-false}
+use Rattle.std.proofs.Common.{sym, ◌∙◌, ⊎_elim, add-one, arith, length-set, length-drop, length-append, get_or-set_same, get_or-set_other, ext_get_or, eqb-true, eq-eqb, ltb-true, ltb-false}
 use Rattle.std.proofs.Math.Bool.{true, false, false≢true}
-use Prim.Native.Nat.{ℕ, suc, ◌+◌, ◌*◌, ◌-◌, ◌/◌, ◌%◌, ◌<◌}
+use Prim.Native.Nat.{ℕ, suc, ◌+◌, ◌*◌, ◌-◌, ◌/◌, ◌%◌, ◌≤◌, ◌<◌}
 use Rattle.std.proofs.Math.ListN.{get_or, take, drop, length-take, get_or-append}
 use Rattle.std.proofs.Math.Seq.{get_or-take, get_or-drop, get_or-append-add, take_all, drop-drop}
 use Rattle.std.specs.List.{remove}
@@ -322,6 +322,49 @@ module _
     sunk own {index_then} s =
         right_only (with_row table i new) own index_then
         (rising_right (with_row table i new) index_then (s.long ∙ m.long ∙ right.long ∙ sym (with_rows table i new below sized)) s.rising)
+
+-- ---- an entry on its way to the end
+
+pub record Moving (index : List ℕ) (at : ℕ) (now : List ℕ) (k : ℕ) : Type 0 where
+  pub long : length now ≡ length index
+  pub from : at ≤ k
+  pub within : k < length index
+  pub passed : (j : ℕ) → j < k → entry now j ≡ entry index (skip at j)
+  pub ahead : (j : ℕ) → k ≤ j → entry now j ≡ entry index j
+
+pub move_starts : (index : List ℕ) (at : ℕ) → at < length index → Moving index at index at
+move_starts index at within = record {
+  long = refl;
+  from = omega arith;
+  within = within;
+  passed = λ j less. ⊎_elim (λ p. ap (entry index) (sym p.1)) (λ p. absurd (omega arith)) (skipped at j);
+  ahead = λ j more. refl;
+}
+
+module _ {index : List ℕ} {at : ℕ} {now : List ℕ} {k : ℕ} (m : Moving index at now k) where
+  pub move_next : k + 1 < length index → Moving index at (set now k (entry now (k + 1))) (k + 1)
+  move_next less = record {
+    long = length-set now k (entry now (k + 1)) ∙ m.long;
+    from = omega (arith, m.from);
+    within = less;
+    passed = λ j under. moved j under (eqb j k) refl;
+    ahead = λ j more. get_or-set_other now k j (entry now (k + 1)) 0 (λ e. omega arith) ∙ m.ahead j (omega arith);
+  }
+    where
+      moved : (j : ℕ) → j < k + 1 → (t : Bool) → eqb j k ≡ t → entry (set now k (entry now (k + 1))) j ≡ entry index (skip at j)
+      moved j under true e =
+          let is : j ≡ k = eqb-true j k e in
+          let next : skip at k ≡ k + 1 = ⊎_elim (λ p. absurd (omega (arith, m.from))) (λ p. p.1 ∙ sym (add-one k)) (skipped at k) in
+          rw (is, next) (get_or-set_same now k (entry now (k + 1)) 0 (omega (arith, m.long, m.within)) ∙ m.ahead (k + 1) (omega arith))
+      moved j under false e =
+          get_or-set_other now k j (entry now (k + 1)) 0 (eqb-false j k e) ∙ m.passed j (omega (arith, eqb-false j k e))
+
+  pub move_ends : length index - 1 ≤ k → Moved index at (set now (length index - 1) (entry index at))
+  move_ends all = record {
+    long = length-set now (length index - 1) (entry index at) ∙ m.long;
+    others = λ j less. get_or-set_other now (length index - 1) j (entry index at) 0 (λ e. omega arith) ∙ m.passed j (omega arith);
+    last = get_or-set_same now (length index - 1) (entry index at) 0 (omega (arith, m.long, m.within));
+  }
 
 -- ---- an entry taken out and put behind all others
 

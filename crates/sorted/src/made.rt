@@ -5,6 +5,7 @@ ghost use Rattle.index.specs.TheSortedIndex.{index_of};
 ghost use Rattle.index.specs.Laws.Right.{Own};
 ghost use Rattle.sorted.specs.Sifting.{Sifting, Sifted};
 
+use lookup::names::before;
 use rows::fields::{name_of, row_at};
 
 // The entry at this place sinks until the name before it comes first. All other names rise, and those behind it come after its own.
@@ -14,7 +15,7 @@ pub fn sift_down(table: &[u8], index: &mut [u8], at: usize)
 {
     let wanted = name_of(row_at(table, index[at] as usize));
     for below in (0..at).rev() {
-        if wanted >= name_of(row_at(table, index[below] as usize)) {
+        if !before(wanted, name_of(row_at(table, index[below] as usize))) {
             return;
         }
         index.swap(below + 1, below);

@@ -6,7 +6,7 @@ ghost use Rattle.rules.specs.SettingsAndUnitTable.{settings_check, row_size, row
 ghost use Rattle.rows.specs.Named.{padded};
 ghost use Rattle.index.specs.TheSortedIndex.{with_row, may_replace, index_of};
 ghost use Rattle.index.specs.Laws.Right.{Own, Right};
-ghost use Rattle.sorted.specs.Replacing.{Elsewhere, NotElsewhere, Stands};
+ghost use Rattle.sorted.specs.Replacing.{Elsewhere, NotElsewhere, Stands, Moved};
 
 use crate::made::sift_down;
 use card::row::same_name;
@@ -63,7 +63,21 @@ fn place_of(index: &[u8], row: usize) -> usize
         .unwrap()
 }
 
-// The new row into the table, and its entry to its new place: behind all others, which stay in their order, and from where it sinks.
+// The entry at this place put behind all others, which stay in their order. A loop: the library's rotation calls the C library's `memmove`, which a board may
+// not have.
+fn move_last(index: &mut [u8], at: usize)
+    requires { at < length index.old }
+    ensures { Moved index.old at index.new }
+{
+    let own = index[at];
+    let last = index.len() - 1;
+    for k in at..last {
+        index[k] = index[k + 1];
+    }
+    index[last] = own;
+}
+
+// The new row into the table, and its entry to its new place: behind all others, from where it sinks.
 pub fn put_in(table: &mut [u8], index: &mut [u8], i: usize, new: &[u8])
     requires i_bound { (i < rows table.old) × (length new.now ≡ row_size) }
     requires right { Right table.old index.old × Own (with_row table.old i new.now) }
@@ -72,7 +86,7 @@ pub fn put_in(table: &mut [u8], index: &mut [u8], i: usize, new: &[u8])
 {
     put_row(table, i, new);
     let place = place_of(index, i);
-    index[place..].rotate_left(1);
+    move_last(index, place);
     let last = index.len() - 1;
     sift_down(table, index, last);
 }

@@ -6,6 +6,7 @@ ghost use Rattle.card.specs.Laws.Table.{first_bad};
 ghost use Rattle.index.specs.TheSortedIndex.{before, names_before, entry_right, index_check};
 ghost use Rattle.sorted.specs.Found.{told};
 
+use lookup::names::before;
 use rows::fields::{ROW_SIZE, name_of, row_at};
 
 // Whether a row's name comes before this one.
@@ -13,7 +14,7 @@ fn row_before(table: &[u8], i: usize, wanted: &[u8]) -> bool
     requires { i < rows table.now }
     ensures { result ≡ before (name (row table.now i)) wanted.now }
 {
-    name_of(row_at(table, i)) < wanted
+    before(name_of(row_at(table, i)), wanted)
 }
 
 // How many rows have a name before this one.

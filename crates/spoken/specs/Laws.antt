@@ -31,6 +31,15 @@ leave a b x y = omega arith
 -- ---- one product
 
 module _ (m n : Multiplier) where
+  -- a product in range is handed on with its powers taken off each other, and one out of range is refused
+  pub product_in : in_range (times m n) ≡ true → product (multiplied m n) ≡ got (net (times m n))
+  unfolding multiplied product unless ◌>>◌
+  product_in e = rw e
+
+  pub product_out : in_range (times m n) ≡ false → product (multiplied m n) ≡ refused OutOfRange
+  unfolding multiplied product unless ◌>>◌
+  product_out e = rw e
+
   in_range_net : in_range (times (net m) n) ≡ in_range (times m n)
   unfolding in_range times net
   in_range_net = rw (as_far m.up m.down n.up n.down 32767, as_far m.down m.up n.down n.up 32768)

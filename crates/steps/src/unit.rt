@@ -130,7 +130,12 @@ pub fn unit_stretch(stops: AsciiSet, text: &[u8], place: usize) -> Stretch
 }
 
 // The row that has the stretch as its name. A number often has no unit, and then no row is asked.
-fn find_unit<'a>(units: &UnitTables<'a>, text: &[u8], place: usize, stretch: Stretch) -> &'a [u8]
+fn find_unit<'a>(
+    units: &UnitTables<'a, '_>,
+    text: &[u8],
+    place: usize,
+    stretch: Stretch,
+) -> &'a [u8]
     requires readable { Readable units.now.hall.now × Readable units.now.line.now }
     requires scanned { Scanned text.now place stretch }
     ensures { result.now ≡ find_row units.now.hall.now units.now.line.now (slice place stretch.end text.now) }

@@ -3,7 +3,7 @@
 use Rattle.std.specs.Prelude.{◌≡◌, refl, Bool, true, false, ◌&&◌, ◌||◌, List, [], ◌∷◌, ◌++◌, ℕ, zero, suc, ◌+◌, ◌*◌, ◌-◌, ◌^◌, ◌≤◌, ◌<◌, ◌⊎◌, min, max, leb, ltb, eqb, length, get_or, take, drop}
 use Rattle.std.proofs.Common.{inl, inr, ap, ◌∙◌, add_assoc, add-zero, zero-add, suc-add, add-suc, mul_assoc, zero-mul, add-mul, le_refl, le_trans, lt_of_lt_of_le, add-one, arith, le-leb, leb-true, leb-false, lt-ltb, le-ltb, ltb-true, ltb-false, eqb-true, lit<, length-take, length-drop, take-append-drop, drop_of_length-le, drop-cons, pow-add, length-take-le, drop-drop}
 use Rattle.std.proofs.Math.Path.{sym}
-use Rattle.std.proofs.Math.Nat.{pow-succ', one-le-pow, pow-le-pow_right, min-eq_left, sub-zero, zero-sub, suc-sub-suc}
+use Rattle.std.proofs.Math.Nat.{pow-succ', one-le-pow, pow-le-pow_right, min-eq_left, zero-min, min-zero, suc-min-suc, sub-zero, zero-sub, suc-sub-suc}
 use Rattle.std.proofs.lemmas.Bool.{eqb-false}
 use Rattle.std.proofs.Math.Seq.{slice, slice_empty, slice-cons, take-nil, drop-nil}
 use Rattle.rules.specs.Common.{when◌then◌else◌, between, all, front, run}
@@ -202,8 +202,17 @@ slice_sized start end text = go (leb start end) refl
         let none : end - start ≡ 0 = omega (arith, leb-false start end e) in
         slice_none start end text (omega (arith, leb-false start end e)) ∙ sym (ap (λ n. take n (drop start text)) none)
 
--- behind so many bytes of a span the others stand; the cut is the span's end if it has fewer
+take_min : (m n : ℕ) (xs : List ℕ) → take m (take n xs) ≡ take (min m n) xs
+take_min zero n xs = rw (zero-min n)
+take_min (suc m) zero xs = rw (min-zero (suc m))
+take_min (suc m) (suc n) [] = rw (suc-min-suc m n)
+take_min (suc m) (suc n) (x ∷ xs) = rw (suc-min-suc m n, take_min m n xs)
+
+-- they part at the cut, which is the span's end if it has fewer
 module _ (start end count : ℕ) (text : List ℕ) {cut : ℕ} (at : cut ≡ start + min count (end - start)) where
+  pub slice_before : take count (slice start end text) ≡ slice start cut text
+  slice_before = rw (at, slice_sized start end text, take_min count (end - start) (drop start text)) (sized start (min count (end - start)) text)
+
   pub slice_after : drop count (slice start end text) ≡ slice cut end text
   slice_after = rw at (drop-drop count start (take end text) ∙ go (leb count (end - start)) refl)
     where
@@ -216,8 +225,29 @@ module _ (start end count : ℕ) (text : List ℕ) {cut : ℕ} (at : cut ≡ sta
           slice_none (start + count) end text (omega arith) ∙ sym (slice_none (start + min count (end - start)) end text (omega arith))
 
   -- what passes in the span passes in either part
+  pub passes_before : (test : ℕ → Bool) → all test (slice start end text) ≡ true → all test (slice start cut text) ≡ true
+  passes_before test e = rw (← slice_before) (all_take test count (slice start end text) e)
+
   pub passes_after : (test : ℕ → Bool) → all test (slice start end text) ≡ true → all test (slice cut end text) ≡ true
   passes_after test e = rw (← slice_after) (all_drop test count (slice start end text) e)
+
+-- the cut is not beyond the span, and of the count those bytes are left that the span lacks
+module _ (start end count : ℕ) {cut : ℕ} (at : cut ≡ start + min count (end - start)) where
+  pub cut_within : start ≤ end → cut ≤ end
+  cut_within h = omega arith
+
+  -- also where the span ends before it starts, if a place from the start on lies before the cut
+  pub cut_inside : {place : ℕ} → start ≤ place → place < cut → cut ≤ end
+  cut_inside h k = omega arith
+
+  pub cut_after : start ≤ cut
+  cut_after = omega arith
+
+  pub cut_count : cut - start ≤ count
+  cut_count = omega arith
+
+  pub cut_left : count - (cut - start) ≡ count - (end - start)
+  cut_left = omega arith
 
 -- the bytes of a run pass
 front_passes : (test : ℕ → Bool) (rest : List ℕ) → all test (take (front test rest) rest) ≡ true
@@ -270,6 +300,9 @@ module _ {ds : List ℕ} {so_far number index : ℕ} (u : Unread ds so_far numbe
 
     pub unread_grows : number * 10 + (get_or ds index 0 - 48) ≤ spelled so_far ds
     unread_grows = rw (← unread_more.spells) (spelled_grows (number * 10 + (get_or ds index 0 - 48)) (drop (index + 1) ds))
+
+    pub unread_passes : {byte bound : ℕ} → byte ≡ get_or ds index 0 → bound ≤ number * 10 + (byte - 48) → bound ≤ spelled so_far ds
+    unread_passes e b = le_trans (rw e at b) unread_grows
 
 pub spelled_append : (n : ℕ) (ds es : List ℕ) → spelled n (ds ++ es) ≡ spelled (spelled n ds) es
 unfolding spelled

@@ -33,7 +33,10 @@ counted number (d ∷ digits) = spelled 0 (d ∷ digits)
 unfoldable pub places : ℕ → List ℕ → ℕ
 places count digits = spelled 0 (take count digits) * 10 ^ (count - length digits)
 
--- how many digits stand after the typed point
+-- how many digits stand before the typed point, and after it
+abbrev pub whole_size : Span → ℕ
+whole_size whole = whole.end - whole.start
+
 abbrev pub fract_size : Span → ℕ
 fract_size fract = fract.end - fract.start
 

@@ -11,7 +11,7 @@ use borrow.Author.Tests.{ltb-true, ltb-false, lt-ltb, le-ltb, leb-true, leb-fals
 use Rattle.std.proofs.Math.Arith.{digits_div, digits_mod}
 use Rattle.std.proofs.Math.Dec.{leb}
 use Rattle.std.proofs.Math.ListN.{length, get_or, length-append, take-append-drop}
-use Rattle.std.proofs.Math.Seq.{slice, slice_empty, take-nil}
+use Rattle.std.proofs.Math.Seq.{slice, slice_empty, slice-cons, length-slice, take-nil}
 use Rattle.std.proofs.lemmas.List.{take-append-le, get_or_append_left}
 use Rattle.std.proofs.lemmas.List as lists
 use Rattle.rules.specs.declared.Span.{Span}
@@ -20,9 +20,9 @@ use Rattle.rules.specs.SettingsAndUnitTable.{DIGIT, is}
 use Rattle.rules.specs.Evaluation.{spelled, digits_of, attos}
 use Rattle.rules.proofs.Laws.Choices.{all_append}
 use Rattle.rules.proofs.Laws.Texts.{run_from, run_within}
-use Rattle.value.specs.Numbers.{as_word, summed, Counts, counted, places, fract_size, Spans, counted_attos, shifted_of, with_attos}
+use Rattle.value.specs.Numbers.{as_word, summed, Counts, counted, places, whole_size, fract_size, Spans, counted_attos, shifted_of, with_attos}
 use Rattle.value.specs.Sums.{digits_none}
-use Rattle.value.specs.Digits.{ten_pos, ten_grows, ten_sum, run_passes, run_after_zeros, zeros_first, all_take, all_drop, all_left, all_right, take_both, drop_both, slice_sized, spelled_append, spelled_from, spelled_grows, spelled_below, spelled_in_room, summed_many, counted_summed, counts_summed, counts_few}
+use Rattle.value.specs.Digits.{ten_pos, ten_grows, ten_sum, run_passes, run_after_zeros, zeros_first, all_take, all_drop, all_left, all_right, take_both, drop_both, slice_sized, slice_after, passes_after, cut_within, spelled_append, spelled_from, spelled_grows, spelled_below, spelled_in_room, summed_many, counted_summed, counts_summed, counts_few}
 
 -- ---- a number as a word of 64 bits
 
@@ -292,6 +292,59 @@ module _ {text : List ℕ} {whole : Span} {fract : Span} (s : Spans text whole f
   -- the number moved by powers of ten
   pub spans_attos : (number up down : ℕ) → attos (counted number (xs ++ ys)) (length ys) up down ≡ counted_attos number text whole fract up down
   spans_attos number up down = rw (spans_digits, spans_behind)
+
+-- the digits of each span
+abbrev whole_of : List ℕ → Span → List ℕ
+whole_of text whole = slice whole.start whole.end text
+
+abbrev fract_of : List ℕ → Span → List ℕ
+fract_of text fract = slice fract.start fract.end text
+
+module _ {text : List ℕ} {whole : Span} {fract : Span} (s : Spans text whole fract) where
+  whole_length : length (whole_of text whole) ≡ whole_size whole
+  whole_length = length-slice whole.start whole.end text s.whole_ends
+
+  fract_length : length (fract_of text fract) ≡ fract_size fract
+  fract_length = length-slice fract.start fract.end text s.fract_ends
+
+  digits_length : length (digits_of text whole fract) ≡ whole_size whole + fract_size fract
+  unfolding digits_of
+  digits_length = length-append (whole_of text whole) (fract_of text fract) ∙ ap₂ ◌+◌ whole_length fract_length
+
+  pub whole_digits : all (is DIGIT) (whole_of text whole) ≡ true
+  unfolding digits_of
+  whole_digits = all_left (is DIGIT) (whole_of text whole) (fract_of text fract) s.digits
+
+  pub fract_digits : all (is DIGIT) (fract_of text fract) ≡ true
+  unfolding digits_of
+  fract_digits = all_right (is DIGIT) (whole_of text whole) (fract_of text fract) s.digits
+
+  -- after the first k whole digits the others are a typed number, whose digits go on from those
+  module _ (k : ℕ) {cut : ℕ} (at : cut ≡ whole.start + min k (whole_size whole)) where
+    pub spans_rest : Spans text (record { start = cut; end = whole.end }) fract
+    unfolding digits_of
+    spans_rest = record {
+      whole_starts = cut_within whole.start whole.end k at s.whole_starts;
+      whole_ends = s.whole_ends;
+      fract_starts = s.fract_starts;
+      fract_ends = s.fract_ends;
+      digits = all_append (is DIGIT) _ _ (passes_after whole.start whole.end k text at (is DIGIT) whole_digits) fract_digits;
+    }
+
+    pub spelled_rest : {first : ℕ} → first ≡ spelled 0 (take k (whole_of text whole)) → spelled first (digits_of text (record { start = cut; end = whole.end }) fract) ≡ spelled 0 (digits_of text whole fract)
+    unfolding digits_of
+    spelled_rest e =
+        rw (e, ← (slice_after whole.start whole.end k text at), ← (spelled_append 0 (take k (whole_of text whole)) (drop k (whole_of text whole) ++ fract_of text fract)), ← (append_assoc (take k (whole_of text whole)) (drop k (whole_of text whole)) (fract_of text fract)), take-append-drop k (whole_of text whole))
+
+  -- the sum of many digits that start with no `0` is the first nineteen
+  pub sum_first : {number : ℕ} → number ≡ summed 0 (digits_of text whole fract) → 19 ≤ whole_size whole → (get_or text whole.start 0 ≡ 48 → ⊥) → number ≡ spelled 0 (take 19 (whole_of text whole))
+  unfolding digits_of
+  sum_first sum many some =
+      let size = whole_length in
+      let here : get_or (digits_of text whole fract) 0 0 ≡ get_or text whole.start 0 = rw (slice-cons whole.start whole.end text 0 (omega arith) s.whole_ends) in
+      sum
+      ∙ summed_many (digits_of text whole fract) s.digits (omega (arith, digits_length)) (λ e. some (sym here ∙ e))
+      ∙ rw (take-append-le 19 (whole_of text whole) (fract_of text fract) (omega arith))
 
 -- ---- what is read is a typed number
 

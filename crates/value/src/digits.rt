@@ -1,5 +1,5 @@
 // Digits of a text: where a run of them ends, and the number that they spell.
-ghost use Rattle.std.specs.Prelude.{◌≡◌, true, Bool, ℕ, ◌+◌, ◌*◌, ◌-◌, ◌≤◌, ◌<◌, ◌^◌, eqb, ltb, length, take, drop};
+ghost use Rattle.std.specs.Prelude.{◌≡◌, true, Bool, ℕ, ◌+◌, ◌*◌, ◌-◌, ◌≤◌, ◌<◌, ◌^◌, min, eqb, ltb, length, take, drop};
 ghost use Rattle.std.proofs.Math.Seq.{slice};
 ghost use Rattle.rules.specs.Common.{all, between, run};
 ghost use Rattle.rules.specs.SettingsAndUnitTable.{DIGIT, is};
@@ -41,6 +41,13 @@ const SURE: u64 = 1_000_000_000_000_000_000;
 
 // The byte `0`.
 const ZERO: u64 = 48;
+
+// A byte as a number, for crates that count with digits of their own.
+pub fn wide(byte: u8) -> u64
+    ensures { result ≡ byte }
+{
+    u64::from(byte)
+}
 
 // The place after the bytes from low to high that stand at the place and after it.
 fn past(text: &[u8], place: usize, low: u8, high: u8) -> usize
@@ -142,13 +149,33 @@ pub fn parse_digits(text: &[u8], place: usize) -> Span
     }
 }
 
+// The place so many bytes into a span, and the span's end if it has fewer.
+pub fn place_within(start: usize, end: usize, count: usize) -> usize
+    ensures { result ≡ start + min count (end - start) }
+{
+    if end <= start {
+        return start;
+    }
+    if end - start < count {
+        return end;
+    }
+    start + count
+}
+
 // Whether a u64 holds a number with one more digit behind it. It is seen before the number is multiplied: the library's checked product asks for the
-// half that is not kept too, and a board's multiplier may have 32 bits.
+// half that is not kept too, and a board's multiplier may have 32 bits. The tests stand one by one: as one expression all three are made for each digit, which
+// takes 75,004 instructions in the place of 46,354 for an ISO text of 4,093 zeros.
 fn takes_digit(number: u64, digit: u64) -> bool
     requires { digit ≤ 9 }
     ensures { result ≡ ltb (number * 10 + digit) (2 ^ 64) }
 {
-    number < MOST_TENS || number == MOST_TENS && digit <= LAST_DIGIT
+    if number < MOST_TENS {
+        return true;
+    }
+    if MOST_TENS < number {
+        return false;
+    }
+    digit <= LAST_DIGIT
 }
 
 // The digits after those that spelled so_far, if a u64 holds the number. A number only grows, so the first overflow decides.

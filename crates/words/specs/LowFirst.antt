@@ -13,6 +13,12 @@ unfolding low_first
 low_first_append [] ys = omega arith
 low_first_append (b ∷ xs) ys = rw (low_first_append xs ys, mul-add, pow-succ', mul_assoc, add_assoc)
 
+-- from a place on, the number of twice as many bytes is that of one half and that of the other
+pub low_first_twice : (l : List ℕ) (at k : ℕ) → at + k ≤ length l → low_first (take (k + k) (drop at l)) ≡ low_first (take k (drop at l)) + 256 ^ k * low_first (take k (drop (at + k) l))
+low_first_twice l at k h =
+    let full : length (take k (drop at l)) ≡ k = simp (length-take, length-drop) (omega arith) in
+    rw (take-add k k (drop at l), low_first_append (take k (drop at l)) (take k (drop k (drop at l))), full, drop-drop k at l)
+
 pub low_first_byte : (l : List ℕ) (at : ℕ) → at < length l → low_first (take 1 (drop at l)) ≡ get_or l at 0
 unfolding low_first
 low_first_byte l at h = rw (drop-cons l at 0 h) (omega arith)

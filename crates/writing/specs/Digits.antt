@@ -1,7 +1,7 @@
 -- Laws of decimal digits: without leading zeros, without trailing zeros, and put into a buffer one by one. Assumes nothing.
 use Rattle.std.specs.Prelude.{◌≡◌, refl, Bool, true, false, List, [], ◌∷◌, ◌++◌, ◌⊎◌, leb, eqb, length, set}
 use Rattle.std.proofs.Math.Path.{sym, ap}
-use Rattle.std.proofs.Common.{ap₂, ◌∙◌, append_assoc, inl, inr, ⊎_elim, zero-add, mul_comm, div-one, div-lt_iff_lt-mul, le-div_iff_mul-le, mod-eq_of_lt, lt_of_lt_of_le, le_of_suc-le-suc, not-suc-le-zero, ne_eqb, leb-true, leb-false, lit<, pow-add, take-append-drop}
+use Rattle.std.proofs.Common.{ap₂, ◌∙◌, append_assoc, inl, inr, ⊎_elim, zero-add, mul_comm, div-one, div-lt_iff_lt-mul, le-div_iff_mul-le, mod-eq_of_lt, lt_of_lt_of_le, le_of_suc-le-suc, not-suc-le-zero, ne_eqb, leb-true, leb-false, lit<, pow-add, length-append, length-take, length-drop, take-append-drop}
 use Prim.Native.Nat.{ℕ, zero, suc, ◌+◌, ◌*◌, ◌-◌, ◌/◌, ◌%◌, ◌^◌, ◌≤◌, ◌<◌}
 use Rattle.std.proofs.Math.Nat.{add-zero, sub-zero, div-eq_of_lt, div-div-eq-div-mul, one-le-pow, pow-le-pow_right, pow-succ'}
 use native.Mathlib.Omega.{arith}
@@ -106,6 +106,9 @@ counted_on x count rest n c d = (omega (arith, d.0), below, ⊎_elim one many d.
 
     many : 10 ^ (n - 1) ≤ rest → Leads x (count + n)
     many h = leads (n - 1) h (omega (arith, d.0))
+
+pub counted_none : (x : ℕ) → Counted x 0 x
+counted_none x = (sym (div-one x), inl refl)
 
 -- four digits more, where more than four are left
 pub counted_four : (x count rest : ℕ) → Counted x count rest → 10000 ≤ rest → Counted x (count + 4) (rest / 10000)
@@ -219,6 +222,9 @@ put_none before place count number =
     }
 
 module _ {before now : List ℕ} {place count number left rest : ℕ} (p : Put before place count number now left rest) where
+  pub put_length : place + count ≤ length before → length now ≡ length before
+  put_length h = ap length p.holds ∙ simp (length-append, length-take, length-drop, decimals_length) (omega (arith, p.few))
+
   pub put_more : 0 < left → place + count ≤ length before → Put before place count number (set now (place + (left - 1)) (48 + rest % 10)) (left - 1) (rest / 10)
   unfolding decimals
   put_more some h =

@@ -53,6 +53,10 @@ module _ (d : Decimal) where
   form_length sign whole = rw (length-append (decimals whole.count whole.number) (behind_point d), decimals_length whole.count whole.number, behind_length) (omega arith)
 
   module _ (none : d.count ≡ 0) where
+    pub no_fraction_size : 0 ≡ fraction_size d.count
+    unfolding fraction_size when◌then◌else◌
+    no_fraction_size = rw none
+
     pub no_fraction : (buffer : List ℕ) (point : ℕ) → buffer ≡ laid buffer point (behind_point d)
     unfolding behind_point when◌then◌else◌
     no_fraction buffer point = laid_nothing buffer point ∙ ap (laid buffer point) (rw none)

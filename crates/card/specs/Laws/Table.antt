@@ -43,6 +43,10 @@ module _ (table wanted : List ℕ) where
       i
       (omega arith)
 
+  pub named_not_yet : (n : ℕ) → same (name (row table n)) wanted ≡ false → named table wanted n ≡ false → named table wanted (n + 1) ≡ false
+  unfolding named_in
+  named_not_yet n other others = rw (add-one n, other) others
+
   -- any of them, in order
   pub any_earlier : (n : ℕ) → list_any (λ i. same (name (row table i)) wanted) (range_with_len 0 n) ≡ named table wanted n
   unfolding named_in
@@ -359,9 +363,39 @@ pub simple_formed : (set : AsciiSet) → Letterless (bytes_of set) → (r : List
 unfolding name_right name
 simple_formed set none r bytes simple = rw (simple.0, letters_outside (bytes_of set) none (name r) (bytes_part r (name_size r) 1 bytes) simple.1, simple.2)
 
+-- a row as nearly all are has all that is asked by itself, but what is asked further
+pub simple_alone :
+    (rule : RowRule)
+    → Letterless (bytes_of rule.set)
+    → (r : List ℕ) → Bytes r
+    → Simple r
+    → asked_further rule.further r ≡ true
+    → alone rule r ≡ true
+unfolding alone name_right name
+simple_alone rule none r bytes simple further =
+    rw (
+      simple.0,
+      letters_outside (bytes_of rule.set) none (name r) (bytes_part r (name_size r) 1 bytes) simple.1,
+      simple.2,
+      further,
+    )
+
 pub alone_padded : (rule : RowRule) (r : List ℕ) → alone rule r ≡ true → padded r ≡ true
 unfolding alone name_right
 alone_padded rule r good = and_left _ _ (and_left _ _ good)
+
+pub ruled_padded : (rule : RowRule) (table : List ℕ) (i : ℕ) → ruled rule table i ≡ true → padded (row table i) ≡ true
+unfolding ruled
+ruled_padded rule table i good = formed_padded _ _ table i (and_left _ _ good)
+
+-- a row that fails by itself fails either way
+pub fails_tested : (rule : RowRule) (against : Bool) (table : List ℕ) (i : ℕ) → alone rule (row table i) ≡ false → tested rule against table i ≡ false
+fails_tested rule true table i fails = rw (ruled_alone rule table i, fails)
+fails_tested rule false table i fails = fails
+
+pub tested_padded : (rule : RowRule) (against : Bool) (table : List ℕ) (i : ℕ) → tested rule against table i ≡ true → padded (row table i) ≡ true
+tested_padded rule true table i good = ruled_padded rule table i good
+tested_padded rule false table i good = alone_padded rule (row table i) good
 
 -- names outside the set of bytes that no name holds: a row of units
 pub unit_ruled :

@@ -6,6 +6,3 @@ use Rattle.entries.proofs.read_part.Goals as goal
 
 pub returns-in-Err : goal.returns-in-Err
 returns-in-Err c = c.refusal.ensures ∙ part_card _ _ _ (sym c.in-Err.ensures)
-
-pub returns-in-Ok : goal.returns-in-Ok
-returns-in-Ok c = c.read_part_checked.ensures ∙ ap (λ card. part_answer card c.args.text.now c.args.place) c.without_indexes-card.ensures

@@ -6,6 +6,3 @@ use Rattle.entries.proofs.read_total.Goals as goal
 
 pub returns-in-Err : goal.returns-in-Err
 returns-in-Err c = c.refusal.ensures ∙ total_card _ _ (sym c.in-Err.ensures)
-
-pub returns-in-Ok : goal.returns-in-Ok
-returns-in-Ok c = c.read_total_checked.ensures ∙ ap (λ card. total_answer card c.args.text.now) c.without_indexes-card.ensures

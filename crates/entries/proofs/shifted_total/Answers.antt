@@ -8,9 +8,3 @@ pub returns-in-Err : goal.returns-in-Err
 returns-in-Err c =
     let laws = kept _ _ _ (card_refuses _ _ _ (sym c.in-Err.ensures)) in
     (c.kept.ensures.0 ∙ laws.0, c.kept.ensures.1 ∙ laws.1)
-
-pub returns-in-Ok : goal.returns-in-Ok
-returns-in-Ok c = (
-  c.shifted_total_checked.ensures.0 ∙ ap (λ card. shift_answer c.args.total card c.args.text.now) c.without_indexes-card.ensures,
-  c.shifted_total_checked.ensures.1 ∙ ap (λ card. shifted_record c.args.total card c.args.text.now) c.without_indexes-card.ensures,
-)

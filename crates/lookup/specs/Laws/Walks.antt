@@ -10,6 +10,7 @@ use Rattle.std.proofs.lemmas.List.{take_at, drop_at}
 use Rattle.rules.specs.Common.{when◌then◌else◌, same}
 use Rattle.rules.specs.SettingsAndUnitTable.{row_size, rows, rows_in, row, row_in, name}
 use Rattle.rows.specs.Named.{padded, Padded, found_row, row_named}
+use Rattle.rows.specs.Laws.Rows.{length_row}
 use Rattle.index.specs.declared.Searched.{Searched}
 use Rattle.std.specs.declared.cmp.Ordering.TheVariants.{Less, Equal, Greater}
 use Rattle.index.specs.TheSortedIndex.{order, row_search_from, row_search, by_order, index_search}
@@ -45,14 +46,25 @@ module _ {table wanted : List ℕ} {at : ℕ} {rest : List ℕ} (w : Walking tab
       let done : rows table - at ≡ 0 = omega (arith, rest_long) in
       counted _ (omega arith) ∙ rw done at w.decides
 
+  -- a row is left
+  module _ (more : row_size ≤ length rest) where
+    pub walk_below : at < rows table
+    unfolding rows_in
+    walk_below = omega (arith, rest_long)
+
+    -- rows are counted by a number that a table's size has room for
+    pub walk_fits : at + 1 ≤ length table
+    unfolding rows_in
+    walk_fits = omega (arith, walk_below)
+
+    pub walk_long : length (take row_size rest) ≡ row_size
+    unfolding row_in
+    walk_long = ap (λ l. length (take row_size l)) w.further ∙ length_row table at walk_below
+
   -- a row and what is behind it
   module _ (here more : List ℕ) (parts : rest ≡ here ++ more) (sized : length here ≡ row_size) where
     long : row_size ≤ length rest
     long = rw (parts, length-append here more) (omega arith)
-
-    walk_below : at < rows table
-    unfolding rows_in
-    walk_below = omega (arith, rest_long, long)
 
     -- the row that is asked, the first of the rest
     pub walk_row : here ≡ row table at
@@ -60,7 +72,7 @@ module _ {table wanted : List ℕ} {at : ℕ} {rest : List ℕ} (w : Walking tab
     walk_row = sym (take_at here more row_size sized) ∙ ap (take row_size) (sym parts ∙ w.further)
 
     left : rows table - at ≡ suc (rows table - (at + 1))
-    left = omega (arith, walk_below)
+    left = omega (arith, walk_below long)
 
     -- what is asked of it is whether it has the name
     walk_asks : {b : Bool} → same (name here) wanted ≡ b → same (name (row table at)) wanted ≡ b
@@ -68,7 +80,7 @@ module _ {table wanted : List ℕ} {at : ℕ} {rest : List ℕ} (w : Walking tab
 
     -- which it may be asked: it is a row, with zeros after its name
     pub walk_padded : Padded table → (length here ≡ row_size) × (padded here ≡ true)
-    walk_padded rooms = (sized, rw walk_row (rooms at walk_below))
+    walk_padded rooms = (sized, rw walk_row (rooms at (walk_below long)))
 
     pub walk_finds : same (name here) wanted ≡ true → record { found = Some at; compared = at + 1 } ≡ row_search table wanted
     unfolding row_search_from when◌then◌else◌
@@ -80,7 +92,7 @@ module _ {table wanted : List ℕ} {at : ℕ} {rest : List ℕ} (w : Walking tab
         let places : row_size * at + row_size ≡ row_size * (at + 1) = omega arith in
         let behind : Searched = row_search_from table wanted (at + 1) (rows table - (at + 1)) in
         record {
-          few = omega (arith, walk_below);
+          few = omega (arith, walk_below long);
           further =
               sym (drop_at here more row_size sized)
               ∙ ap (drop row_size) (sym parts ∙ w.further)

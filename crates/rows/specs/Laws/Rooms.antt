@@ -84,6 +84,12 @@ word_shift (suc k) (b ∷ l) p =
     let rest : (b + 256 * low_first l) / 2 ^ 8 ≡ low_first l = omega (arith, p 0) in
     word_shift k l (λ i. p (suc i)) ∙ rw (eight_more, ← (shr-shr (b + 256 * low_first l) 8 (8 * k)), rest)
 
+-- so many bytes from a place on, of which the first eight are a word
+zeros_further : (l : List ℕ) (at n : ℕ) → all (eqb 0) (take (8 + n) (drop at l)) ≡ (eqb (word_of l at) 0 && all (eqb 0) (take n (drop (at + 8) l)))
+unfolding word_of
+zeros_further l at n =
+    rw (take-add 8 n (drop at l), all_both (eqb 0) (take 8 (drop at l)) (take n (drop 8 (drop at l))), zeros_number (take 8 (drop at l)), drop-drop 8 at l)
+
 -- ---- what stands behind a name
 
 module _ (r : List ℕ) (p : Bytes r) where
@@ -113,6 +119,20 @@ module _ (r : List ℕ) (p : Bytes r) where
         zeros_number (drop s (take 8 (drop at r))),
         word_shift s (take 8 (drop at r)) (bytes_part r 8 at p),
       )
+
+-- from a place in the room on: a word, and what stands behind it
+pub zeros_on : (r : List ℕ) (at : ℕ) → at + 8 ≤ name_at + name_room → all (eqb 0) (take (name_at + name_room - at) (drop at r)) ≡ (eqb (word_of r at) 0 && all (eqb 0) (take (name_at + name_room - (at + 8)) (drop (at + 8) r)))
+zeros_on r at h =
+    let m : ℕ = name_at + name_room - (at + 8) in
+    let counted : name_at + name_room - at ≡ 8 + m = omega arith in
+    rw counted (zeros_further r at m)
+
+-- behind it nothing of the room is left
+pub zeros_ended : (r : List ℕ) (at : ℕ) → name_at + name_room ≤ at → all (eqb 0) (take (name_at + name_room - at) (drop at r)) ≡ true
+unfolding all
+zeros_ended r at h =
+    let none : name_at + name_room - at ≡ 0 = omega arith in
+    rw none
 
 -- a name that fills its room
 pub zeros_none : (r : List ℕ) → name_size r ≡ name_room → all (eqb 0) (after_name r) ≡ true

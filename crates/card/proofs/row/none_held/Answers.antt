@@ -1,14 +1,30 @@
--- `card::row::none_held` meets its contract: the closure asks each byte what the definition asks. Assumes nothing.
-use Rattle.std.proofs.Common.{◌∙◌, false, rules, tests}
-use Rattle.std.proofs.lemmas.Iterator.{YieldsList-from_slice}
-use Rattle.std.proofs.lemmas.Iterator.Search.{all_from_yields_List}
-use Rattle.rows.proofs.Chains.{all_listed}
+-- `card::row::none_held` meets its contract: the bytes from `i` on decide what all of them do. Assumes nothing.
+use mathlib.Core.Path.{refl}
+use mathlib.Core.Bool.{false}
+use native.Mathlib.Omega.{arith}
+use Rattle.rules.proofs.Laws.Lists.{all_from, all_done}
 use Rattle.settings.specs.Sets.{bytes_of, passes}
 use Rattle.card.specs.Laws.Unnameable.{outside}
 use Rattle.card.proofs.row.none_held.Goals as goal
 
+pub returns-then-holds : goal.returns-then-holds
+returns-then-holds c =
+    let args = c.args in
+    let loop = c.loop-i in
+    rw (← loop.invariant.1, all_from (passes (bytes_of args.set) false) args.bytes.now loop.i 0 (omega arith), outside, ← c.holds.ensures, c.if-holds.true)
+
+pub loop-i-preserved : goal.loop-i-preserved
+loop-i-preserved c =
+    let args = c.args in
+    let loop = c.loop-i in
+    (omega arith, rw (← loop.invariant.1, all_from (passes (bytes_of args.set) false) args.bytes.now loop.i 0 (omega arith), outside, ← c.holds.ensures, c.if-holds.false))
+
 pub returns : goal.returns
-unfolding passes
 returns c =
-    let bytes = c.args.bytes.now in
-    all_from_yields_List (passes (bytes_of c.args.set) false) _ _ _ c.all.ensures.ran (YieldsList-from_slice bytes cc) (λ x b q k. search (rules, tests, outside)) ∙ all_listed (passes (bytes_of c.args.set) false) bytes
+    rw (
+      ← c.loop-i.invariant.1,
+      all_done (passes (bytes_of c.args.set) false) c.args.bytes.now c.loop-i.i (omega arith),
+    )
+
+pub loop-i-init : goal.loop-i-init
+loop-i-init c = (omega arith, refl)

@@ -12,15 +12,15 @@ use Rattle.rules.proofs.Laws.Tests.{between_in, between_below, between_above}
 use Rattle.rows.specs.Named.{padded}
 use Rattle.rows.specs.Laws.Rooms.{word_of, zeros_behind, zeros_none}
 use Rattle.card.proofs.row.padded.Goals as goal
-use Rattle.card.proofs.row.padded.Goals.{After-word_at, then-size-lt1-via-then-size-lt1, then-size-lt1-via-else-size-lt1+then-size-gt-NAME_ROOM}
+use Rattle.card.proofs.row.padded.Goals.{After-word_at}
 
 pub returns-then-size-lt1 : goal.returns-then-size-lt1
 unfolding padded name_size
-returns-then-size-lt1 c =
-    elim c.then-size-lt1.branch [
-      | then-size-lt1-via-then-size-lt1 w ↦ rw (between_below 1 32 _ w.if-size-lt1.true)
-      | then-size-lt1-via-else-size-lt1+then-size-gt-NAME_ROOM w ↦ rw (between_above 1 32 _ w.if-size-gt-NAME_ROOM.true)
-    ]
+returns-then-size-lt1 c = rw (between_below 1 32 _ c.if-size-lt1.true)
+
+pub returns-then-size-gt-NAME_ROOM : goal.returns-then-size-gt-NAME_ROOM
+unfolding padded name_size
+returns-then-size-gt-NAME_ROOM c = rw (between_above 1 32 _ c.if-size-gt-NAME_ROOM.true)
 
 pub returns-then-size-eq-NAME_ROOM : goal.returns-then-size-eq-NAME_ROOM
 unfolding padded name_size
@@ -44,10 +44,13 @@ behind c =
       c.word_at.ensures,
     )
 
-pub returns-then-word_at-over-eq0 : goal.returns-then-word_at-over-eq0
+pub returns-then-word_at-over-ne0 : goal.returns-then-word_at-over-ne0
 unfolding padded name_size word_of
-returns-then-word_at-over-eq0 c = rw (behind (goal.at.returns-then-word_at-over-eq0 c).After-word_at, eq-eqb _ _ c.if-word_at-over-eq0.true) c.zero_words.ensures
+returns-then-word_at-over-ne0 c = rw (behind (goal.at.returns-then-word_at-over-ne0 c).After-word_at, ne_eqb _ _ c.if-word_at-over-ne0.true)
 
-pub returns-else-word_at-over-eq0 : goal.returns-else-word_at-over-eq0
+pub returns : goal.returns
 unfolding padded name_size word_of
-returns-else-word_at-over-eq0 c = rw (behind (goal.at.returns-else-word_at-over-eq0 c).After-word_at, ne_eqb _ _ c.if-word_at-over-eq0.false)
+returns c = rw (behind (goal.at.returns c).After-word_at, eq-eqb _ _ c.if-word_at-over-ne0.false) c.zero_words.ensures
+
+pub zero_words-requires : goal.zero_words-requires
+zero_words-requires c = (c.requires, omega arith)

@@ -10,4 +10,4 @@ unfolding signed_start ◌>>=◌
 returns-in_err-signed c = search rules
 
 pub returns : goal.returns
-returns c = signed_got (settings_of c.args.card.now.settings.now) _ _ (sym c.in_ok-signed.ensures) c.class_at.ensures
+returns c = signed_got (settings_of c.args.settings.now) _ _ (sym c.in_ok-signed.ensures) c.class_at.ensures

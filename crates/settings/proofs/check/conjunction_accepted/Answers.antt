@@ -4,8 +4,7 @@ use Rattle.std.specs.Char.{is_ascii_alphabetic}
 use Rattle.std.specs.Int.{to_le_bytes, w64}
 use Rattle.std.specs.List.{list_all}
 use Rattle.std.proofs.lemmas.Bool.{lt-leb}
-use Rattle.std.proofs.lemmas.Iterator.{YieldsList-from_slice, YieldsList-from_take}
-use Rattle.std.proofs.lemmas.Iterator.Consumers.{YieldsList-at}
+use Rattle.std.proofs.lemmas.Iterator.{YieldsList-from_slice}
 use Rattle.std.proofs.lemmas.Iterator.Search.{all_from_yields_List}
 use Rattle.std.proofs.lemmas.List.Recursion.{same_from_clauses}
 use Rattle.rules.specs.Common.{all, between}
@@ -41,5 +40,5 @@ returns c =
     let few : part.size ≤ 8 = omega arith in
     rw (le-leb 1 part.size some, le-leb part.size 8 few)
     (all_from_yields_List is_ascii_alphabetic _ _ _ c.all.ensures.ran
-    (YieldsList-from_take part.size (YieldsList-at c.take.ensures.source (YieldsList-from_slice (to_le_bytes w64 part.letters) cc)) c.take.ensures.count) (λ x b q k. search (rules, tests))
+    (YieldsList-from_slice (take part.size (to_le_bytes w64 part.letters)) cc) (λ x b q k. search (rules, tests))
     ∙ letters part.size part.letters few)

@@ -12,10 +12,9 @@ use Rattle.rules.specs.SettingsAndUnitTable.{rows, row, name}
 use Rattle.rows.specs.Laws.Rows.{length_row}
 use Rattle.index.specs.TheSortedIndex.{before}
 use Rattle.index.specs.Laws.Right.{entry_name}
-use Rattle.lookup.specs.Laws.Names.{not_before_is}
 use Rattle.sorted.specs.Sifting.{Sifting, sift_stops, sift_swaps, swap_long, swap_own}
 use Rattle.sorted.proofs.made.sift_down.Goals as goal
-use Rattle.sorted.proofs.made.sift_down.Goals.{After-ge}
+use Rattle.sorted.proofs.made.sift_down.Goals.{After-before-in-loop-below}
 
 -- an entry is a row
 a_row : {table index : List ℕ} {at : ℕ} → Sifting table index at → (k : ℕ) → k < length index → get_or index k 0 < rows table
@@ -29,12 +28,12 @@ name_of-requires c = ap length c.row_at-in-loop-below.ensures ∙ length_row _ _
 
 -- whether the sinking name comes first
 asked :
-    (c : After-ge)
-    → c.ge.result ≡ not (before (entry_name c.args.table.now c.loop-below.index c.loop-below.below) (entry_name c.args.table.now c.loop-below.index (c.loop-below.below - 1)))
-asked c = not_before_is _ _ _ c.ge.ensures ∙ ap₂ (λ a b. not (before a b)) c.loop-below.invariant.1 (c.name_of.ensures ∙ ap name c.row_at-in-loop-below.ensures)
+    (c : After-before-in-loop-below)
+    → c.before-in-loop-below.result ≡ before (entry_name c.args.table.now c.loop-below.index c.loop-below.below) (entry_name c.args.table.now c.loop-below.index (c.loop-below.below - 1))
+asked c = c.before-in-loop-below.ensures ∙ ap₂ before c.loop-below.invariant.1 (c.name_of.ensures ∙ ap name c.row_at-in-loop-below.ensures)
 
-pub returns-then-ge : goal.returns-then-ge
-returns-then-ge c = record { long = c.loop-below.invariant.0; rising = sift_stops _ _ _ c.loop-below.invariant.2 (omega arith) c.requires.0 (not-true _ (sym (asked (goal.at.returns-then-ge c).After-ge) ∙ c.if-ge.true)) }
+pub returns-then-not-before : goal.returns-then-not-before
+returns-then-not-before c = record { long = c.loop-below.invariant.0; rising = sift_stops _ _ _ c.loop-below.invariant.2 (omega arith) c.requires.0 (sym (asked (goal.at.returns-then-not-before c).After-before-in-loop-below) ∙ not-true _ (ap not c.if-not-before.true)) }
 
 pub loop-below-preserved : goal.loop-below-preserved
 loop-below-preserved c =
@@ -47,5 +46,5 @@ loop-below-preserved c =
     rw after (
       swap_long _ index at s some ∙ long,
       wanted ∙ ap (λ n. name (row c.args.table.now n)) (sym (swap_own _ index at s some)),
-      sift_swaps _ index at s some (not-false _ (sym (asked (goal.at.loop-below-preserved c).After-ge) ∙ c.if-ge.false)),
+      sift_swaps _ index at s some (sym (asked (goal.at.loop-below-preserved c).After-before-in-loop-below) ∙ not-false _ (ap not c.if-not-before.false)),
     )
